@@ -1,0 +1,24 @@
+-- `is_valid_for` meets its contract: its two tests are the definition's two parts. Assumes nothing.
+use mathlib.Core.Path.{_≡_, sym, ap, _∙_}
+use Prim.Native.Nat.{ℕ}
+use borrow.Author.Needs.{needs}
+use borrow.Author.Tests.{not-true, not-false}
+use Rattle.circuit.specs.Sets.{member}
+use Rattle.circuit.specs.Codes.{kindNumber, validFor}
+use Rattle.circuit.proofs.LibraryGate.is_valid_for.Statement.{statement}
+use Rattle.circuit.proofs.LibraryGate.is_valid_for.Tie as tie
+
+member-is : (c : tie.After-contains) → c .contains .result ≡ member (c .before .before .args .basis .0) (kindNumber (c .before .before .args .self .0))
+member-is c = c .contains .ensures ∙ ap (λ (k : ℕ). member (c .before .before .args .basis .0) k) (c .before .kind .ensures)
+
+returns : tie.Need-returns
+unfolding validFor
+returns c = rw (sym (member-is (c .before)) ∙ not-true _ (c .if1 .taken))
+
+returns-2 : tie.Need-returns-2
+unfolding validFor
+returns-2 c = rw (sym (member-is (c .before .before)) ∙ not-false _ (c .before .if1 .left)) (c .is-valid .ensures)
+
+pub is-valid-for-spec : {M : Type 1} → statement M
+is-valid-for-spec =
+    tie.close (tie.spec (λ c κs. search needs) (λ c κs. search needs) returns (λ c κs. search needs) returns-2)

@@ -1,0 +1,30 @@
+-- `charge_of` meets its contract: the table CHARGE is the charge of each kind, which is computed over the whole table.
+-- Assumes nothing.
+use Prim.Native.Nat.{ℕ}
+use native.Mathlib.Omega.{arith}
+use mathlib.Core.Path.{refl, sym, ap}
+use mathlib.Core.List.{[], _∷_}
+use borrow.Author.Needs.{needs}
+use Rattle.circuit.specs.Kinds.{kindAt}
+use Rattle.circuit.specs.Charge.{kindCharge}
+use Rattle.ints.proofs.Tables.{at}
+use Rattle.circuit.proofs.ByNumber.{kind-past}
+use Rattle.circuit.proofs.charge_of.Statement.{statement}
+use Rattle.circuit.proofs.charge_of.Tie as tie
+
+returns : tie.Need-returns
+unfolding kindCharge
+returns c = sym (ap kindCharge (kind-past (c .before .args .kind) (c .if1 .taken)))
+
+mul-result : tie.Need-mul-result
+mul-result c = search needs
+
+array-read-result : tie.Need-array-read-result
+array-read-result c = search needs
+
+returns-2 : tie.Need-returns-2
+unfolding kindCharge kindAt
+returns-2 c = at (λ k. kindCharge (kindAt k)) (0 ∷ 0 ∷ 0 ∷ 0 ∷ 0 ∷ 1 ∷ 1 ∷ 0 ∷ 0 ∷ 0 ∷ 0 ∷ 0 ∷ []) refl (c .before .args .kind) (omega arith)
+
+pub charge-of-spec : {M : Type 1} → statement M
+charge-of-spec = tie.close (tie.spec returns mul-result array-read-result returns-2)

@@ -1,0 +1,29 @@
+-- `dual_kind` meets its contract: the table DUAL has the number of the kind that undoes each kind, which is computed over the whole table.
+-- Assumes nothing.
+use Prim.Native.Nat.{ℕ}
+use native.Mathlib.Omega.{arith}
+use mathlib.Core.Path.{refl, sym, ap}
+use mathlib.Core.List.{[], _∷_}
+use borrow.Author.Needs.{needs}
+use Rattle.circuit.specs.Kinds.{Kind, number, dual, kindAt}
+use Rattle.ints.proofs.Tables.{at}
+use Rattle.circuit.proofs.ByNumber.{kind-past}
+use Rattle.circuit.proofs.dual_kind.Statement.{statement}
+use Rattle.circuit.proofs.dual_kind.Tie as tie
+
+returns : tie.Need-returns
+unfolding number dual
+returns c = sym (ap (λ (k : Kind). number (dual k)) (kind-past (c .before .args .kind) (c .if1 .taken)))
+
+mul-result : tie.Need-mul-result
+mul-result c = search needs
+
+array-read-result : tie.Need-array-read-result
+array-read-result c = search needs
+
+returns-2 : tie.Need-returns-2
+unfolding number dual kindAt
+returns-2 c = at (λ k. number (dual (kindAt k))) (0 ∷ 1 ∷ 2 ∷ 4 ∷ 3 ∷ 6 ∷ 5 ∷ 7 ∷ 8 ∷ 9 ∷ 10 ∷ 11 ∷ []) refl (c .before .args .kind) (omega arith)
+
+pub dual-kind-spec : {M : Type 1} → statement M
+dual-kind-spec = tie.close (tie.spec returns mul-result array-read-result returns-2)

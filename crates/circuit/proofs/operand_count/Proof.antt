@@ -1,0 +1,29 @@
+-- `operand_count` meets its contract: the table ARITY is the arity of each kind, which is computed over the whole table.
+-- Assumes nothing.
+use Prim.Native.Nat.{ℕ}
+use native.Mathlib.Omega.{arith}
+use mathlib.Core.Path.{refl, sym, ap}
+use mathlib.Core.List.{[], _∷_}
+use borrow.Author.Needs.{needs}
+use Rattle.circuit.specs.Kinds.{arity, kindAt}
+use Rattle.ints.proofs.Tables.{at}
+use Rattle.circuit.proofs.ByNumber.{kind-past}
+use Rattle.circuit.proofs.operand_count.Statement.{statement}
+use Rattle.circuit.proofs.operand_count.Tie as tie
+
+returns : tie.Need-returns
+unfolding arity
+returns c = sym (ap arity (kind-past (c .before .args .kind) (c .if1 .taken)))
+
+mul-result : tie.Need-mul-result
+mul-result c = search needs
+
+array-read-result : tie.Need-array-read-result
+array-read-result c = search needs
+
+returns-2 : tie.Need-returns-2
+unfolding arity kindAt
+returns-2 c = at (λ k. arity (kindAt k)) (1 ∷ 1 ∷ 1 ∷ 1 ∷ 1 ∷ 1 ∷ 1 ∷ 0 ∷ 2 ∷ 2 ∷ 3 ∷ 3 ∷ []) refl (c .before .args .kind) (omega arith)
+
+pub operand-count-spec : {M : Type 1} → statement M
+operand-count-spec = tie.close (tie.spec returns mul-result array-read-result returns-2)

@@ -1,0 +1,29 @@
+-- `sorted_count` meets its contract: the table SORTED has the number of sorted operands of each kind, which is computed over the whole table.
+-- Assumes nothing.
+use Prim.Native.Nat.{ℕ}
+use native.Mathlib.Omega.{arith}
+use mathlib.Core.Path.{refl, sym, ap}
+use mathlib.Core.List.{[], _∷_}
+use borrow.Author.Needs.{needs}
+use Rattle.circuit.specs.Kinds.{sorted, kindAt}
+use Rattle.ints.proofs.Tables.{at}
+use Rattle.circuit.proofs.ByNumber.{kind-past}
+use Rattle.circuit.proofs.sorted_count.Statement.{statement}
+use Rattle.circuit.proofs.sorted_count.Tie as tie
+
+returns : tie.Need-returns
+unfolding sorted
+returns c = sym (ap sorted (kind-past (c .before .args .kind) (c .if1 .taken)))
+
+mul-result : tie.Need-mul-result
+mul-result c = search needs
+
+array-read-result : tie.Need-array-read-result
+array-read-result c = search needs
+
+returns-2 : tie.Need-returns-2
+unfolding sorted kindAt
+returns-2 c = at (λ k. sorted (kindAt k)) (0 ∷ 0 ∷ 0 ∷ 0 ∷ 0 ∷ 0 ∷ 0 ∷ 0 ∷ 0 ∷ 2 ∷ 2 ∷ 3 ∷ []) refl (c .before .args .kind) (omega arith)
+
+pub sorted-count-spec : {M : Type 1} → statement M
+sorted-count-spec = tie.close (tie.spec returns mul-result array-read-result returns-2)

@@ -1,0 +1,5 @@
+pub mod Kinds
+pub mod Sets
+pub mod Codes
+pub mod Pairs
+pub mod Charge

@@ -1,0 +1,78 @@
+-- What a caller reads off an answer of the ring: a value is exact and small, a refusal is a coefficient past the limit, and the zero test.
+-- Assumes nothing.
+use mathlib.Core.Path.{_≡_, refl, ap}
+use mathlib.Core.Bool.{Bool, true, false, _&&_}
+use Prim.Native.Nat.{ℕ}
+use native.Mathlib.Omega.{arith}
+use lib.IntN.{ℤ, pos, negsuc, natAbs}
+use borrow.Author.Tests.{leb-true, le-leb, eqb-true}
+use Rattle.cyclotomic.specs.declared.Checked.the-variants.{Value, TooLarge}
+use Rattle.cyclotomic.specs.Zomega.{Zω, mk, limit, zeroω, eqZ, isZero, within, fits, Small}
+use Rattle.cyclotomic.specs.Told.{entry, refused, doesNotFit, told, checked}
+use Rattle.ints.proofs.Bools.{clash, both-true}
+
+-- four tests that all pass
+both4 : (p q r s : Bool) → p && q && r && s ≡ true → (p ≡ true) × (q ≡ true) × (r ≡ true) × (s ≡ true)
+both4 p q r s h =
+    let abc = both-true (p && q && r) s h in
+    let ab = both-true (p && q) r (abc .0) in
+    let a = both-true p q (ab .0) in
+    (a .0, a .1, ab .1, abc .1)
+
+pub fits-small : (x : Zω) → fits x ≡ true → Small x
+unfolding fits
+fits-small x h =
+    let t = both4 (within (x .a)) (within (x .b)) (within (x .c)) (within (x .d)) h in
+    record {
+      a-small = leb-true (natAbs (x .a)) limit (t .0);
+      b-small = leb-true (natAbs (x .b)) limit (t .1);
+      c-small = leb-true (natAbs (x .c)) limit (t .2);
+      d-small = leb-true (natAbs (x .d)) limit (t .3);
+    }
+
+pub small-fits : (x : Zω) → Small x → fits x ≡ true
+unfolding fits
+small-fits x s =
+    let a = le-leb (natAbs (x .a)) limit (s .a-small) in
+    let b = le-leb (natAbs (x .b)) limit (s .b-small) in
+    let c = le-leb (natAbs (x .c)) limit (s .c-small) in
+    let d = le-leb (natAbs (x .d)) limit (s .d-small) in
+    λ i. a i && b i && c i && d i
+
+pub checked-fits : (x : Zω) → fits x ≡ true → checked x ≡ entry x
+unfolding checked
+checked-fits x h = rw h
+
+pub checked-not : (x : Zω) → fits x ≡ false → checked x ≡ refused doesNotFit
+unfolding checked
+checked-not x h = rw h
+
+-- the answer was a value: it is the exact one, and small
+pub value-is : (x v : Zω) → told (Value v) ≡ checked x → (v ≡ x) × Small x
+value-is x v e = by (fits x) refl
+  where
+    by : (b : Bool) → fits x ≡ b → (v ≡ x) × Small x
+    by true f = let g = checked-fits x f in (cc, fits-small x f)
+    by false f = let g = checked-not x f in let z : _≡_ {A = ℕ} 0 1 = cc in absurd (omega arith)
+
+-- the answer was a refusal: some coefficient is past the limit
+pub too-large : (x : Zω) → told TooLarge ≡ checked x → fits x ≡ false
+too-large x e = by (fits x) refl
+  where
+    by : (b : Bool) → fits x ≡ b → fits x ≡ false
+    by true f = let g = checked-fits x f in let z : _≡_ {A = ℕ} 0 1 = cc in absurd (omega arith)
+    by false f = f
+
+eqZ-zero : (z : ℤ) → eqZ z (pos 0) ≡ true → z ≡ pos 0
+eqZ-zero (pos n) h = ap pos (eqb-true n 0 h)
+eqZ-zero (negsuc n) h = clash h refl
+
+pub zero-yes : (x : Zω) → isZero x ≡ true → x ≡ zeroω
+unfolding isZero zeroω
+zero-yes x h =
+    let t = both4 (eqZ (x .a) (pos 0)) (eqZ (x .b) (pos 0)) (eqZ (x .c) (pos 0)) (eqZ (x .d) (pos 0)) h in
+    λ i. mk (eqZ-zero (x .a) (t .0) i) (eqZ-zero (x .b) (t .1) i) (eqZ-zero (x .c) (t .2) i) (eqZ-zero (x .d) (t .3) i)
+
+pub zero-no : (x : Zω) → isZero x ≡ false → x ≡ zeroω → ⊥
+unfolding isZero zeroω
+zero-no x h e = clash (ap isZero e) h

@@ -1,0 +1,9 @@
+pub mod Four
+pub mod Sums
+pub mod Turns
+pub mod Division
+pub mod Squares
+pub mod Product
+pub mod Order
+pub mod Answers
+pub mod Number

@@ -1,0 +1,2 @@
+pub mod Zomega
+pub mod Told

@@ -1,0 +1,132 @@
+-- Z[omega], the ring of the matrices' entries: a + b omega + c omega² + d omega³, with omega⁴ = −1. The coefficients here are integers
+-- of any size. The record is the struct `Cyclotomic`, whose fields a contract reads as integers; what fits in the struct is said apart.
+-- The operations are shut names: proofs/ has their laws, and only the proofs of those laws open them. Assumes nothing.
+use mathlib.Core.Bool.{Bool, true, false, _&&_}
+use Prim.Native.Nat.{ℕ, zero, suc, _+_, _*_, _%_, _≤_}
+use lib.IntN.{ℤ, pos, natAbs, negℤ, _+ℤ_, _-ℤ_, _*ℤ_}
+use lib.Signed.{ltZ, quotZ}
+use lib.Dec.{eqb, leb}
+use mir.Syntax.{Width, w8, w16}
+use Rattle.cyclotomic.specs.declared.Cyclotomic.{Cyclotomic}
+
+-- "Coefficients stay in -127 to 127."
+abbrev pub limit : ℕ
+limit = 127
+
+-- the width of a coefficient, and the width in which sums are formed
+abbrev pub near : Width
+near = w8
+
+abbrev pub far : Width
+far = w16
+
+-- "An entry (a, b, c, d) means a + b omega + c omega^2 + d omega^3."
+abbrev pub Zω : Type 0
+Zω = Cyclotomic
+
+abbrev pub mk : ℤ → ℤ → ℤ → ℤ → Zω
+mk a b c d = record { a = a; b = b; c = c; d = d }
+
+unfoldable pub zeroω : Zω
+zeroω = mk (pos 0) (pos 0) (pos 0) (pos 0)
+
+unfoldable pub oneω : Zω
+oneω = mk (pos 1) (pos 0) (pos 0) (pos 0)
+
+unfoldable pub addω : Zω → Zω → Zω
+addω x y = mk (x .a +ℤ y .a) (x .b +ℤ y .b) (x .c +ℤ y .c) (x .d +ℤ y .d)
+
+unfoldable pub subω : Zω → Zω → Zω
+subω x y = mk (x .a -ℤ y .a) (x .b -ℤ y .b) (x .c -ℤ y .c) (x .d -ℤ y .d)
+
+-- the ring's product: omega^i times omega^j is omega^(i + j), and omega⁴ is −1
+unfoldable pub mulω : Zω → Zω → Zω
+mulω x y =
+    mk (x .a *ℤ y .a -ℤ x .b *ℤ y .d -ℤ x .c *ℤ y .c -ℤ x .d *ℤ y .b)
+    (x .a *ℤ y .b +ℤ x .b *ℤ y .a -ℤ x .c *ℤ y .d -ℤ x .d *ℤ y .c)
+    (x .a *ℤ y .c +ℤ x .b *ℤ y .b +ℤ x .c *ℤ y .a -ℤ x .d *ℤ y .d)
+    (x .a *ℤ y .d +ℤ x .b *ℤ y .c +ℤ x .c *ℤ y .b +ℤ x .d *ℤ y .a)
+
+-- "One turn by omega gives (-d, a, b, c)."
+abbrev pub turn1 : Zω → Zω
+turn1 x = mk (negℤ (x .d)) (x .a) (x .b) (x .c)
+
+-- omega to the p, times x
+unfoldable pub turn : ℕ → Zω → Zω
+turn zero x = x
+turn (suc p) x = turn1 (turn p x)
+
+-- √2 = omega − omega³, times x
+unfoldable pub sqrt2 : Zω → Zω
+sqrt2 x = mk (x .b -ℤ x .d) (x .a +ℤ x .c) (x .b +ℤ x .d) (x .c -ℤ x .a)
+
+abbrev pub parity : ℤ → ℕ
+parity z = natAbs z % 2
+
+abbrev pub sameParity : ℤ → ℤ → Bool
+sameParity x y = eqb (parity x) (parity y)
+
+-- "a, c of one parity and b, d of one parity"
+unfoldable pub divisible : Zω → Bool
+divisible x = sameParity (x .a) (x .c) && sameParity (x .b) (x .d)
+
+-- half of an even number
+abbrev pub half : ℤ → ℤ
+half z = quotZ z (pos 2)
+
+-- "divided: ((b-d)/2, (a+c)/2, (b+d)/2, (c-a)/2)"
+unfoldable pub overSqrt2 : Zω → Zω
+overSqrt2 x = mk (half (x .b -ℤ x .d)) (half (x .a +ℤ x .c)) (half (x .b +ℤ x .d)) (half (x .c -ℤ x .a))
+
+-- the sum of the squares of the coefficients
+abbrev pub square : ℤ → ℕ
+square z = natAbs z * natAbs z
+
+unfoldable pub squares : Zω → ℕ
+squares x = square (x .a) + square (x .b) + square (x .c) + square (x .d)
+
+abbrev pub eqZ : ℤ → ℤ → Bool
+eqZ (pos a) (pos b) = eqb a b
+eqZ (pos a) (ℤ.negsuc b) = false
+eqZ (ℤ.negsuc a) (pos b) = false
+eqZ (ℤ.negsuc a) (ℤ.negsuc b) = eqb a b
+
+unfoldable pub isZero : Zω → Bool
+isZero x = eqZ (x .a) (pos 0) && eqZ (x .b) (pos 0) && eqZ (x .c) (pos 0) && eqZ (x .d) (pos 0)
+
+-- "compared as four signed numbers": the first pair that differs decides
+abbrev pub orElse : Bool → Bool → Bool → Bool
+orElse true less next = next
+orElse false less next = less
+
+unfoldable pub less : Zω → Zω → Bool
+less x y =
+    orElse (eqZ (x .a) (y .a)) (ltZ (x .a) (y .a))
+    (orElse (eqZ (x .b) (y .b)) (ltZ (x .b) (y .b))
+    (orElse (eqZ (x .c) (y .c)) (ltZ (x .c) (y .c)) (ltZ (x .d) (y .d))))
+
+-- "the power 0 to 7 that makes [it] least": of a nonzero entry there is one such power (proofs/Order)
+abbrev pub choose : Bool → ℕ → ℕ → ℕ
+choose true p q = p
+choose false p q = q
+
+unfoldable pub leastUpTo : ℕ → Zω → ℕ
+leastUpTo zero x = 0
+leastUpTo (suc k) x = choose (less (turn (suc k) x) (turn (leastUpTo k x) x)) (suc k) (leastUpTo k x)
+
+abbrev pub phase : Zω → ℕ
+phase x = leastUpTo 7 x
+
+-- ---- what fits
+abbrev pub within : ℤ → Bool
+within z = leb (natAbs z) limit
+
+unfoldable pub fits : Zω → Bool
+fits x = within (x .a) && within (x .b) && within (x .c) && within (x .d)
+
+-- every coefficient is within the limit
+pub record Small (x : Zω) : Type 0 where
+  pub a-small : natAbs (x .a) ≤ limit
+  pub b-small : natAbs (x .b) ≤ limit
+  pub c-small : natAbs (x .c) ≤ limit
+  pub d-small : natAbs (x .d) ≤ limit

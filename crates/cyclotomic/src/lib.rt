@@ -1,0 +1,265 @@
+// An element of Z[omega], a + b omega + c omega^2 + d omega^3 with omega^4 = -1: an entry of a matrix, before its division by sqrt(2)^k.
+// A stored coefficient is between -127 and 127, so every turn is representable. Sums are formed one width wider and narrowed after a
+// test. matrix.rs of the original, `Cyclotomic`.
+ghost use mathlib.Core.Path.{_≡_};
+ghost use Prim.Native.Nat.{_+_, _≤_};
+ghost use lib.IntN.{natAbs, negℤ, _+ℤ_, _-ℤ_};
+ghost use lib.Signed.{ltZ};
+ghost use Rattle.cyclotomic.specs.Zomega.{limit, mk, addω, subω, turn, sameParity, half, divisible, overSqrt2, eqZ, isZero, less, within, Small};
+ghost use Rattle.cyclotomic.specs.Told.{told, checked};
+
+// A coefficient's type, and the type in which sums are formed.
+pub type Coefficient = i8;
+
+pub type Wide = i16;
+
+// The largest coefficient, either way.
+pub const LIMIT: Wide = 127;
+
+pub struct Cyclotomic {
+    pub a: Coefficient,
+    pub b: Coefficient,
+    pub c: Coefficient,
+    pub d: Coefficient,
+}
+
+// A sum or a difference: its value, or that a coefficient of it passes the limit.
+pub enum Checked {
+    Value(Cyclotomic),
+    TooLarge,
+}
+
+fn narrow_coefficient(x: Wide) -> Coefficient
+    requires { ⌜ natAbs x ≤ limit ⌝ }
+    ensures { λ r. ⌜ r ≡ x ⌝ }
+{
+    x as Coefficient
+}
+
+fn negated(x: Coefficient) -> Coefficient
+    requires { ⌜ natAbs x ≤ limit ⌝ }
+    ensures { λ r. ⌜ r ≡ negℤ x ⌝ }
+{
+    -x
+}
+
+fn plus(x: Coefficient, y: Coefficient) -> Wide
+    ensures { λ r. ⌜ r ≡ x +ℤ y ⌝ }
+{
+    (x as Wide) + (y as Wide)
+}
+
+fn minus(x: Coefficient, y: Coefficient) -> Wide
+    ensures { λ r. ⌜ r ≡ x -ℤ y ⌝ }
+{
+    (x as Wide) - (y as Wide)
+}
+
+fn in_limit(x: Wide) -> bool
+    ensures { λ r. ⌜ r ≡ within x ⌝ }
+{
+    if x < -LIMIT {
+        return false;
+    }
+    x <= LIMIT
+}
+
+fn same(x: Coefficient, y: Coefficient) -> bool
+    ensures { λ r. ⌜ r ≡ eqZ x y ⌝ }
+{
+    x == y
+}
+
+fn below(x: Coefficient, y: Coefficient) -> bool
+    ensures { λ r. ⌜ r ≡ ltZ x y ⌝ }
+{
+    x < y
+}
+
+fn same_parity(x: Coefficient, y: Coefficient) -> bool
+    ensures { λ r. ⌜ r ≡ sameParity x y ⌝ }
+{
+    plus(x, y) % 2 == 0
+}
+
+// Half of a sum or a difference of two coefficients.
+fn halved(x: Wide) -> Coefficient
+    requires { ⌜ natAbs x ≤ limit + limit ⌝ }
+    ensures { λ r. ⌜ r ≡ half x ⌝ }
+{
+    (x / 2) as Coefficient
+}
+
+fn narrowed(a: Wide, b: Wide, c: Wide, d: Wide) -> Checked
+    ensures { λ r. ⌜ told r ≡ checked (mk a b c d) ⌝ }
+{
+    if !in_limit(a) {
+        return Checked::TooLarge;
+    }
+    if !in_limit(b) {
+        return Checked::TooLarge;
+    }
+    if !in_limit(c) {
+        return Checked::TooLarge;
+    }
+    if !in_limit(d) {
+        return Checked::TooLarge;
+    }
+    Checked::Value(Cyclotomic {
+        a: narrow_coefficient(a),
+        b: narrow_coefficient(b),
+        c: narrow_coefficient(c),
+        d: narrow_coefficient(d),
+    })
+}
+
+impl Cyclotomic {
+    pub const ZERO: Cyclotomic = Cyclotomic {
+        a: 0,
+        b: 0,
+        c: 0,
+        d: 0,
+    };
+
+    pub const ONE: Cyclotomic = Cyclotomic {
+        a: 1,
+        b: 0,
+        c: 0,
+        d: 0,
+    };
+
+    pub fn is_zero(self) -> bool
+        ensures { λ r. ⌜ r ≡ isZero self ⌝ }
+    {
+        if !same(self.a, 0) {
+            return false;
+        }
+        if !same(self.b, 0) {
+            return false;
+        }
+        if !same(self.c, 0) {
+            return false;
+        }
+        same(self.d, 0)
+    }
+
+    // The sum, unless a coefficient of it passes the limit.
+    pub fn checked_add(self, rhs: Cyclotomic) -> Checked
+        ensures { λ r. ⌜ told r ≡ checked (addω self rhs) ⌝ }
+    {
+        narrowed(
+            plus(self.a, rhs.a),
+            plus(self.b, rhs.b),
+            plus(self.c, rhs.c),
+            plus(self.d, rhs.d),
+        )
+    }
+
+    // The difference, unless a coefficient of it passes the limit.
+    pub fn checked_sub(self, rhs: Cyclotomic) -> Checked
+        ensures { λ r. ⌜ told r ≡ checked (subω self rhs) ⌝ }
+    {
+        narrowed(
+            minus(self.a, rhs.a),
+            minus(self.b, rhs.b),
+            minus(self.c, rhs.c),
+            minus(self.d, rhs.d),
+        )
+    }
+
+    // omega to the power, times this. A turn by 8 changes nothing, so any power is taken.
+    pub fn times_omega(self, power: u8) -> Cyclotomic
+        requires { ⌜ Small self ⌝ }
+        ensures { λ r. ⌜ r ≡ turn power self ⌝ }
+    {
+        let a = self.a;
+        let b = self.b;
+        let c = self.c;
+        let d = self.d;
+        let p = power % 8;
+        match p {
+            0 => self,
+            1 => Cyclotomic {
+                a: negated(d),
+                b: a,
+                c: b,
+                d: c,
+            },
+            2 => Cyclotomic {
+                a: negated(c),
+                b: negated(d),
+                c: a,
+                d: b,
+            },
+            3 => Cyclotomic {
+                a: negated(b),
+                b: negated(c),
+                c: negated(d),
+                d: a,
+            },
+            4 => Cyclotomic {
+                a: negated(a),
+                b: negated(b),
+                c: negated(c),
+                d: negated(d),
+            },
+            5 => Cyclotomic {
+                a: d,
+                b: negated(a),
+                c: negated(b),
+                d: negated(c),
+            },
+            6 => Cyclotomic {
+                a: c,
+                b: d,
+                c: negated(a),
+                d: negated(b),
+            },
+            _ => Cyclotomic {
+                a: b,
+                b: c,
+                c: d,
+                d: negated(a),
+            },
+        }
+    }
+
+    // Whether this is sqrt(2) times an element.
+    pub fn divisible_by_sqrt_2(self) -> bool
+        ensures { λ r. ⌜ r ≡ divisible self ⌝ }
+    {
+        if !same_parity(self.a, self.c) {
+            return false;
+        }
+        same_parity(self.b, self.d)
+    }
+
+    // This over sqrt(2), where it is divisible. The halves never pass the limit.
+    pub fn divide_by_sqrt_2(self) -> Cyclotomic
+        requires { ⌜ Small self ⌝ }
+        ensures { λ r. ⌜ r ≡ overSqrt2 self ⌝ }
+    {
+        Cyclotomic {
+            a: halved(minus(self.b, self.d)),
+            b: halved(plus(self.a, self.c)),
+            c: halved(plus(self.b, self.d)),
+            d: halved(minus(self.c, self.a)),
+        }
+    }
+
+    // Whether this comes before the other, compared as four signed numbers.
+    pub fn less_than(self, rhs: Cyclotomic) -> bool
+        ensures { λ r. ⌜ r ≡ less self rhs ⌝ }
+    {
+        if !same(self.a, rhs.a) {
+            return below(self.a, rhs.a);
+        }
+        if !same(self.b, rhs.b) {
+            return below(self.b, rhs.b);
+        }
+        if !same(self.c, rhs.c) {
+            return below(self.c, rhs.c);
+        }
+        below(self.d, rhs.d)
+    }
+}

@@ -1,0 +1,3 @@
+pub mod Generated
+pub mod Most
+pub mod Fills

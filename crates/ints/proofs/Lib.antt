@@ -1,0 +1,7 @@
+pub mod Int
+pub mod Poly
+pub mod Machine
+pub mod Bools
+pub mod Bits
+pub mod Tables
+pub mod Runs

@@ -1,0 +1,59 @@
+-- A signed integer's range, in the terms of `Int`: what a cast, a sum, a difference or a negation of signed numbers asks.
+-- Assumes nothing.
+use mathlib.Core.Path.{_≡_, refl, sym, ap, _∙_, subst}
+use mathlib.Core.List.{List, [], _∷_}
+use Prim.Native.Nat.{ℕ, zero, suc, _+_, _-_, _*_, _^_, _<_, _≤_}
+use native.Mathlib.Omega.{arith}
+use lib.IntN.{ℤ, pos, negsuc, natAbs, negℤ, _+ℤ_, _-ℤ_, _*ℤ_}
+use lib.Signed.{mag}
+use lib.Pow.{pow-pos}
+use mir.Syntax.{Width}
+use mir.Val.{SFits, hbits, toZ, ofZ}
+use mir.Facts.{toZ-ofZ, sfits-widen}
+use lib.Dec.{T, leb}
+use Rattle.ints.proofs.Int.{Ex, up, dn, ups, dns, value, sound}
+
+-- z is at least −H and below H
+pub record Within (H : ℕ) (z : ℤ) : Type 0 where
+  pub below : up z < H
+  pub above : dn z ≤ H
+
+pub mag-within : (H : ℕ) (z : ℤ) → 0 < H → mag z < H → Within H z
+mag-within H (pos n) q h = record { below = h; above = omega arith }
+mag-within H (negsuc n) q h = record { below = q; above = h }
+
+within-mag : (H : ℕ) (z : ℤ) → up z < H → dn z ≤ H → mag z < H
+within-mag H (pos n) h k = h
+within-mag H (negsuc n) h k = k
+
+-- a range of an expression, by the difference of its naturals
+differs : (H : ℕ) (z : ℤ) (p n : ℕ) → up z + n ≡ p + dn z → p < n + H → n ≤ p + H → mag z < H
+differs H (pos k) p n e h g = omega arith
+differs H (negsuc k) p n e h g = omega arith
+
+pub fit : (w : Width) (ρ : List ℤ) (e : Ex) → ups ρ e < dns ρ e + 2 ^ hbits w → dns ρ e ≤ ups ρ e + 2 ^ hbits w → SFits w (value ρ e)
+fit w ρ e h k = record { sfits = differs (2 ^ hbits w) (value ρ e) (ups ρ e) (dns ρ e) (sound ρ e) h k }
+
+pub range : {w : Width} {z : ℤ} → SFits w z → Within (2 ^ hbits w) z
+range {w} {z} f = mag-within (2 ^ hbits w) z (pow-pos (hbits w)) (f .sfits)
+
+-- a number that was widened, as the machine reads it back
+pub read-wide : (w w′ : Width) {z : ℤ} → T (leb (hbits w) (hbits w′)) → SFits w z → toZ w′ (ofZ w′ (toZ w (ofZ w z))) ≡ z
+read-wide w w′ {z} t f = ap (λ (v : ℤ). toZ w′ (ofZ w′ v)) (toZ-ofZ f) ∙ toZ-ofZ (sfits-widen t f)
+
+pub abs-is : (z : ℤ) → natAbs z ≡ up z + dn z
+abs-is (pos n) = omega arith
+abs-is (negsuc n) = omega arith
+
+-- what a callee returned, as the caller's memory holds it, where the callee ensures that it is x, as its own argument's memory held that
+pub back : (v w : Width) {x r : ℤ} → SFits v x → mag r < 2 ^ hbits w → r ≡ toZ v (ofZ v x) → toZ w (ofZ w r) ≡ x
+back v w f g e = toZ-ofZ (record { sfits = g }) ∙ e ∙ toZ-ofZ f
+
+-- what a callee returned is what it ensures of it: `said w8 (c .f .ok) (c .f .ensures)`
+pub said : (w : Width) {r v : ℤ} → mag r < 2 ^ hbits w → r ≡ v → toZ w (ofZ w r) ≡ v
+said w g e = toZ-ofZ (record { sfits = g }) ∙ e
+
+pub abs-neg : (z : ℤ) → natAbs (negℤ z) ≡ natAbs z
+abs-neg (pos zero) = refl
+abs-neg (pos (suc n)) = refl
+abs-neg (negsuc n) = refl

@@ -1,0 +1,1 @@
+// The integers: identities by a normaliser, bounds through the naturals, and the range of a machine number. Laws only, no functions.

@@ -1,0 +1,14 @@
+-- The table's one lemma: every row computes to what document 01 states. Assumes nothing.
+use mathlib.Core.Path.{_≡_, refl}
+use Rattle.ints.specs.Bits.{bit}
+use Rattle.ints.specs.Lists.{range, each, all, elem, distinct}
+use Rattle.cyclotomic.specs.Zomega.{addω, subω, turn, divisible, overSqrt2, less, leastUpTo, fits}
+use Rattle.cyclotomic.specs.Told.{checked}
+use Rattle.circuit.specs.Kinds.{kindAt, arity, sorted, isKind}
+use Rattle.circuit.specs.Codes.{placed, rises, valid, validFor}
+use Rattle.generators.specs.Generators.{kept, generators}
+use Rattle.pencil.specs.Cases.{computed, stated}
+
+pub as-stated : computed ≡ stated
+unfolding bit range each all elem distinct addω subω turn divisible overSqrt2 less leastUpTo fits checked kindAt arity sorted isKind placed rises valid validFor kept generators
+as-stated = refl

@@ -1,0 +1,219 @@
+// Prints what the port says of every gate code, pair of codes and basis, in the form of the recording of the original. `rt ci` compares
+// it with crates/replay/stdout, which oracle/record writes from the original itself.
+ghost use Prim.Native.Nat.{_≤_, _<_};
+use circuit::GateSet;
+use circuit::LibraryGate;
+use libc::STDOUT_FILENO;
+
+fn number(n: u32) {
+    io::print_decimal(STDOUT_FILENO, n as u64);
+}
+
+fn spaced(n: u32) {
+    io::write_all(STDOUT_FILENO, b" ");
+    number(n);
+}
+
+fn flag(yes: bool) {
+    if yes {
+        io::write_all(STDOUT_FILENO, b"1");
+    } else {
+        io::write_all(STDOUT_FILENO, b"0");
+    }
+}
+
+fn line_end() {
+    io::write_all(STDOUT_FILENO, b"\n");
+}
+
+// `codes N` and every valid code; the port is asked about all numbers below 65536.
+fn codes_line(width: u32) {
+    io::write_all(STDOUT_FILENO, b"codes");
+    spaced(width);
+    let mut code: u32 = 0;
+    while code < 65536 {
+        if LibraryGate(code).is_valid(width) {
+            spaced(code);
+        }
+        code += 1;
+    }
+    line_end();
+}
+
+// `valid N K` and the validity of the kind's codes, of which each step changes only used operands.
+fn valid_line(width: u32, kind: u32, step: u32)
+    requires { ⌜ (kind < 12) × (0 < step) × (step ≤ 256) ⌝ }
+{
+    io::write_all(STDOUT_FILENO, b"valid");
+    spaced(width);
+    spaced(kind);
+    io::write_all(STDOUT_FILENO, b" ");
+    let end = kind * 4096 + 4096;
+    let mut code: u32 = kind * 4096;
+    while code < end {
+        flag(LibraryGate(code).is_valid(width));
+        code += step;
+    }
+    line_end();
+}
+
+// One used operand, two, three.
+fn valid_kind(width: u32, kind: u32)
+    requires { ⌜ kind < 12 ⌝ }
+{
+    if kind < 7 {
+        valid_line(width, kind, 256);
+        return;
+    }
+    if kind < 8 {
+        return;
+    }
+    if kind < 10 {
+        valid_line(width, kind, 16);
+        return;
+    }
+    valid_line(width, kind, 1);
+}
+
+fn valid_lines(width: u32) {
+    let mut kind: u32 = 0;
+    while kind < 12 {
+        valid_kind(width, kind);
+        kind += 1;
+    }
+}
+
+fn qubits_lines(gates: &[u32; 105], count: usize)
+    requires { ⌜ count ≤ 105 ⌝ }
+{
+    let mut i: usize = 0;
+    while i < count {
+        io::write_all(STDOUT_FILENO, b"qubits");
+        spaced(gates[i]);
+        spaced(LibraryGate(gates[i]).qubit_mask());
+        line_end();
+        i += 1;
+    }
+}
+
+// 0: g is the inverse of h; 1: they share no qubit; 2: g has the lower code.
+fn related(mode: u32, g: u32, h: u32) -> bool {
+    if mode == 0 {
+        return LibraryGate(g).is_inverse_of(LibraryGate(h));
+    }
+    if mode == 1 {
+        return LibraryGate(g).is_disjoint(LibraryGate(h));
+    }
+    g < h
+}
+
+fn mode_name(mode: u32) {
+    if mode == 0 {
+        io::write_all(STDOUT_FILENO, b"inverse");
+        return;
+    }
+    if mode == 1 {
+        io::write_all(STDOUT_FILENO, b"disjoint");
+        return;
+    }
+    io::write_all(STDOUT_FILENO, b"lower");
+}
+
+fn pair_line(mode: u32, g: u32, gates: &[u32; 105], count: usize)
+    requires { ⌜ count ≤ 105 ⌝ }
+{
+    mode_name(mode);
+    spaced(g);
+    io::write_all(STDOUT_FILENO, b" ");
+    let mut i: usize = 0;
+    while i < count {
+        flag(related(mode, g, gates[i]));
+        i += 1;
+    }
+    line_end();
+}
+
+fn pair_lines(mode: u32, gates: &[u32; 105], count: usize)
+    requires { ⌜ count ≤ 105 ⌝ }
+{
+    let mut i: usize = 0;
+    while i < count {
+        pair_line(mode, gates[i], gates, count);
+        i += 1;
+    }
+}
+
+fn listed(gates: &[u32; 105], count: usize)
+    requires { ⌜ count ≤ 105 ⌝ }
+{
+    let mut i: usize = 0;
+    while i < count {
+        spaced(gates[i]);
+        i += 1;
+    }
+}
+
+fn generators_line(width: u32, basis: u32)
+    requires { ⌜ width ≤ 5 ⌝ }
+{
+    if !GateSet(basis).is_subset(GateSet::SUPPORTED) {
+        return;
+    }
+    io::write_all(STDOUT_FILENO, b"generators");
+    spaced(width);
+    spaced(basis);
+    let mut gates = [0u32; 105];
+    let count = generators::library_gates(width, GateSet(basis), &mut gates);
+    listed(&gates, count);
+    line_end();
+}
+
+fn generators_lines(width: u32)
+    requires { ⌜ width ≤ 5 ⌝ }
+{
+    let mut basis: u32 = 1;
+    while basis <= 3967 {
+        generators_line(width, basis);
+        basis += 1;
+    }
+}
+
+fn codes_lines() {
+    let mut width: u32 = 0;
+    while width <= 5 {
+        codes_line(width);
+        width += 1;
+    }
+}
+
+fn all_valid_lines() {
+    let mut width: u32 = 0;
+    while width <= 5 {
+        valid_lines(width);
+        width += 1;
+    }
+}
+
+fn all_generators_lines() {
+    let mut width: u32 = 1;
+    while width <= 5 {
+        generators_lines(width);
+        width += 1;
+    }
+}
+
+fn main() {
+    io::write_all(
+        STDOUT_FILENO,
+        b"recorded from qqq-wisc/tzap at 63829b8f5b by oracle/record gates\n",
+    );
+    codes_lines();
+    all_valid_lines();
+    let mut gates = [0u32; 105];
+    let count = generators::library_gates(5, GateSet::SUPPORTED, &mut gates);
+    qubits_lines(&gates, count);
+    pair_lines(0, &gates, count);
+    pair_lines(1, &gates, count);
+    pair_lines(2, &gates, count);
+    all_generators_lines();
+}

@@ -1,0 +1,39 @@
+// Words of 64 bits: products and rotations as the fingerprint's streams use them, and a coefficient as a word. Sums that wrap are std's.
+ghost use mathlib.Core.Path.{_≡_};
+ghost use Prim.Native.Nat.{_%_};
+ghost use Rattle.words.specs.Words.{product, rotated, word};
+use cyclotomic::Coefficient;
+
+// The product modulo 2^64, from halves of 32 bits.
+pub fn wrapping_mul(a: u64, b: u64) -> u64
+    ensures { λ r. ⌜ r ≡ product a b ⌝ }
+{
+    let low = a % 0x1_0000_0000;
+    let high = a / 0x1_0000_0000;
+    let other_low = b % 0x1_0000_0000;
+    let other_high = b / 0x1_0000_0000;
+    let cross = std::num::wrapping_add_u64(low * other_high, high * other_low);
+    std::num::wrapping_add_u64(low * other_low, cross << 32)
+}
+
+// The bits moved up by as many places, round the word.
+pub fn rotate_left(a: u64, places: u32) -> u64
+    ensures { λ r. ⌜ r ≡ rotated (places % 64) a ⌝ }
+{
+    let up = places % 64;
+    if up == 0 {
+        return a;
+    }
+    let down = 64 - up;
+    (a << up) | (a >> down)
+}
+
+// A coefficient's 64 bits, its sign extended.
+pub fn sign_extended(x: Coefficient) -> u64
+    ensures { λ r. ⌜ r ≡ word x ⌝ }
+{
+    if x < 0 {
+        return u64::MAX - ((-1 - x) as u64);
+    }
+    x as u64
+}

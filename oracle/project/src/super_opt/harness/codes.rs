@@ -1,0 +1,64 @@
+//! Gate codes: kind * 4096 + a * 256 + b * 16 + c. The kind is the number of
+//! its `GateKind`; the operands come in the order of the library gate's
+//! variant, and unused ones are 0.
+
+use crate::circuit::GateKind as Kind;
+use crate::super_opt::SUPPORTED_GATE_SET;
+use crate::super_opt::murm::LibraryGate as Gate;
+
+/// The eleven kinds of library gates, by rising number.
+pub(super) fn kinds() -> impl Iterator<Item = Kind> {
+    SUPPORTED_GATE_SET.iter()
+}
+
+/// How many operands a library gate of this kind has.
+fn arity(kind: Kind) -> u32 {
+    match kind {
+        Kind::Cx | Kind::Cz => 2,
+        Kind::Ccx | Kind::Ccz => 3,
+        _ => 1,
+    }
+}
+
+/// The library gate of this kind, with the operands as they are given. It may
+/// be one that no width has: operands repeated, or out of order.
+fn gate_of(kind: Kind, [a, b, c]: [u8; 3]) -> Gate {
+    match kind {
+        Kind::H => Gate::H(a),
+        Kind::X => Gate::X(a),
+        Kind::Z => Gate::Z(a),
+        Kind::S => Gate::S(a),
+        Kind::Sdg => Gate::Sdg(a),
+        Kind::T => Gate::T(a),
+        Kind::Tdg => Gate::Tdg(a),
+        Kind::Cx => Gate::Cnot(a, b),
+        Kind::Cz => Gate::Cz(a, b),
+        Kind::Ccx => Gate::Ccx(a, b, c),
+        Kind::Ccz => Gate::Ccz(a, b, c),
+        _ => panic!("no library gate is of the kind {}", kind.name()),
+    }
+}
+
+/// Every gate of this kind with operands 0 to 15, by rising code: the first
+/// operand is the outermost loop.
+pub(super) fn gates_of(kind: Kind) -> impl Iterator<Item = Gate> {
+    let unused = 3 - arity(kind);
+    (0..1u32 << (4 * arity(kind))).map(move |number| {
+        let code = number << (4 * unused);
+        gate_of(kind, [8, 4, 0].map(|place| (code >> place & 15) as u8))
+    })
+}
+
+/// The code of a gate whose operands are at most 15.
+pub(super) fn code_of(gate: Gate) -> u32 {
+    let [_, a, b, c] = gate.to_bytes().map(u32::from);
+    gate.to_gate().kind() as u32 * 4096 + a * 256 + b * 16 + c
+}
+
+/// The gates valid at this width, by rising code.
+pub(super) fn valid_gates(width: usize) -> Vec<Gate> {
+    kinds()
+        .flat_map(gates_of)
+        .filter(|gate| gate.is_valid_for(width, SUPPORTED_GATE_SET))
+        .collect()
+}

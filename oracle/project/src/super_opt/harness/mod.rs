@@ -1,0 +1,42 @@
+//! What is asked of the original. The first argument is a mode; a mode has a
+//! file of its own here and a line in `MODES`.
+
+mod codes;
+mod gates;
+
+use std::io::{self, BufWriter, Write};
+use std::process::ExitCode;
+
+/// A mode takes the arguments after its name and writes to standard output.
+type Mode = fn(&[String], &mut dyn Write) -> io::Result<()>;
+
+const MODES: &[(&str, Mode)] = &[("gates", gates::run)];
+
+/// Runs the mode that the arguments name. Ends with 2 when there is none such,
+/// and with 1 when the output cannot be written.
+pub(crate) fn run(arguments: Vec<String>) -> ExitCode {
+    let mode = arguments
+        .first()
+        .and_then(|word| MODES.iter().find(|(name, _)| name == word));
+    let Some((_, mode)) = mode else {
+        let names: Vec<&str> = MODES.iter().map(|(name, _)| *name).collect();
+        eprintln!("usage: oracle MODE ...; modes: {}", names.join(" "));
+        return ExitCode::from(2);
+    };
+    let mut out = BufWriter::new(io::stdout().lock());
+    match mode(&arguments[1..], &mut out).and_then(|()| out.flush()) {
+        Ok(()) => ExitCode::SUCCESS,
+        Err(error) => {
+            eprintln!("oracle: {error}");
+            ExitCode::FAILURE
+        }
+    }
+}
+
+/// The first line of a recording.
+fn write_header(mode: &str, out: &mut dyn Write) -> io::Result<()> {
+    writeln!(
+        out,
+        "recorded from qqq-wisc/tzap at 63829b8f5b by oracle/record {mode}"
+    )
+}

@@ -176,50 +176,54 @@ impl Cyclotomic {
         let b = self.b;
         let c = self.c;
         let d = self.d;
+        let minus_a = negated(a);
+        let minus_b = negated(b);
+        let minus_c = negated(c);
+        let minus_d = negated(d);
         let p = power % 8;
         match p {
             0 => self,
             1 => Cyclotomic {
-                a: negated(d),
+                a: minus_d,
                 b: a,
                 c: b,
                 d: c,
             },
             2 => Cyclotomic {
-                a: negated(c),
-                b: negated(d),
+                a: minus_c,
+                b: minus_d,
                 c: a,
                 d: b,
             },
             3 => Cyclotomic {
-                a: negated(b),
-                b: negated(c),
-                c: negated(d),
+                a: minus_b,
+                b: minus_c,
+                c: minus_d,
                 d: a,
             },
             4 => Cyclotomic {
-                a: negated(a),
-                b: negated(b),
-                c: negated(c),
-                d: negated(d),
+                a: minus_a,
+                b: minus_b,
+                c: minus_c,
+                d: minus_d,
             },
             5 => Cyclotomic {
                 a: d,
-                b: negated(a),
-                c: negated(b),
-                d: negated(c),
+                b: minus_a,
+                c: minus_b,
+                d: minus_c,
             },
             6 => Cyclotomic {
                 a: c,
                 b: d,
-                c: negated(a),
-                d: negated(b),
+                c: minus_a,
+                d: minus_b,
             },
             _ => Cyclotomic {
                 a: b,
                 b: c,
                 c: d,
-                d: negated(a),
+                d: minus_a,
             },
         }
     }

@@ -42,8 +42,7 @@ push-firsts-requires : tie.Need-push-firsts-requires Inv-loop μ-loop
 push-firsts-requires c κs =
     let l = c .before .before in
     let s = l .before .before in
-    let t = c .before .loop-test .taken in
-    (omega arith, t, filled-room 12 most (l .loop .inv .1) t (room (s .args .width) (l .before .bits .result) (s .pre)))
+    (omega arith, omega arith, filled-room 12 most (l .loop .inv .1) (omega arith) (room (s .args .width) (l .before .bits .result) (s .pre)))
 
 add-kind : tie.Need-add-kind Inv-loop μ-loop
 add-kind c = search needs

@@ -1,9 +1,10 @@
--- `times_omega` meets its contract: each arm is that many turns, and a turn's power counts by its remainder by 8.
+-- `times_omega` meets its contract: each arm is that many turns, and a turn's power counts by its remainder by 8. Assumes nothing.
 use borrow.Author.Needs.{needs}
 use mathlib.Core.Path.{_≡_, sym, _∙_}
 use Prim.Native.Nat.{ℕ, _≤_, _%_}
 use native.Mathlib.Omega.{arith}
-use lib.IntN.{negℤ-negℤ}
+use lib.IntN.{negℤ, negℤ-negℤ}
+use mir.Val.{toZ, ofZ}
 use Rattle.ints.proofs.Machine.{said}
 use Rattle.cyclotomic.specs.Zomega.{near, turn}
 use Rattle.cyclotomic.proofs.Number.{each, past}
@@ -18,96 +19,55 @@ arm c k e = rw (sym e) (turn-mod (c .args .power) (c .args .self))
 seventh : (p : ℕ) → 7 ≤ p % 8 → p % 8 ≡ 7
 seventh p h = omega arith
 
+-- the four negated coefficients
+minus-a : (c : tie.After-negated4) → toZ near (ofZ near (c .before .before .before .negated .result)) ≡ negℤ (c .before .before .before .before .before .before .before .before .args .self .a)
+minus-a c = let q = c .before .before .before .negated in said near (q .ok) (q .ensures) ∙ search needs
+
+minus-b : (c : tie.After-negated4) → toZ near (ofZ near (c .before .before .negated2 .result)) ≡ negℤ (c .before .before .before .before .before .before .before .before .args .self .b)
+minus-b c = let q = c .before .before .negated2 in said near (q .ok) (q .ensures) ∙ search needs
+
+minus-c : (c : tie.After-negated4) → toZ near (ofZ near (c .before .negated3 .result)) ≡ negℤ (c .before .before .before .before .before .before .before .before .args .self .c)
+minus-c c = let q = c .before .negated3 in said near (q .ok) (q .ensures) ∙ search needs
+
+minus-d : (c : tie.After-negated4) → toZ near (ofZ near (c .negated4 .result)) ≡ negℤ (c .before .before .before .before .before .before .before .before .args .self .d)
+minus-d c = let q = c .negated4 in said near (q .ok) (q .ensures) ∙ search needs
+
 returns : tie.Need-returns
 unfolding turn
-returns c = arm (c .before .before .before .before .before) 0 (c .match .keys1)
+returns c = arm (c .before .before .before .before .before .before .before .before .before) 0 (c .match .keys1)
 
 returns-2 : tie.Need-returns-2
 unfolding turn
-returns-2 c =
-    each
-    (let q = c .negated in said near (q .ok) (q .ensures) ∙ search needs)
-    (search needs)
-    (search needs)
-    (search needs)
-    ∙ arm (c .before .before .before .before .before .before) 1 (c .before .match .keys2)
+returns-2 c = each (minus-d (c .before)) (search needs) (search needs) (search needs) ∙ arm (c .before .before .before .before .before .before .before .before .before) 1 (c .match .keys2)
 
 returns-3 : tie.Need-returns-3
 unfolding turn
-returns-3 c =
-    each
-    (let q = c .before .negated2 in said near (q .ok) (q .ensures) ∙ search needs)
-    (let q = c .negated3 in said near (q .ok) (q .ensures) ∙ search needs)
-    (search needs)
-    (search needs)
-    ∙ arm (c .before .before .before .before .before .before .before) 2 (c .before .before .match .keys3)
+returns-3 c = each (minus-c (c .before)) (minus-d (c .before)) (search needs) (search needs) ∙ arm (c .before .before .before .before .before .before .before .before .before) 2 (c .match .keys3)
 
 returns-4 : tie.Need-returns-4
 unfolding turn
-returns-4 c =
-    each
-    (let q = c .before .before .negated4 in said near (q .ok) (q .ensures) ∙ search needs)
-    (let q = c .before .negated5 in said near (q .ok) (q .ensures) ∙ search needs)
-    (let q = c .negated6 in said near (q .ok) (q .ensures) ∙ search needs)
-    (search needs)
-    ∙ arm (c .before .before .before .before .before .before .before .before) 3 (c .before .before .before .match .keys4)
+returns-4 c = each (minus-b (c .before)) (minus-c (c .before)) (minus-d (c .before)) (search needs) ∙ arm (c .before .before .before .before .before .before .before .before .before) 3 (c .match .keys4)
 
 returns-5 : tie.Need-returns-5
 unfolding turn
-returns-5 c =
-    each
-    (let q = c .before .before .before .negated7 in said near (q .ok) (q .ensures) ∙ search needs)
-    (let q = c .before .before .negated8 in said near (q .ok) (q .ensures) ∙ search needs)
-    (let q = c .before .negated9 in said near (q .ok) (q .ensures) ∙ search needs)
-    (let q = c .negated10 in said near (q .ok) (q .ensures) ∙ search needs)
-    ∙ arm (c .before .before .before .before .before .before .before .before .before) 4 (c .before .before .before .before .match .keys5)
+returns-5 c = each (minus-a (c .before)) (minus-b (c .before)) (minus-c (c .before)) (minus-d (c .before)) ∙ arm (c .before .before .before .before .before .before .before .before .before) 4 (c .match .keys5)
 
 returns-6 : tie.Need-returns-6
 unfolding turn
-returns-6 c =
-    each
-    (rw negℤ-negℤ (search needs))
-    (let q = c .before .before .negated11 in said near (q .ok) (q .ensures) ∙ search needs)
-    (let q = c .before .negated12 in said near (q .ok) (q .ensures) ∙ search needs)
-    (let q = c .negated13 in said near (q .ok) (q .ensures) ∙ search needs)
-    ∙ arm (c .before .before .before .before .before .before .before .before) 5 (c .before .before .before .match .keys6)
+returns-6 c = each (rw negℤ-negℤ (search needs)) (minus-a (c .before)) (minus-b (c .before)) (minus-c (c .before)) ∙ arm (c .before .before .before .before .before .before .before .before .before) 5 (c .match .keys6)
 
 returns-7 : tie.Need-returns-7
 unfolding turn
-returns-7 c =
-    each
-    (rw negℤ-negℤ (search needs))
-    (rw negℤ-negℤ (search needs))
-    (let q = c .before .negated14 in said near (q .ok) (q .ensures) ∙ search needs)
-    (let q = c .negated15 in said near (q .ok) (q .ensures) ∙ search needs)
-    ∙ arm (c .before .before .before .before .before .before .before) 6 (c .before .before .match .keys7)
+returns-7 c = each (rw negℤ-negℤ (search needs)) (rw negℤ-negℤ (search needs)) (minus-a (c .before)) (minus-b (c .before)) ∙ arm (c .before .before .before .before .before .before .before .before .before) 6 (c .match .keys7)
 
 returns-8 : tie.Need-returns-8
 unfolding turn
-returns-8 c =
-    each
-    (rw negℤ-negℤ (search needs))
-    (rw negℤ-negℤ (search needs))
-    (rw negℤ-negℤ (search needs))
-    (let q = c .negated16 in said near (q .ok) (q .ensures) ∙ search needs)
-    ∙ arm (c .before .before .before .before .before .before) 7 (seventh _ (past _ 7 (c .before .match .rest)))
+returns-8 c = each (rw negℤ-negℤ (search needs)) (rw negℤ-negℤ (search needs)) (rw negℤ-negℤ (search needs)) (minus-a (c .before)) ∙ arm (c .before .before .before .before .before .before .before .before .before) 7 (seventh _ (past _ 7 (c .match .rest)))
 
 pub times-omega-spec : {M : Type 1} → statement M
 times-omega-spec =
     tie.close
     (tie.spec
-    (λ c κs. search needs)
-    (λ c κs. search needs)
-    (λ c κs. search needs)
-    (λ c κs. search needs)
-    (λ c κs. search needs)
-    (λ c κs. search needs)
-    (λ c κs. search needs)
-    (λ c κs. search needs)
-    (λ c κs. search needs)
-    (λ c κs. search needs)
-    (λ c κs. search needs)
-    (λ c κs. search needs)
     (λ c κs. search needs)
     (λ c κs. search needs)
     (λ c κs. search needs)

@@ -6,7 +6,7 @@ use native.Mathlib.Omega.{arith}
 use borrow.Author.Tests.{eqb-false, not-true}
 use lib.Dec.{eqb}
 use lib.ListN.{List·getD-eq-default}
-use Rattle.circuit.specs.Kinds.{Kind, H, X, Z, S, Sdg, T, Tdg, Cx, Cz, Ccx, Ccz, Other, kinds, kindAt, number, arity, sorted, isKind, dual}
+use Rattle.circuit.specs.Kinds.{Kind, H, X, Z, S, Sdg, T, Tdg, Cx, Cz, Ccx, Ccz, Other, kinds, kindAt, number, arity, sorted, isKind}
 
 -- past the table there are no kinds
 pub kind-past : (k : ℕ) → 12 ≤ k → kindAt k ≡ Other

@@ -1,3 +1,4 @@
 pub mod ByNumber
+pub mod Coded
 pub mod Sets
 pub mod Charges

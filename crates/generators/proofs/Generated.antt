@@ -14,10 +14,11 @@ use lib.ListN.{take, drop}
 use Rattle.ints.specs.Lists.{pick, range, all, distinct, Run}
 use Rattle.ints.proofs.Bools.{clash, and-left, and-right}
 use Rattle.ints.proofs.Runs.{run-to, run-each, range-in, each-in, each-mem}
-use Rattle.circuit.specs.Kinds.{Kind, kindAt, arity, sorted, isKind}
+use Rattle.circuit.specs.Kinds.{kindAt, arity, sorted, isKind}
 use Rattle.circuit.specs.Sets.{member}
 use Rattle.circuit.specs.Codes.{codeOf, kindNumber, kindOf, first, second, third, placed, ordered, valid, validFor}
 use Rattle.circuit.proofs.ByNumber.{kind-past, kind-used}
+use Rattle.circuit.proofs.Coded.{code-whole}
 use Rattle.generators.specs.Generators.{kept, thirds, seconds, firsts, generators, Lists}
 
 -- ---- in rising order
@@ -117,9 +118,6 @@ operands-below n (suc m) a b c u h =
     let l = ltb-true a n (and-left (ltb a n) (all (λ q. ltb q n) (take m (b ∷ c ∷ []))) p) in
     each-below n (suc m) xs (omega arith) p (and-right apart rest (and-right used (apart && rest) h))
 
-whole : (g : ℕ) → codeOf (kindNumber g) (first g) (second g) (third g) ≡ g
-whole g = omega arith
-
 generator-in : (n basis g : ℕ) → validFor n basis g ≡ true → List·Memᴰ g (generators n basis)
 unfolding valid validFor
 generator-in n basis g h =
@@ -132,8 +130,8 @@ generator-in n basis g h =
     let l = kind-below (kindNumber g) is in
     let p = and-left (placed n (arity k) a b c) (ordered (sorted k) a b c) (and-right (isKind k) (placed n (arity k) a b c && ordered (sorted k) a b c) v) in
     let o = operands-below n (arity k) a b c (kind-used k is) p in
-    rw whole at
-    (code-in n basis (kindNumber g) a b c l (o a (List·Memᴰ·head refl)) (o b (List·Memᴰ·tail (List·Memᴰ·head refl))) (o c (List·Memᴰ·tail (List·Memᴰ·tail (List·Memᴰ·head refl)))) (rw whole h))
+    rw code-whole at
+    (code-in n basis (kindNumber g) a b c l (o a (List·Memᴰ·head refl)) (o b (List·Memᴰ·tail (List·Memᴰ·head refl))) (o c (List·Memᴰ·tail (List·Memᴰ·tail (List·Memᴰ·head refl)))) (rw code-whole h))
 
 pub lists : (n basis : ℕ) → n ≤ 16 → Lists n basis (generators n basis)
 lists n basis h = record {

@@ -1,6 +1,6 @@
 -- The generators of a basis at a width. Assumes nothing.
 use mathlib.Core.Path.{_≡_}
-use mathlib.Core.Bool.{Bool, true}
+use mathlib.Core.Bool.{true}
 use mathlib.Core.List.{List, [], _∷_, List·Memᴰ}
 use Prim.Native.Nat.{ℕ}
 use Rattle.ints.specs.Lists.{pick, range, each, Rising}

@@ -1,7 +1,6 @@
 -- Tests: what `&&`, `||` and a list's tests say. Assumes nothing.
 use mathlib.Core.Path.{_≡_, refl, sym, _∙_, subst}
 use mathlib.Core.Bool.{Bool, true, false, _&&_, _||_, true≢false}
-use mathlib.Core.List.{List, [], _∷_}
 use Prim.Native.Nat.{ℕ, suc, zero, _+_, _≤_, _<_}
 use native.Mathlib.Omega.{arith}
 use native.Mathlib.Decide.{ℕ-discrete}
@@ -28,10 +27,6 @@ and-both false t p q = p
 pub and-true : (t : Bool) → t && true ≡ t
 and-true true = refl
 and-true false = refl
-
-pub or-false : (t : Bool) → t || false ≡ t
-or-false true = refl
-or-false false = refl
 
 pub or-right : (s t : Bool) → t ≡ true → s || t ≡ true
 or-right true t h = refl

@@ -1,10 +1,10 @@
 -- A signed integer's range, in the terms of `Int`: what a cast, a sum, a difference or a negation of signed numbers asks.
 -- Assumes nothing.
-use mathlib.Core.Path.{_≡_, refl, sym, ap, _∙_, subst}
-use mathlib.Core.List.{List, [], _∷_}
+use mathlib.Core.Path.{_≡_, refl, ap, _∙_}
+use mathlib.Core.List.{List}
 use Prim.Native.Nat.{ℕ, zero, suc, _+_, _-_, _*_, _^_, _<_, _≤_}
 use native.Mathlib.Omega.{arith}
-use lib.IntN.{ℤ, pos, negsuc, natAbs, negℤ, _+ℤ_, _-ℤ_, _*ℤ_}
+use lib.IntN.{ℤ, pos, negsuc, natAbs, negℤ}
 use lib.Signed.{mag}
 use lib.Pow.{pow-pos}
 use mir.Syntax.{Width}
@@ -21,10 +21,6 @@ pub record Within (H : ℕ) (z : ℤ) : Type 0 where
 pub mag-within : (H : ℕ) (z : ℤ) → 0 < H → mag z < H → Within H z
 mag-within H (pos n) q h = record { below = h; above = omega arith }
 mag-within H (negsuc n) q h = record { below = q; above = h }
-
-within-mag : (H : ℕ) (z : ℤ) → up z < H → dn z ≤ H → mag z < H
-within-mag H (pos n) h k = h
-within-mag H (negsuc n) h k = k
 
 -- a range of an expression, by the difference of its naturals
 differs : (H : ℕ) (z : ℤ) (p n : ℕ) → up z + n ≡ p + dn z → p < n + H → n ≤ p + H → mag z < H

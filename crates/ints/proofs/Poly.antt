@@ -1,13 +1,13 @@
 -- A decision procedure for the identities of commutative rings, at the integers: `solve ρ e f tt`. The two expressions' difference is
 -- multiplied out to a list of terms, a number and a sorted list of variables each, and every number is 0.
 -- Assumes nothing.
-use mathlib.Core.Path.{_≡_, refl, sym, ap, _∙_, subst}
-use mathlib.Core.Bool.{Bool, true, false, _&&_}
+use mathlib.Core.Path.{_≡_, refl, sym, ap, _∙_}
+use mathlib.Core.Bool.{Bool, true, false}
 use mathlib.Core.List.{List, [], _∷_}
-use Prim.Native.Nat.{ℕ, zero, suc, _+_, _*_}
+use Prim.Native.Nat.{ℕ, _+_, _*_}
 use native.Mathlib.Omega.{arith}
 use lib.Dec.{T, leb, eqb, eqb→eq}
-use lib.IntN.{ℤ, pos, negsuc, negℤ, _+ℤ_, _-ℤ_, _*ℤ_, +ℤ-idl, +ℤ-assoc, zero-*ℤ}
+use lib.IntN.{ℤ, pos, negsuc, negℤ, _+ℤ_, _*ℤ_, +ℤ-idl, +ℤ-assoc, zero-*ℤ}
 use Rattle.ints.proofs.Int.{Ex, var, lit, _⊕_, _⊖_, _⊗_, ⊝_, value, look, ring, eqn, A, B, C, D, int}
 
 abbrev pub Term : Type 0
@@ -111,12 +111,6 @@ left-assoc x m n = ring (x ∷ m ∷ n ∷ []) (A ⊗ (B ⊗ C)) (A ⊗ B ⊗ C)
 
 one-times : (x : ℤ) → pos 1 *ℤ x ≡ x
 one-times x = ring (x ∷ []) (int 1 ⊗ A) A (omega arith)
-
-times-one : (x : ℤ) → x *ℤ pos 1 ≡ x
-times-one x = ring (x ∷ []) (A ⊗ int 1) A (omega arith)
-
-plus-zero : (x : ℤ) → x +ℤ pos 0 ≡ x
-plus-zero x = ring (x ∷ []) (A ⊕ int 0) A (omega arith)
 
 gather : (c d m p : ℤ) → (c +ℤ d) *ℤ m +ℤ p ≡ c *ℤ m +ℤ (d *ℤ m +ℤ p)
 gather c d m p = ring (c ∷ d ∷ m ∷ p ∷ []) ((A ⊕ B) ⊗ C ⊕ D) (A ⊗ C ⊕ (B ⊗ C ⊕ D)) (omega arith)

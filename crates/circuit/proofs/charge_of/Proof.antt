@@ -1,6 +1,5 @@
 -- `charge_of` meets its contract: the table CHARGE is the charge of each kind, which is computed over the whole table.
 -- Assumes nothing.
-use Prim.Native.Nat.{ℕ}
 use native.Mathlib.Omega.{arith}
 use mathlib.Core.Path.{refl, sym, ap}
 use mathlib.Core.List.{[], _∷_}

@@ -1,6 +1,5 @@
 -- `dual_kind` meets its contract: the table DUAL has the number of the kind that undoes each kind, which is computed over the whole table.
 -- Assumes nothing.
-use Prim.Native.Nat.{ℕ}
 use native.Mathlib.Omega.{arith}
 use mathlib.Core.Path.{refl, sym, ap}
 use mathlib.Core.List.{[], _∷_}

@@ -1,6 +1,5 @@
 -- `operand_count` meets its contract: the table ARITY is the arity of each kind, which is computed over the whole table.
 -- Assumes nothing.
-use Prim.Native.Nat.{ℕ}
 use native.Mathlib.Omega.{arith}
 use mathlib.Core.Path.{refl, sym, ap}
 use mathlib.Core.List.{[], _∷_}

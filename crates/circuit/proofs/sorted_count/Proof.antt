@@ -1,6 +1,5 @@
 -- `sorted_count` meets its contract: the table SORTED has the number of sorted operands of each kind, which is computed over the whole table.
 -- Assumes nothing.
-use Prim.Native.Nat.{ℕ}
 use native.Mathlib.Omega.{arith}
 use mathlib.Core.Path.{refl, sym, ap}
 use mathlib.Core.List.{[], _∷_}

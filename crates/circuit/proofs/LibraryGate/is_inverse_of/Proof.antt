@@ -1,8 +1,6 @@
 -- `is_inverse_of` meets its contract: the three tests are the definition's three parts. Assumes nothing.
 use mathlib.Core.Path.{_≡_, sym, ap, _∙_}
-use mathlib.Core.Bool.{not}
 use Prim.Native.Nat.{ℕ}
-use native.Mathlib.Omega.{arith}
 use borrow.Author.Needs.{needs}
 use borrow.Author.Tests.{eq-eqb, ne-eqb, not-true, not-false}
 use Rattle.circuit.specs.Kinds.{kindAt, number, isKind, dual}

@@ -6,14 +6,16 @@ use Prim.Native.Nat.{ℕ, _^_, _<_}
 use native.Mathlib.Omega.{arith}
 use native.Mathlib.Decide.{decLt}
 use borrow.Author.Tests.{eqb-true, eq-eqb}
-use lib.Dec.{eqb}
+use lib.Dec.{eqb, lit<}
 use lib.Bits.{bitAnd}
 use Rattle.ints.specs.Bits.{bit}
-use Rattle.ints.specs.Lists.{range, all, elem}
+use Rattle.ints.specs.Lists.{pick, range, all, elem}
 use Rattle.ints.proofs.Bools.{clash, iff, and-left, and-right, and-both, or-right, all-range, range-all}
 use Rattle.ints.proofs.Bits.{and-bit, or-bit, ext-bit, zero-bit, high-bit, pow-bit}
-use Rattle.circuit.specs.Sets.{subset}
+use Rattle.circuit.specs.Kinds.{kindAt, isKind}
+use Rattle.circuit.specs.Sets.{supported, member, subset}
 use Rattle.circuit.specs.Pairs.{maskOf}
+use Rattle.circuit.proofs.ByNumber.{kind-past}
 
 implied : (s t : Bool) → s && t ≡ s → not s || t ≡ true
 implied true t h = h
@@ -87,3 +89,26 @@ mask-apart ps qs = iff _ _
   where
     common : (q : ℕ) → elem q ps && elem q qs ≡ bit (bitAnd (maskOf ps) (maskOf qs)) q
     common q = (λ i. sym (mask-bit ps q) i && sym (mask-bit qs q) i) ∙ sym (and-bit (maskOf ps) (maskOf qs) q)
+
+-- ---- the supported set
+
+-- bit i is 1 exactly where i is one of the eleven kinds
+abbrev agree : ℕ → Bool
+agree i = pick (isKind (kindAt i)) (bit supported i) (not (bit supported i))
+
+tested : all agree (range 0 12) ≡ true
+unfolding all range bit isKind kindAt
+tested = refl
+
+agreed : (s t : Bool) → pick s t (not t) ≡ true → t ≡ s
+agreed true t h = h
+agreed false true h = sym h
+agreed false false h = refl
+
+pub supported-kinds : (i : ℕ) → member supported i ≡ isKind (kindAt i)
+unfolding isKind
+supported-kinds i = by (decLt i 12)
+  where
+    by : Dec (i < 12) → member supported i ≡ isKind (kindAt i)
+    by (yes l) = agreed (isKind (kindAt i)) (bit supported i) (all-range agree 12 0 tested i (omega arith) (omega arith))
+    by (no l) = high-bit supported 12 i (lit< tt) (omega arith) ∙ sym (ap isKind (kind-past i (omega arith)))

@@ -15,6 +15,6 @@ base = 383
 abbrev pub member : ℕ → ℕ → Bool
 member set i = bit set i
 
--- the set has no bit outside the other
+-- the set, of 32 bits, has no bit outside the other
 unfoldable pub subset : ℕ → ℕ → Bool
 subset set other = all (λ i. not (member set i) || member other i) (range 0 32)

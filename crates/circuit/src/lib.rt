@@ -1,9 +1,9 @@
-// Gate kinds, gate sets and gate codes. circuit.rs and murm.rs of the original: `GateKind`, `GateSet`, `LibraryGate`. A kind is its number in GateKind::ALL; what a kind has stands in one table each. A gate is its code,
-// kind * 4096 + a * 256 + b * 16 + c, and every 32-bit number is decided: what is no code is not valid.
+// Gate kinds, gate sets and gate codes. circuit.rs and murm.rs of the original: `GateKind`, `GateSet`, `LibraryGate`. A kind is its number
+// in GateKind::ALL; what a kind has stands in one table each. A gate is its code, kind * 4096 + a * 256 + b * 16 + c, and every 32-bit
+// number is decided: what is no code is not valid.
 ghost use mathlib.Core.Path.{_≡_};
-ghost use mathlib.Core.Bool.{Bool, not};
-ghost use Prim.Native.Nat.{_+_, _*_, _/_, _%_, _^_, _<_, _≤_};
-ghost use lib.Dec.{eqb, ltb};
+ghost use Prim.Native.Nat.{_^_, _<_, _≤_};
+ghost use lib.Dec.{eqb};
 ghost use Rattle.circuit.specs.Kinds.{kindAt, number, arity, sorted, isKind, dual};
 ghost use Rattle.circuit.specs.Sets.{supported, base, member, subset};
 ghost use Rattle.circuit.specs.Codes.{kindNumber, first, second, third, placed, ordered, valid, validFor};
@@ -13,7 +13,7 @@ ghost use Rattle.circuit.specs.Charge.{kindCharge, charge};
 // How many kinds the tables below have: H 0, X 1, Z 2, S 3, Sdg 4, T 5, Tdg 6, (Rz 7, not taken), Cx 8, Cz 9, Ccx 10, Ccz 11.
 const KINDS: u32 = 12;
 
-// The number of operands of each kind, 0 for none of the eleven.
+// The number of operands of each kind, 0 for what is none of the eleven.
 const ARITY: [u32; 12] = [1, 1, 1, 1, 1, 1, 1, 0, 2, 2, 3, 3];
 
 // How many of the first operands of each kind are in rising order.
@@ -25,7 +25,7 @@ const DUAL: [u32; 12] = [0, 1, 2, 4, 3, 6, 5, 7, 8, 9, 10, 11];
 // The T charge of each kind.
 const CHARGE: [usize; 12] = [0, 0, 0, 0, 0, 1, 1, 0, 0, 0, 0, 0];
 
-// How many operands a kind has; 0 for none of the eleven.
+// How many operands a kind has; 0 for what is none of the eleven.
 fn operand_count(kind: u32) -> u32
     ensures { λ r. ⌜ r ≡ arity (kindAt kind) ⌝ }
 {
@@ -51,7 +51,7 @@ fn is_kind(kind: u32) -> bool
     operand_count(kind) != 0
 }
 
-// The kind that undoes a kind, of those below 12.
+// The kind that undoes a kind; 7 for what is none of the eleven.
 fn dual_kind(kind: u32) -> u32
     ensures { λ r. ⌜ r ≡ number (dual (kindAt kind)) ⌝ }
 {
@@ -170,8 +170,6 @@ fn singleton(q: u32) -> u32
 pub struct GateSet(pub u32);
 
 impl GateSet {
-    pub const EMPTY: GateSet = GateSet(0);
-
     // The original's default base: H, X, Z, S, Sdg, T, Tdg, Cx.
     pub const BASE: GateSet = GateSet(383);
 
@@ -200,7 +198,7 @@ impl GateSet {
         self.0 == 0
     }
 
-    // The base, for those who choose none.
+    // The base as a value, with its number stated.
     pub fn default_base() -> GateSet
         ensures { λ r. ⌜ r .0 ≡ base ⌝ }
     {
@@ -292,7 +290,7 @@ impl LibraryGate {
         self.0 % 4096 == other.0 % 4096
     }
 
-    // The qubits as one set of bits.
+    // The qubits as one set of bits: bit q is qubit q.
     pub fn qubit_mask(self) -> u32
         ensures { λ r. ⌜ r ≡ maskOf (qubits (self .0)) ⌝ }
     {

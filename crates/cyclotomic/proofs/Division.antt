@@ -23,6 +23,11 @@ pub sqrt2-sub : (x y : Zω) → sqrt2 (subω x y) ≡ subω (sqrt2 x) (sqrt2 y)
 unfolding sqrt2 subω
 sqrt2-sub x y = same4 (of2 x y) (sqrt2E (subE X Y)) (subE (sqrt2E X) (sqrt2E Y)) tt
 
+-- √2 is omega − omega³
+pub sqrt2-is-sub : (x : Zω) → sqrt2 x ≡ subω (turn 1 x) (turn 3 x)
+unfolding sqrt2 subω turn
+sqrt2-is-sub x = same4 (of1 x) (sqrt2E X) (subE (turnE 1 X) (turnE 3 X)) tt
+
 pub sqrt2-zero : sqrt2 zeroω ≡ zeroω
 unfolding sqrt2 zeroω
 sqrt2-zero = refl

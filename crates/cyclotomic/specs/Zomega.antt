@@ -1,6 +1,6 @@
 -- Z[omega], the ring of the matrices' entries: a + b omega + c omega² + d omega³, with omega⁴ = −1. The coefficients here are integers
 -- of any size. The record is the struct `Cyclotomic`, whose fields a contract reads as integers; what fits in the struct is said apart.
--- The operations are shut names: proofs/ has their laws, and only the proofs of those laws open them. Assumes nothing.
+-- The operations are shut names: proofs/ has their laws, which the layers above use. Assumes nothing.
 use mathlib.Core.Bool.{Bool, true, false, _&&_}
 use Prim.Native.Nat.{ℕ, zero, suc, _+_, _*_, _%_, _≤_}
 use lib.IntN.{ℤ, pos, natAbs, negℤ, _+ℤ_, _-ℤ_, _*ℤ_}

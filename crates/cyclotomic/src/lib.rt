@@ -5,7 +5,7 @@ ghost use mathlib.Core.Path.{_≡_};
 ghost use Prim.Native.Nat.{_+_, _≤_};
 ghost use lib.IntN.{natAbs, negℤ, _+ℤ_, _-ℤ_};
 ghost use lib.Signed.{ltZ};
-ghost use Rattle.cyclotomic.specs.Zomega.{limit, mk, addω, subω, turn, sameParity, half, divisible, overSqrt2, eqZ, isZero, less, within, Small};
+ghost use Rattle.cyclotomic.specs.Zomega.{limit, mk, zeroω, oneω, addω, subω, turn, sameParity, half, divisible, overSqrt2, eqZ, isZero, less, within, Small};
 ghost use Rattle.cyclotomic.specs.Told.{told, checked};
 
 // A coefficient's type, and the type in which sums are formed.
@@ -40,7 +40,7 @@ fn negated(x: Coefficient) -> Coefficient
     requires { ⌜ natAbs x ≤ limit ⌝ }
     ensures { λ r. ⌜ r ≡ negℤ x ⌝ }
 {
-    -x
+    narrow_coefficient(-(x as Wide))
 }
 
 fn plus(x: Coefficient, y: Coefficient) -> Wide
@@ -87,7 +87,7 @@ fn halved(x: Wide) -> Coefficient
     requires { ⌜ natAbs x ≤ limit + limit ⌝ }
     ensures { λ r. ⌜ r ≡ half x ⌝ }
 {
-    (x / 2) as Coefficient
+    narrow_coefficient(x / 2)
 }
 
 fn narrowed(a: Wide, b: Wide, c: Wide, d: Wide) -> Checked
@@ -127,6 +127,19 @@ impl Cyclotomic {
         c: 0,
         d: 0,
     };
+
+    // The two constants, with what they are.
+    pub fn zero() -> Cyclotomic
+        ensures { λ r. ⌜ r ≡ zeroω ⌝ }
+    {
+        Cyclotomic::ZERO
+    }
+
+    pub fn one() -> Cyclotomic
+        ensures { λ r. ⌜ r ≡ oneω ⌝ }
+    {
+        Cyclotomic::ONE
+    }
 
     pub fn is_zero(self) -> bool
         ensures { λ r. ⌜ r ≡ isZero self ⌝ }

@@ -10,6 +10,10 @@ use Rattle.circuit.specs.Codes.{codeOf, validFor}
 abbrev pub most : ℕ
 most = 105
 
+-- the kinds below this number are tried: the last that a basis allows is Ccz, 11
+abbrev pub tried : ℕ
+tried = 12
+
 -- the code, if it is one of the basis at the width
 unfoldable pub kept : ℕ → ℕ → ℕ → List ℕ
 kept n basis g = pick (validFor n basis g) (g ∷ []) []
@@ -26,7 +30,7 @@ firsts n basis k = each (range 0 n) (λ a. seconds n basis k a)
 
 -- "The generators come in library_gates order: kinds rising, operands as the nested loops there run."
 unfoldable pub generators : ℕ → ℕ → List ℕ
-generators n basis = each (range 0 12) (λ k. firsts n basis k)
+generators n basis = each (range 0 tried) (λ k. firsts n basis k)
 
 -- the codes are those that are valid at the width and of a kind in the basis, each once, in rising order
 pub record Lists (n basis : ℕ) (codes : List ℕ) : Type 0 where

@@ -5,18 +5,18 @@ ghost use Prim.Native.Nat.{_+_, _<_, _≤_};
 ghost use lib.ListN.{length};
 ghost use lib.Seq.{sets};
 ghost use Rattle.circuit.specs.Codes.{codeOf};
-ghost use Rattle.generators.specs.Generators.{most, kept, thirds, seconds, firsts, generators, Lists};
+ghost use Rattle.generators.specs.Generators.{most, tried, kept, thirds, seconds, firsts, generators, Lists};
 use circuit::GateSet;
 use circuit::LibraryGate;
 
-// How many numbers stand for kinds: the last is Ccz, 11.
+// The kinds below this number are tried: the last that a basis allows is Ccz, 11.
 const KINDS: u32 = 12;
 
 // The most generators that a basis has at a width up to 5.
 pub const MOST: usize = 105;
 
 fn code_of(kind: u32, a: u32, b: u32, c: u32) -> u32
-    requires { ⌜ (kind < 12) × (a < 16) × (b < 16) × (c < 16) ⌝ }
+    requires { ⌜ (kind < tried) × (a < 16) × (b < 16) × (c < 16) ⌝ }
     ensures { λ r. ⌜ r ≡ codeOf kind a b c ⌝ }
 {
     kind * 4096 + a * 256 + b * 16 + c
@@ -44,7 +44,7 @@ fn push_thirds(
     gates: &mut [u32; MOST],
     count: usize,
 ) -> usize
-    requires { ⌜ (n < 16) × (kind < 12) × (a < n) × (b < n) × (count + length (thirds n basis kind a b) ≤ most) ⌝ }
+    requires { ⌜ (n < 16) × (kind < tried) × (a < n) × (b < n) × (count + length (thirds n basis kind a b) ≤ most) ⌝ }
     ensures next { λ r. ⌜ r ≡ count + length (thirds n basis kind a b) ⌝ }
     ensures written { λ r. ⌜ now (gates .exit) ≡ sets (now (gates .entry)) count (thirds n basis kind a b) ⌝ }
 {
@@ -65,7 +65,7 @@ fn push_seconds(
     gates: &mut [u32; MOST],
     count: usize,
 ) -> usize
-    requires { ⌜ (n < 16) × (kind < 12) × (a < n) × (count + length (seconds n basis kind a) ≤ most) ⌝ }
+    requires { ⌜ (n < 16) × (kind < tried) × (a < n) × (count + length (seconds n basis kind a) ≤ most) ⌝ }
     ensures next { λ r. ⌜ r ≡ count + length (seconds n basis kind a) ⌝ }
     ensures written { λ r. ⌜ now (gates .exit) ≡ sets (now (gates .entry)) count (seconds n basis kind a) ⌝ }
 {
@@ -79,7 +79,7 @@ fn push_seconds(
 }
 
 fn push_firsts(n: u32, basis: u32, kind: u32, gates: &mut [u32; MOST], count: usize) -> usize
-    requires { ⌜ (n < 16) × (kind < 12) × (count + length (firsts n basis kind) ≤ most) ⌝ }
+    requires { ⌜ (n < 16) × (kind < tried) × (count + length (firsts n basis kind) ≤ most) ⌝ }
     ensures next { λ r. ⌜ r ≡ count + length (firsts n basis kind) ⌝ }
     ensures written { λ r. ⌜ now (gates .exit) ≡ sets (now (gates .entry)) count (firsts n basis kind) ⌝ }
 {

@@ -1,1 +1,2 @@
-// The integers: identities by a normaliser, bounds through the naturals, and the range of a machine number. Laws only, no functions.
+// Laws only, no functions: the integers by a normaliser and through the naturals, the range of a machine number, numbers by their bits,
+// tests, tables, and lists as loops make them.

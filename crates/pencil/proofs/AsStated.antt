@@ -1,5 +1,6 @@
 -- The table's one lemma: every row computes to what document 01 states. Assumes nothing.
 use mathlib.Core.Path.{_≡_, refl}
+use mathlib.Core.List.{map}
 use Rattle.ints.specs.Bits.{bit}
 use Rattle.ints.specs.Lists.{range, each, all, elem, distinct}
 use Rattle.cyclotomic.specs.Zomega.{addω, subω, turn, divisible, overSqrt2, less, leastUpTo, fits}
@@ -7,8 +8,8 @@ use Rattle.cyclotomic.specs.Told.{checked}
 use Rattle.circuit.specs.Kinds.{kindAt, arity, sorted, isKind}
 use Rattle.circuit.specs.Codes.{placed, rises, valid, validFor}
 use Rattle.generators.specs.Generators.{kept, generators}
-use Rattle.pencil.specs.Cases.{computed, stated}
+use Rattle.pencil.specs.Cases.{Case, cases}
 
-pub as-stated : computed ≡ stated
+pub as-stated : map (λ (c : Case). c .computed) cases ≡ map (λ (c : Case). c .stated) cases
 unfolding bit range each all elem distinct addω subω turn divisible overSqrt2 less leastUpTo fits checked kindAt arity sorted isKind placed rises valid validFor kept generators
 as-stated = refl

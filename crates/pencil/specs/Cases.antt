@@ -1,4 +1,4 @@
--- Document 01's cases "checked by pencil (P: proved)", as one table: what the definitions give, row by row, and what the document states.
+-- Document 01's cases "checked by pencil (P: proved)", as one table: in each row what the definitions give, and what the document states.
 -- Rows on matrices join it where matrices are defined. Assumes nothing.
 use mathlib.Core.Bool.{Bool, true, false}
 use mathlib.Core.List.{List, [], _∷_}
@@ -11,63 +11,50 @@ use Rattle.circuit.specs.Sets.{supported}
 use Rattle.circuit.specs.Codes.{valid}
 use Rattle.generators.specs.Generators.{generators}
 
--- a row: an element, a test, a number, or an answer with its refusal's number
-pub data Row : Type 0 where
-  element : Zω → Row
-  test : Bool → Row
-  number : ℕ → Row
-  answer : Told → Row
+-- what a row speaks of: an element, a test, a number, or an answer with its refusal's number
+pub data Value : Type 0 where
+  element : Zω → Value
+  test : Bool → Value
+  number : ℕ → Value
+  answer : Told → Value
+
+-- a row: what is computed, what is stated
+pub record Case : Type 0 where
+  pub computed : Value
+  pub stated : Value
+
+infix 4 _is_
+abbrev _is_ : Value → Value → Case
+_is_ x y = record { computed = x; stated = y }
 
 -- a number as an element
 abbrev int : ℤ → Zω
 int z = mk z (pos 0) (pos 0) (pos 0)
 
-abbrev pub computed : List Row
-computed =
-    -- omega × (1,2,3,4); omega^4 × (1,-127,0,5)
-    element (turn 1 (mk (pos 1) (pos 2) (pos 3) (pos 4)))
-    ∷ element (turn 4 (mk (pos 1) (negsuc 126) (pos 0) (pos 5)))
-    -- (1,1,1,1) and (2,0,0,0) divide; (1,0,0,0) doesn't
-    ∷ test (divisible (mk (pos 1) (pos 1) (pos 1) (pos 1)))
-    ∷ element (overSqrt2 (mk (pos 1) (pos 1) (pos 1) (pos 1)))
-    ∷ test (divisible (int (pos 2)))
-    ∷ element (overSqrt2 (int (pos 2)))
-    ∷ test (divisible (int (pos 1)))
+abbrev pub cases : List Case
+cases =
+    -- omega × (1,2,3,4) = (-4,1,2,3); omega^4 × (1,-127,0,5) = (-1,127,0,-5)
+    (element (turn 1 (mk (pos 1) (pos 2) (pos 3) (pos 4))) is element (mk (negsuc 3) (pos 1) (pos 2) (pos 3)))
+    ∷ (element (turn 4 (mk (pos 1) (negsuc 126) (pos 0) (pos 5))) is element (mk (negsuc 0) (pos 127) (pos 0) (negsuc 4)))
+    -- (1,1,1,1) divides to (0,1,1,0); (2,0,0,0) to (0,1,0,-1); (1,0,0,0) doesn't divide
+    ∷ (test (divisible (mk (pos 1) (pos 1) (pos 1) (pos 1))) is test true)
+    ∷ (element (overSqrt2 (mk (pos 1) (pos 1) (pos 1) (pos 1))) is element (mk (pos 0) (pos 1) (pos 1) (pos 0)))
+    ∷ (test (divisible (int (pos 2))) is test true)
+    ∷ (element (overSqrt2 (int (pos 2))) is element (mk (pos 0) (pos 1) (pos 0) (negsuc 0)))
+    ∷ (test (divisible (int (pos 1))) is test false)
     -- 127 + 0 fits, 127 + 1 and -127 - 1 don't
-    ∷ answer (checked (addω (int (pos 127)) (int (pos 0))))
-    ∷ answer (checked (addω (int (pos 127)) (int (pos 1))))
-    ∷ answer (checked (subω (int (negsuc 126)) (int (pos 1))))
-    -- at width 2, 36880 is valid, 37120 is not
-    ∷ test (valid 2 36880)
-    ∷ test (valid 2 37120)
-    -- the pivot (1,0,0,0) has phase 4
-    ∷ number (phase (int (pos 1)))
-    -- the generators of basis 3967 at widths 1 to 5
-    ∷ number (length (generators 1 supported))
-    ∷ number (length (generators 2 supported))
-    ∷ number (length (generators 3 supported))
-    ∷ number (length (generators 4 supported))
-    ∷ number (length (generators 5 supported))
-    ∷ []
-
-abbrev pub stated : List Row
-stated =
-    element (mk (negsuc 3) (pos 1) (pos 2) (pos 3))
-    ∷ element (mk (negsuc 0) (pos 127) (pos 0) (negsuc 4))
-    ∷ test true
-    ∷ element (mk (pos 0) (pos 1) (pos 1) (pos 0))
-    ∷ test true
-    ∷ element (mk (pos 0) (pos 1) (pos 0) (negsuc 0))
-    ∷ test false
-    ∷ answer (entry (mk (pos 127) (pos 0) (pos 0) (pos 0)))
-    ∷ answer (refused 8)
-    ∷ answer (refused 8)
-    ∷ test true
-    ∷ test false
-    ∷ number 4
-    ∷ number 7
-    ∷ number 17
-    ∷ number 34
-    ∷ number 62
-    ∷ number 105
+    ∷ (answer (checked (addω (int (pos 127)) (int (pos 0)))) is answer (entry (int (pos 127))))
+    ∷ (answer (checked (addω (int (pos 127)) (int (pos 1)))) is answer (refused 8))
+    ∷ (answer (checked (subω (int (negsuc 126)) (int (pos 1)))) is answer (refused 8))
+    -- 36880 is valid at width 2, 37120 is not
+    ∷ (test (valid 2 36880) is test true)
+    ∷ (test (valid 2 37120) is test false)
+    -- pivot (1,0,0,0) has phase 4
+    ∷ (number (phase (int (pos 1))) is number 4)
+    -- basis 3967 has 7, 17, 34, 62, 105 generators at widths 1 to 5
+    ∷ (number (length (generators 1 supported)) is number 7)
+    ∷ (number (length (generators 2 supported)) is number 17)
+    ∷ (number (length (generators 3 supported)) is number 34)
+    ∷ (number (length (generators 4 supported)) is number 62)
+    ∷ (number (length (generators 5 supported)) is number 105)
     ∷ []

@@ -1,8 +1,9 @@
-// Prints what the port says of every gate code, pair of codes and basis, in the form of the recording of the original. `rt ci` compares
-// it with crates/replay/stdout, which oracle/record writes from the original itself.
+// Prints what the port says of every gate code, pair of codes and basis, in the form of the recording of the original. The gate compares
+// it with crates/replay/stdout, which oracle/record writes from the original itself; the first line is that recording's header.
 ghost use Prim.Native.Nat.{_≤_, _<_};
 use circuit::GateSet;
 use circuit::LibraryGate;
+use generators::MOST;
 use libc::STDOUT_FILENO;
 
 fn number(n: u32) {
@@ -40,7 +41,7 @@ fn codes_line(width: u32) {
     line_end();
 }
 
-// `valid N K` and the validity of the kind's codes, of which each step changes only used operands.
+// `valid N K` and the validity of every code of the kind whose unused operands are 0, one step apart.
 fn valid_line(width: u32, kind: u32, step: u32)
     requires { ⌜ (kind < 12) × (0 < step) × (step ≤ 256) ⌝ }
 {
@@ -83,7 +84,7 @@ fn valid_lines(width: u32) {
     }
 }
 
-fn qubits_lines(gates: &[u32; 105], count: usize)
+fn qubits_lines(gates: &[u32; MOST], count: usize)
     requires { ⌜ count ≤ 105 ⌝ }
 {
     let mut i: usize = 0;
@@ -119,7 +120,7 @@ fn mode_name(mode: u32) {
     io::write_all(STDOUT_FILENO, b"lower");
 }
 
-fn pair_line(mode: u32, g: u32, gates: &[u32; 105], count: usize)
+fn pair_line(mode: u32, g: u32, gates: &[u32; MOST], count: usize)
     requires { ⌜ count ≤ 105 ⌝ }
 {
     mode_name(mode);
@@ -133,7 +134,7 @@ fn pair_line(mode: u32, g: u32, gates: &[u32; 105], count: usize)
     line_end();
 }
 
-fn pair_lines(mode: u32, gates: &[u32; 105], count: usize)
+fn pair_lines(mode: u32, gates: &[u32; MOST], count: usize)
     requires { ⌜ count ≤ 105 ⌝ }
 {
     let mut i: usize = 0;
@@ -143,7 +144,7 @@ fn pair_lines(mode: u32, gates: &[u32; 105], count: usize)
     }
 }
 
-fn listed(gates: &[u32; 105], count: usize)
+fn listed(gates: &[u32; MOST], count: usize)
     requires { ⌜ count ≤ 105 ⌝ }
 {
     let mut i: usize = 0;
@@ -162,7 +163,7 @@ fn generators_line(width: u32, basis: u32)
     io::write_all(STDOUT_FILENO, b"generators");
     spaced(width);
     spaced(basis);
-    let mut gates = [0u32; 105];
+    let mut gates = [0u32; MOST];
     let count = generators::library_gates(width, GateSet(basis), &mut gates);
     listed(&gates, count);
     line_end();
@@ -209,7 +210,7 @@ fn main() {
     );
     codes_lines();
     all_valid_lines();
-    let mut gates = [0u32; 105];
+    let mut gates = [0u32; MOST];
     let count = generators::library_gates(5, GateSet::SUPPORTED, &mut gates);
     qubits_lines(&gates, count);
     pair_lines(0, &gates, count);

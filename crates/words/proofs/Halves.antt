@@ -1,7 +1,7 @@
 -- A product by halves of 32 bits, and a rotation as a sum of two parts.
 -- Assumes nothing.
 use mathlib.Core.Path.{_≡_, sym, _∙_, ap, subst}
-use Prim.Native.Nat.{ℕ, _+_, _*_, _/_, _%_, _^_, _-_, _<_, _≤_}
+use Prim.Native.Nat.{ℕ, _+_, _*_, _/_, _%_, _^_, _-_, _<_}
 use native.Mathlib.Nat.{le-of-lt, lt-of-le-of-lt, mul-le-mul-left, mul-lt-mul-of-pos-right, mul-div-cancel, mul-mod-left, add-zero, mul-comm, div-lt-iff-lt-mul, mul-one, mod-eq-of-lt, div-eq-of-lt}
 use native.Mathlib.Omega.{arith}
 use lib.Bits.{bitOr, or-shifted}
@@ -37,15 +37,18 @@ module _ (j k a : ℕ) (h : a < 2 ^ j * 2 ^ k) where
       ∙ or-shifted (a % 2 ^ j) k (a / 2 ^ j) (div-lt-iff-lt-mul (pow-pos j) .1 (subst (λ (n : ℕ). a < n) (mul-comm (2 ^ j) (2 ^ k)) h))
       ∙ ap (λ (n : ℕ). n + a / 2 ^ j) (sym moved)
 
--- the same for the 64 bits of a word
-pub rotate-word : (k a : ℕ) → k ≤ 64 → a < 2 ^ 64 → bitOr ((a * 2 ^ k) % 2 ^ 64) (a / 2 ^ (64 - k)) ≡ rotated k a
-unfolding rotated
-rotate-word k a h g =
-    let s : (64 - k) + k ≡ 64 = omega arith in
-    let e : 2 ^ (64 - k) * 2 ^ k ≡ 2 ^ 64 = sym (pow-add 2 (64 - k) k) ∙ ap (λ (n : ℕ). 2 ^ n) s in
-    subst (λ (m : ℕ). bitOr ((a * 2 ^ k) % m) (a / 2 ^ (64 - k)) ≡ (a * 2 ^ k) % m + a / 2 ^ (64 - k)) e
-    (rotate (64 - k) k a (subst (λ (m : ℕ). a < m) (sym e) g))
+-- the same for the 64 bits of a word, by any number of places
+module _ (k a : ℕ) (g : a < 2 ^ 64) where
+  pub rotate-word : bitOr ((a * 2 ^ (k % 64)) % 2 ^ 64) (a / 2 ^ (64 - k % 64)) ≡ rotated k a
+  unfolding rotated
+  rotate-word =
+      let j = k % 64 in
+      let s : (64 - j) + j ≡ 64 = omega arith in
+      let e : 2 ^ (64 - j) * 2 ^ j ≡ 2 ^ 64 = sym (pow-add 2 (64 - j) j) ∙ ap (λ (n : ℕ). 2 ^ n) s in
+      subst (λ (m : ℕ). bitOr ((a * 2 ^ j) % m) (a / 2 ^ (64 - j)) ≡ (a * 2 ^ j) % m + a / 2 ^ (64 - j)) e
+      (rotate (64 - j) j a (subst (λ (m : ℕ). a < m) (sym e) g))
 
-pub rotate-none : (a : ℕ) → a < 2 ^ 64 → a ≡ rotated 0 a
-unfolding rotated
-rotate-none a h = sym ((λ i. (ap (λ (n : ℕ). n % 2 ^ 64) (mul-one a) ∙ mod-eq-of-lt h) i + div-eq-of-lt h i) ∙ add-zero a)
+  pub rotate-none : k % 64 ≡ 0 → a ≡ rotated k a
+  unfolding rotated
+  rotate-none e =
+      rw e (sym ((λ i. (ap (λ (n : ℕ). n % 2 ^ 64) (mul-one a) ∙ mod-eq-of-lt g) i + div-eq-of-lt g i) ∙ add-zero a))

@@ -6,13 +6,13 @@ use lib.IntN.{ℤ, pos, negsuc}
 abbrev pub words : ℕ
 words = 2 ^ 64
 
--- "Sums and products drop what passes 64 bits."
+-- "products drop what passes 64 bits"
 unfoldable pub product : ℕ → ℕ → ℕ
 product a b = (a * b) % words
 
--- "rotated left": each bit k places up, the highest k to the low end
+-- "rotated left": each bit k places up, round the word
 unfoldable pub rotated : ℕ → ℕ → ℕ
-rotated k a = (a * 2 ^ k) % words + a / 2 ^ (64 - k)
+rotated k a = (a * 2 ^ (k % 64)) % words + a / 2 ^ (64 - k % 64)
 
 -- "sign-extended to 64 bits": an integer's remainder by 2^64
 unfoldable pub word : ℤ → ℕ

@@ -1,6 +1,5 @@
 // Words of 64 bits: products and rotations as the fingerprint's streams use them, and a coefficient as a word. Sums that wrap are std's.
 ghost use mathlib.Core.Path.{_≡_};
-ghost use Prim.Native.Nat.{_%_};
 ghost use Rattle.words.specs.Words.{product, rotated, word};
 use cyclotomic::Coefficient;
 
@@ -18,7 +17,7 @@ pub fn wrapping_mul(a: u64, b: u64) -> u64
 
 // The bits moved up by as many places, round the word.
 pub fn rotate_left(a: u64, places: u32) -> u64
-    ensures { λ r. ⌜ r ≡ rotated (places % 64) a ⌝ }
+    ensures { λ r. ⌜ r ≡ rotated places a ⌝ }
 {
     let up = places % 64;
     if up == 0 {

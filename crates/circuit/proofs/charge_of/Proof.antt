@@ -2,9 +2,9 @@
 -- Assumes nothing.
 use native.Mathlib.Omega.{arith}
 use mathlib.Core.Path.{refl, sym, ap}
-use mathlib.Core.List.{[], _∷_}
+use mathlib.Core.List.{map}
 use borrow.Author.Needs.{needs}
-use Rattle.circuit.specs.Kinds.{kindAt}
+use Rattle.circuit.specs.Kinds.{kinds, kindAt}
 use Rattle.circuit.specs.Charge.{kindCharge}
 use Rattle.ints.proofs.Tables.{at}
 use Rattle.circuit.proofs.ByNumber.{kind-past}
@@ -23,7 +23,7 @@ array-read-result c = search needs
 
 returns-2 : tie.Need-returns-2
 unfolding kindCharge kindAt
-returns-2 c = at (λ k. kindCharge (kindAt k)) (0 ∷ 0 ∷ 0 ∷ 0 ∷ 0 ∷ 1 ∷ 1 ∷ 0 ∷ 0 ∷ 0 ∷ 0 ∷ 0 ∷ []) refl (c .before .args .kind) (omega arith)
+returns-2 c = at (λ k. kindCharge (kindAt k)) (map kindCharge kinds) refl (c .before .args .kind) (omega arith)
 
 pub charge-of-spec : {M : Type 1} → statement M
 charge-of-spec = tie.close (tie.spec returns mul-result array-read-result returns-2)

@@ -2,9 +2,9 @@
 -- Assumes nothing.
 use native.Mathlib.Omega.{arith}
 use mathlib.Core.Path.{refl, sym, ap}
-use mathlib.Core.List.{[], _∷_}
+use mathlib.Core.List.{map}
 use borrow.Author.Needs.{needs}
-use Rattle.circuit.specs.Kinds.{Kind, number, dual, kindAt}
+use Rattle.circuit.specs.Kinds.{Kind, number, dual, kinds, kindAt}
 use Rattle.ints.proofs.Tables.{at}
 use Rattle.circuit.proofs.ByNumber.{kind-past}
 use Rattle.circuit.proofs.dual_kind.Statement.{statement}
@@ -22,7 +22,7 @@ array-read-result c = search needs
 
 returns-2 : tie.Need-returns-2
 unfolding number dual kindAt
-returns-2 c = at (λ k. number (dual (kindAt k))) (0 ∷ 1 ∷ 2 ∷ 4 ∷ 3 ∷ 6 ∷ 5 ∷ 7 ∷ 8 ∷ 9 ∷ 10 ∷ 11 ∷ []) refl (c .before .args .kind) (omega arith)
+returns-2 c = at (λ k. number (dual (kindAt k))) (map (λ k. number (dual k)) kinds) refl (c .before .args .kind) (omega arith)
 
 pub dual-kind-spec : {M : Type 1} → statement M
 dual-kind-spec = tie.close (tie.spec returns mul-result array-read-result returns-2)

@@ -2,9 +2,9 @@
 -- Assumes nothing.
 use native.Mathlib.Omega.{arith}
 use mathlib.Core.Path.{refl, sym, ap}
-use mathlib.Core.List.{[], _∷_}
+use mathlib.Core.List.{map}
 use borrow.Author.Needs.{needs}
-use Rattle.circuit.specs.Kinds.{arity, kindAt}
+use Rattle.circuit.specs.Kinds.{arity, kinds, kindAt}
 use Rattle.ints.proofs.Tables.{at}
 use Rattle.circuit.proofs.ByNumber.{kind-past}
 use Rattle.circuit.proofs.operand_count.Statement.{statement}
@@ -22,7 +22,7 @@ array-read-result c = search needs
 
 returns-2 : tie.Need-returns-2
 unfolding arity kindAt
-returns-2 c = at (λ k. arity (kindAt k)) (1 ∷ 1 ∷ 1 ∷ 1 ∷ 1 ∷ 1 ∷ 1 ∷ 0 ∷ 2 ∷ 2 ∷ 3 ∷ 3 ∷ []) refl (c .before .args .kind) (omega arith)
+returns-2 c = at (λ k. arity (kindAt k)) (map arity kinds) refl (c .before .args .kind) (omega arith)
 
 pub operand-count-spec : {M : Type 1} → statement M
 operand-count-spec = tie.close (tie.spec returns mul-result array-read-result returns-2)

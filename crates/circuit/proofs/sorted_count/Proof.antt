@@ -2,9 +2,9 @@
 -- Assumes nothing.
 use native.Mathlib.Omega.{arith}
 use mathlib.Core.Path.{refl, sym, ap}
-use mathlib.Core.List.{[], _∷_}
+use mathlib.Core.List.{map}
 use borrow.Author.Needs.{needs}
-use Rattle.circuit.specs.Kinds.{sorted, kindAt}
+use Rattle.circuit.specs.Kinds.{sorted, kinds, kindAt}
 use Rattle.ints.proofs.Tables.{at}
 use Rattle.circuit.proofs.ByNumber.{kind-past}
 use Rattle.circuit.proofs.sorted_count.Statement.{statement}
@@ -22,7 +22,7 @@ array-read-result c = search needs
 
 returns-2 : tie.Need-returns-2
 unfolding sorted kindAt
-returns-2 c = at (λ k. sorted (kindAt k)) (0 ∷ 0 ∷ 0 ∷ 0 ∷ 0 ∷ 0 ∷ 0 ∷ 0 ∷ 0 ∷ 2 ∷ 2 ∷ 3 ∷ []) refl (c .before .args .kind) (omega arith)
+returns-2 c = at (λ k. sorted (kindAt k)) (map sorted kinds) refl (c .before .args .kind) (omega arith)
 
 pub sorted-count-spec : {M : Type 1} → statement M
 sorted-count-spec = tie.close (tie.spec returns mul-result array-read-result returns-2)

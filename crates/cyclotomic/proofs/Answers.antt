@@ -1,15 +1,16 @@
 -- What a caller reads off an answer of the ring: a value is exact and small, a refusal is a coefficient past the limit, and the zero test.
 -- Assumes nothing.
-use mathlib.Core.Path.{_≡_, refl, ap}
+use mathlib.Core.Path.{_≡_, refl, sym, ap, _∙_}
 use mathlib.Core.Bool.{Bool, true, false, _&&_}
-use Prim.Native.Nat.{ℕ}
+use Prim.Native.Nat.{ℕ, _*_}
 use native.Mathlib.Omega.{arith}
 use lib.IntN.{ℤ, pos, negsuc, natAbs}
-use borrow.Author.Tests.{leb-true, le-leb, eqb-true}
+use borrow.Author.Tests.{leb-true, le-leb, eqb-true, eq-eqb}
 use Rattle.cyclotomic.specs.declared.Checked.the-variants.{Value, TooLarge}
-use Rattle.cyclotomic.specs.Zomega.{Zω, mk, limit, zeroω, eqZ, isZero, within, fits, Small}
+use Rattle.cyclotomic.specs.Zomega.{Zω, mk, limit, zeroω, turn, eqZ, isZero, within, fits, Small}
 use Rattle.cyclotomic.specs.Told.{entry, refused, doesNotFit, told, checked}
-use Rattle.ints.proofs.Bools.{clash, both-true}
+use Rattle.ints.proofs.Bools.{clash, both-true, iff}
+use Rattle.cyclotomic.proofs.Turns.{turn-back, turn-zero}
 
 -- four tests that all pass
 both4 : (p q r s : Bool) → p && q && r && s ≡ true → (p ≡ true) × (q ≡ true) × (r ≡ true) × (s ≡ true)
@@ -63,16 +64,32 @@ too-large x e = by (fits x) refl
     by true f = let g = checked-fits x f in let z : _≡_ {A = ℕ} 0 1 = cc in absurd (omega arith)
     by false f = f
 
-eqZ-zero : (z : ℤ) → eqZ z (pos 0) ≡ true → z ≡ pos 0
-eqZ-zero (pos n) h = ap pos (eqb-true n 0 h)
-eqZ-zero (negsuc n) h = clash h refl
+pub eqZ-true : (x y : ℤ) → eqZ x y ≡ true → x ≡ y
+eqZ-true (pos a) (pos b) h = ap pos (eqb-true a b h)
+eqZ-true (pos a) (negsuc b) h = clash h refl
+eqZ-true (negsuc a) (pos b) h = clash h refl
+eqZ-true (negsuc a) (negsuc b) h = ap negsuc (eqb-true a b h)
+
+pub eqZ-self : (x : ℤ) → eqZ x x ≡ true
+eqZ-self (pos a) = eq-eqb a a refl
+eqZ-self (negsuc a) = eq-eqb a a refl
 
 pub zero-yes : (x : Zω) → isZero x ≡ true → x ≡ zeroω
 unfolding isZero zeroω
 zero-yes x h =
     let t = both4 (eqZ (x .a) (pos 0)) (eqZ (x .b) (pos 0)) (eqZ (x .c) (pos 0)) (eqZ (x .d) (pos 0)) h in
-    λ i. mk (eqZ-zero (x .a) (t .0) i) (eqZ-zero (x .b) (t .1) i) (eqZ-zero (x .c) (t .2) i) (eqZ-zero (x .d) (t .3) i)
+    λ i. mk (eqZ-true (x .a) (pos 0) (t .0) i) (eqZ-true (x .b) (pos 0) (t .1) i) (eqZ-true (x .c) (pos 0) (t .2) i) (eqZ-true (x .d) (pos 0) (t .3) i)
 
 pub zero-no : (x : Zω) → isZero x ≡ false → x ≡ zeroω → ⊥
 unfolding isZero zeroω
 zero-no x h e = clash (ap isZero e) h
+
+pub zero-is : (x : Zω) → x ≡ zeroω → isZero x ≡ true
+unfolding isZero zeroω
+zero-is x e = ap isZero e
+
+pub zero-turn : (p : ℕ) (x : Zω) → isZero (turn p x) ≡ isZero x
+zero-turn p x =
+    iff (isZero (turn p x)) (isZero x)
+    (λ h. zero-is x (sym (turn-back p x) ∙ ap (turn (7 * p)) (zero-yes (turn p x) h) ∙ turn-zero (7 * p)))
+    (λ h. zero-is (turn p x) (ap (turn p) (zero-yes x h) ∙ turn-zero p))

@@ -21,7 +21,7 @@ use Rattle.cyclotomic.proofs.Division.{sqrt2-over}
 abbrev squaresE : Four → Ex
 squaresE x = x .a ⊗ x .a ⊕ x .b ⊗ x .b ⊕ x .c ⊗ x .c ⊕ x .d ⊗ x .d
 
-square-is : (z : ℤ) → z *ℤ z ≡ pos (square z)
+pub square-is : (z : ℤ) → z *ℤ z ≡ pos (square z)
 square-is (pos n) = refl
 square-is (negsuc n) = refl
 

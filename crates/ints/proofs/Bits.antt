@@ -94,7 +94,7 @@ zero-bit k = high-bit 0 0 k (lit< tt) (omega arith)
 
 -- ---- a power of two
 
-digit-own : (k : ℕ) → digit (2 ^ k) k ≡ 1
+pub digit-own : (k : ℕ) → digit (2 ^ k) k ≡ 1
 digit-own k = ap (λ (x : ℕ). x % 2) (ap (λ (x : ℕ). x / 2 ^ k) (sym (one-mul (2 ^ k))) ∙ shl-shr 1 k)
 
 digit-above : (j k : ℕ) → k < j → digit (2 ^ k) j ≡ 0
@@ -104,7 +104,7 @@ digit-below : (d j : ℕ) → digit (2 ^ (suc d + j)) j ≡ 0
 digit-below d j =
     ap (λ (x : ℕ). x % 2) (ap (λ (x : ℕ). x / 2 ^ j) (pow-add 2 (suc d) j) ∙ shl-shr (2 ^ suc d) j) ∙ omega (arith, pow-suc d)
 
-digit-other : (j k : ℕ) → (j ≡ k → ⊥) → digit (2 ^ k) j ≡ 0
+pub digit-other : (j k : ℕ) → (j ≡ k → ⊥) → digit (2 ^ k) j ≡ 0
 digit-other j k h = by (decLt k j)
   where
     by : Dec (k < j) → digit (2 ^ k) j ≡ 0

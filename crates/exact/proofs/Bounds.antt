@@ -1,0 +1,233 @@
+-- What unitarity bounds: each row's coefficient squares sum to 2^k, so that lists of few gates fit at every step, and an exponent past
+-- 65535 is never met. Assumes nothing.
+use mathlib.Core.Path.{_≡_, refl, sym, ap, _∙_}
+use mathlib.Core.Bool.{Bool, true, false, _&&_}
+use mathlib.Core.List.{List, [], _∷_}
+use Prim.Native.Nat.{ℕ, zero, suc, _+_, _*_, _^_, _≤_, _<_}
+use native.Mathlib.Omega.{arith}
+use native.Mathlib.Nat.{le-trans, lt-of-le-of-lt, mul-le-mul}
+use native.Mathlib.Decide.{ℕ-discrete, decLt}
+use lib.Dec.{leb}
+use lib.IntN.{natAbs}
+use lib.ListN.{length}
+use lib.Pow.{pow-pos, pow-mono}
+use borrow.Author.Tests.{leb-true, le-leb}
+use Rattle.ints.specs.Lists.{pick}
+use Rattle.ints.proofs.Int.{up}
+use Rattle.ints.proofs.Bools.{and-both, both-true}
+use Rattle.cyclotomic.specs.Zomega.{Zω, limit, mulω, overSqrt2, squares, fits}
+use Rattle.cyclotomic.proofs.Squares.{root, small-over}
+use Rattle.exact.specs.Matrix.{Exact, allEntries, allDivisible, lowered, lower}
+use Rattle.exact.specs.Rows.{Gate, raw, act, gateOf}
+use Rattle.exact.specs.Lists.{after, product}
+use Rattle.exact.specs.Fits.{mostK, stepFits, Steps, allFit, unfitAt, next, stepsFrom, steps, WithinBound, AllWithin}
+use Rattle.exact.specs.Unitary.{conj, inner, Unitary, total, RowLaw}
+use Rattle.exact.proofs.Linear.{raise-most}
+use Rattle.exact.proofs.Values.{pick-ind, entries-to, entries-from}
+use Rattle.exact.proofs.Coded.{proper}
+use Rattle.exact.proofs.Listed.{act-k, raw-k}
+use Rattle.exact.proofs.Conj.{own-first, sum-first}
+use Rattle.exact.proofs.Unitaries.{unitary-identity, unitary-raw, unitary-act, unitary-product, unitary-step}
+
+-- ---- totals
+
+total-least : (m : ℕ) (f : ℕ → ℕ) (c : ℕ) → c < m → f c ≤ total m f
+total-least zero f c h = absurd (omega arith)
+total-least (suc m) f c h = by (ℕ-discrete c m) (λ l. total-least m f c l)
+  where
+    by : Dec (c ≡ m) → (c < m → f c ≤ total m f) → f c ≤ total m f + f m
+    by (yes e) u = omega (arith, ap f e)
+    by (no n) u = let l = u (omega arith) in omega arith
+
+total-most : (m b : ℕ) (f : ℕ → ℕ) → ((c : ℕ) → c < m → f c ≤ b) → total m f ≤ m * b
+total-most zero b f h = omega arith
+total-most (suc m) b f h =
+    let t = total-most m b f (λ c l. h c (omega arith)) in
+    omega (arith, h m (omega arith))
+
+-- a square below (b + 1)² is that of a coefficient within b
+pub within-of : (b k : ℕ) (z : Zω) → 2 ^ k < suc b * suc b → squares z ≤ 2 ^ k → WithinBound b z
+unfolding squares
+within-of b k z h s = record {
+  a-in = root (natAbs (z .a)) b (omega arith);
+  b-in = root (natAbs (z .b)) b (omega arith);
+  c-in = root (natAbs (z .c)) b (omega arith);
+  d-in = root (natAbs (z .d)) b (omega arith);
+}
+
+-- ---- the row law
+
+module _ (n : ℕ) where
+  pub row-law : {x : Exact} → Unitary n x → RowLaw n x
+  unfolding inner
+  row-law {x} u = record {
+    sums = λ r h. ap up (sym (sum-first (2 ^ n) (λ c. mulω (x .e r c) (conj (x .e r c))) (λ c. squares (x .e r c)) (λ c l. own-first (x .e r c)))
+        ∙ ap (λ (z : Zω). z .a) (u .own r h));
+  }
+
+  pub entry-bound : {x : Exact} → RowLaw n x → (r c : ℕ) → r < 2 ^ n → c < 2 ^ n → squares (x .e r c) ≤ 2 ^ x .k
+  entry-bound {x} s r c p q = rw (s .sums r p) at (total-least (2 ^ n) (λ c. squares (x .e r c)) c q)
+
+  -- every coefficient is within b where the row's sum is below (b + 1)²
+  pub all-within : (b : ℕ) {x : Exact} → Unitary n x → 2 ^ x .k < suc b * suc b → AllWithin n b x
+  all-within b {x} u h = record { within = λ r c p q. within-of b (x .k) (x .e r c) h (entry-bound (row-law u) r c p q) }
+
+-- ---- tests
+
+within-fits : (z : Zω) → WithinBound limit z → fits z ≡ true
+unfolding fits
+within-fits z w =
+    rw (
+      le-leb (natAbs (z .a)) limit (w .a-in),
+      le-leb (natAbs (z .b)) limit (w .b-in),
+      le-leb (natAbs (z .c)) limit (w .c-in),
+      le-leb (natAbs (z .d)) limit (w .d-in),
+    )
+
+fits-within : (z : Zω) → fits z ≡ true → WithinBound limit z
+unfolding fits
+fits-within z h =
+    let a = leb (natAbs (z .a)) limit in
+    let b = leb (natAbs (z .b)) limit in
+    let c = leb (natAbs (z .c)) limit in
+    let d = leb (natAbs (z .d)) limit in
+    let abc = both-true (a && b && c) d h in
+    let ab = both-true (a && b) c (abc .0) in
+    let one = both-true a b (ab .0) in
+    record {
+      a-in = leb-true (natAbs (z .a)) limit (one .0);
+      b-in = leb-true (natAbs (z .b)) limit (one .1);
+      c-in = leb-true (natAbs (z .c)) limit (ab .1);
+      d-in = leb-true (natAbs (z .d)) limit (abc .1);
+    }
+
+within-over : (z : Zω) → WithinBound limit z → WithinBound limit (overSqrt2 z)
+within-over z w =
+    let s = small-over z (record { a-small = w .a-in; b-small = w .b-in; c-small = w .c-in; d-small = w .d-in }) in
+    record { a-in = s .a-small; b-in = s .b-small; c-in = s .c-small; d-in = s .d-small }
+
+within-squares : (b : ℕ) (z : Zω) → WithinBound b z → squares z ≤ 4 * (b * b)
+unfolding squares
+within-squares b z w =
+    omega (arith, mul-le-mul (w .a-in) (w .a-in), mul-le-mul (w .b-in) (w .b-in), mul-le-mul (w .c-in) (w .c-in), mul-le-mul (w .d-in) (w .d-in))
+
+both-fit : (b : Bool) (s : Steps) → pick b (next s) (unfitAt 0) ≡ allFit → (b ≡ true) × (s ≡ allFit)
+both-fit true allFit h = (refl, refl)
+both-fit true (unfitAt i) h = let z : _≡_ {A = ℕ} 0 1 = cc in absurd (omega arith)
+both-fit false s h = let z : _≡_ {A = ℕ} 0 1 = cc in absurd (omega arith)
+
+module _ (n : ℕ) where
+  -- a step fits where its coefficients are within the limit and the exponent is at most 65535
+  pub step-fits : (g : Gate) (x : Exact) → AllWithin n limit (raw g x) → raw g x .k ≤ mostK → stepFits n g x ≡ true
+  unfolding stepFits
+  step-fits g x w h =
+      and-both (leb (raw g x .k) mostK) (allEntries n (λ r c. fits (raw g x .e r c))) (le-leb (raw g x .k) mostK h)
+      (entries-from n (λ r c. fits (raw g x .e r c)) (λ r c p q. within-fits (raw g x .e r c) (w .within r c p q)))
+
+  pub fits-step : (g : Gate) (x : Exact) → stepFits n g x ≡ true → AllWithin n limit (raw g x)
+  unfolding stepFits
+  fits-step g x h =
+      let t = both-true (leb (raw g x .k) mostK) (allEntries n (λ r c. fits (raw g x .e r c))) h in
+      record { within = λ r c p q. fits-within (raw g x .e r c) (entries-to n (λ r c. fits (raw g x .e r c)) (t .1) r c p q) }
+
+  -- ---- the exponent is small where the coefficients are
+  pub exponent-most : (b : ℕ) {x : Exact} → Unitary n x → AllWithin n b x → 2 ^ x .k ≤ 2 ^ n * (4 * (b * b))
+  exponent-most b {x} u w =
+      rw (row-law n u .sums 0 (pow-pos n)) at (total-most (2 ^ n) (4 * (b * b)) (λ c. squares (x .e 0 c))
+      (λ c q. within-squares b (x .e 0 c) (w .within 0 c (pow-pos n) q)))
+
+  pub exponent-below : (b m : ℕ) {x : Exact} → Unitary n x → AllWithin n b x → 2 ^ n * (4 * (b * b)) < 2 ^ m → x .k < m
+  exponent-below b m {x} u w h = by (decLt (x .k) m)
+    where
+      by : Dec (x .k < m) → x .k < m
+      by (yes l) = l
+      by (no l) = let t : 2 ^ m ≤ 2 ^ x .k = pow-mono (omega arith) in absurd (omega (arith, exponent-most b u w))
+
+  -- 32 · 4 · 127² is below 2^21; the 40 leaves room for a limit of 32767
+  pub k-never : n ≤ 5 → {x : Exact} → Unitary n x → AllWithin n limit x → x .k < mostK
+  k-never h u w =
+      let t : 2 ^ n ≤ 2 ^ 5 = pow-mono h in
+      let k = exponent-below limit 40 u w (omega arith) in
+      omega arith
+
+  -- and so the exponent never decides whether a step fits
+  pub coefficients-decide : n ≤ 5 → {x : Exact} → Unitary n x → AllWithin n limit x → (g : Gate)
+      → stepFits n g x ≡ allEntries n (λ r c. fits (raw g x .e r c))
+  unfolding stepFits
+  coefficients-decide h {x} u w g =
+      let k = k-never h u w in
+      let r = raise-most g (x .k) in
+      rw (le-leb (raw g x .k) mostK (omega arith))
+
+  -- ---- lowering keeps coefficients within the limit
+  lowered-within : (k : ℕ) (e : ℕ → ℕ → Zω) → AllWithin n limit (record { k = k; e = e }) → AllWithin n limit (lowered n k e)
+  lowered-within zero e w = w
+  lowered-within (suc k) e w =
+      pick-ind (AllWithin n limit) (allDivisible n e)
+      (λ h. lowered-within k (λ r c. overSqrt2 (e r c)) (record { within = λ r c p q. within-over (e r c) (w .within r c p q) })) (λ h. w)
+
+  pub lower-within : {x : Exact} → AllWithin n limit x → AllWithin n limit (lower n x)
+  unfolding lower
+  lower-within {x} w = lowered-within (x .k) (x .e) w
+
+  -- ---- lists that fit at every step
+  after-within : (l : List ℕ) {x : Exact} → AllWithin n limit x → stepsFrom n x l ≡ allFit → AllWithin n limit (after n x l)
+  after-within [] w h = w
+  after-within (g ∷ l) {x} w h =
+      let t = both-fit (stepFits n (gateOf n g) x) (stepsFrom n (act n (gateOf n g) x) l) h in
+      after-within l (lower-within (fits-step (gateOf n g) x (t .0))) (t .1)
+
+  pub product-within : (l : List ℕ) → steps n l ≡ allFit → AllWithin n limit (product n l)
+  unfolding steps product
+  product-within l h = after-within l (all-within n limit (unitary-identity n) (omega arith)) h
+
+-- ---- lists of few gates
+
+pub below-square : (b G : ℕ) → 2 ^ G < b * b → 2 ^ G < suc b * suc b
+below-square b G h = omega arith
+
+module _ (n : ℕ) where
+  -- each row's squares sum to 2^k in every product and every raw step
+  pub row-product : (l : List ℕ) → RowLaw n (product n l)
+  row-product l = row-law n (unitary-product n l)
+
+  pub row-step : (g : ℕ) (l : List ℕ) → RowLaw n (raw (gateOf n g) (product n l))
+  row-step g l = row-law n (unitary-step n g l)
+
+  -- every raw step of a list of at most G gates
+  pub steps-within : (b G : ℕ) → 2 ^ G < suc b * suc b → (g : ℕ) (l : List ℕ) → length l < G
+      → AllWithin n b (raw (gateOf n g) (product n l)) × (raw (gateOf n g) (product n l) .k ≤ G)
+  steps-within b G s g l h =
+      let k : raw (gateOf n g) (product n l) .k ≤ G = le-trans (raw-k n (gateOf n g) l) h in
+      (all-within n b (unitary-step n g l) (lt-of-le-of-lt (pow-mono k) s), k)
+
+  steps-fit-from : (G : ℕ) → 2 ^ G < suc limit * suc limit → G ≤ mostK → (l : List ℕ) {x : Exact}
+      → Unitary n x → x .k + length l ≤ G → stepsFrom n x l ≡ allFit
+  steps-fit-from G s m [] u h = refl
+  steps-fit-from G s m (g ∷ l) {x} u h =
+      let r = raise-most (gateOf n g) (x .k) in
+      let a = act-k n (gateOf n g) x in
+      let k : raw (gateOf n g) x .k ≤ G = omega arith in
+      let w = all-within n limit (unitary-raw n (gateOf n g) (proper n g) u) (lt-of-le-of-lt (pow-mono k) s) in
+      rw (step-fits n (gateOf n g) x w (le-trans k m))
+      (ap next (steps-fit-from G s m l (unitary-act n (gateOf n g) (proper n g) u) (omega arith)))
+
+  -- every list of at most G codes fits at every step
+  pub steps-fit : (G : ℕ) → 2 ^ G < suc limit * suc limit → G ≤ mostK → (l : List ℕ) → length l ≤ G → steps n l ≡ allFit
+  unfolding steps
+  steps-fit G s m l h = steps-fit-from G s m l (unitary-identity n) (omega arith)
+
+  -- 2^13 is below 127², and 2^29 below 32767²
+  pub thirteen : (l : List ℕ) → length l ≤ 13 → steps n l ≡ allFit
+  thirteen = steps-fit 13 (below-square limit 13 (omega arith)) (omega arith)
+
+  pub twenty-nine : (g : ℕ) (l : List ℕ) → length l < 29
+      → AllWithin n 32767 (raw (gateOf n g) (product n l)) × (raw (gateOf n g) (product n l) .k ≤ 29)
+  twenty-nine = steps-within 32767 29 (below-square 32767 29 (omega arith))
+
+  -- "k past 65535" is never met on lists from the identity
+  pub k-never-met : n ≤ 5 → (l : List ℕ) → steps n l ≡ allFit → (g : ℕ) → raw (gateOf n g) (product n l) .k ≤ mostK
+  k-never-met h l e g =
+      let k = k-never n h (unitary-product n l) (product-within n l e) in
+      let r = raise-most (gateOf n g) (product n l .k) in
+      omega arith

@@ -1,0 +1,14 @@
+pub mod Flips
+pub mod Values
+pub mod Linear
+pub mod Acts
+pub mod Coded
+pub mod Listed
+pub mod Terms
+pub mod Papers
+pub mod Agree
+pub mod Conj
+pub mod Unitaries
+pub mod Bounds
+pub mod Phases
+pub mod Prints

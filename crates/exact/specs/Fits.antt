@@ -1,0 +1,44 @@
+-- What fits: a step's raw result within a limit, and the first step of a list that does not. Assumes nothing.
+use mathlib.Core.Bool.{Bool, _&&_}
+use mathlib.Core.List.{List, [], _∷_}
+use Prim.Native.Nat.{ℕ, suc, _^_, _≤_, _<_}
+use lib.IntN.{natAbs}
+use lib.Dec.{leb}
+use Rattle.ints.specs.Lists.{pick}
+use Rattle.cyclotomic.specs.Zomega.{Zω, fits}
+use Rattle.exact.specs.Matrix.{Exact, allEntries, identity}
+use Rattle.exact.specs.Rows.{Gate, raw, act, gateOf}
+
+-- the largest exponent: "or k past 65535"
+abbrev pub mostK : ℕ
+mostK = 65535
+
+-- "a result past 127 either way, or k past 65535, is 'does not fit'": the raw row operation, before lowering
+unfoldable pub stepFits : ℕ → Gate → Exact → Bool
+stepFits n g x = leb (raw g x .k) mostK && allEntries n (λ r c. fits (raw g x .e r c))
+
+-- whether every step of a list fits, or the position of the first that does not
+pub data Steps : Type 0 where
+  allFit : Steps
+  unfitAt : ℕ → Steps
+
+abbrev pub next : Steps → Steps
+next allFit = allFit
+next (unfitAt i) = unfitAt (suc i)
+
+abbrev pub stepsFrom : ℕ → Exact → List ℕ → Steps
+stepsFrom n x [] = allFit
+stepsFrom n x (g ∷ l) = pick (stepFits n (gateOf n g) x) (next (stepsFrom n (act n (gateOf n g) x) l)) (unfitAt 0)
+
+unfoldable pub steps : ℕ → List ℕ → Steps
+steps n l = stepsFrom n identity l
+
+-- every coefficient is within a bound
+pub record WithinBound (bound : ℕ) (z : Zω) : Type 0 where
+  pub a-in : natAbs (z .a) ≤ bound
+  pub b-in : natAbs (z .b) ≤ bound
+  pub c-in : natAbs (z .c) ≤ bound
+  pub d-in : natAbs (z .d) ≤ bound
+
+pub record AllWithin (n bound : ℕ) (x : Exact) : Type 0 where
+  pub within : (r c : ℕ) → r < 2 ^ n → c < 2 ^ n → WithinBound bound (x .e r c)

@@ -1,0 +1,89 @@
+-- The gates as Giles and Selinger have them: matrices by their entries, and the product of matrices as a finite sum. Assumes nothing.
+use mathlib.Core.Bool.{Bool, true, false, _&&_, _||_}
+use mathlib.Core.List.{List, [], _∷_}
+use Prim.Native.Nat.{ℕ, zero, suc, _+_, _^_}
+use lib.Dec.{eqb}
+use Rattle.ints.specs.Bits.{bit}
+use Rattle.ints.specs.Lists.{pick}
+use Rattle.cyclotomic.specs.Zomega.{Zω, zeroω, oneω, addω, mulω, turn}
+use Rattle.circuit.specs.Kinds.{Kind, H, X, Z, S, Sdg, T, Tdg, Cx, Cz, Ccx, Ccz, Other}
+use Rattle.circuit.specs.Codes.{kindOf, first, second, third, valid}
+use Rattle.exact.specs.Matrix.{Exact, sqrt2s, identity}
+use Rattle.exact.specs.Rows.{flip, ones, bitOf}
+
+-- a gate on one qubit: 2 × 2 entries, by the row's and the column's bit, over √2 to the k
+pub record Single : Type 0 where
+  pub k : ℕ
+  pub u : Bool → Bool → Zω
+
+-- H = 1/√2 (1 1; 1 -1)
+abbrev pub hadamard : Single
+hadamard = record { k = 1; u = λ i j. pick (i && j) (turn 4 oneω) oneω }
+
+-- X = (0 1; 1 0)
+abbrev pub swap : Bool → Bool → Zω
+swap true true = zeroω
+swap true false = oneω
+swap false true = oneω
+swap false false = zeroω
+
+abbrev pub pauliX : Single
+pauliX = record { k = 0; u = swap }
+
+-- (1 0; 0 omega^p): T by 1, S by 2, Z by 4, Sdg by 6, Tdg by 7
+abbrev pub diagonal : ℕ → Bool → Bool → Zω
+diagonal p true true = turn p oneω
+diagonal p true false = zeroω
+diagonal p false true = zeroω
+diagonal p false false = oneω
+
+abbrev pub phaseGate : ℕ → Single
+phaseGate p = record { k = 0; u = diagonal p }
+
+-- the rows r and s agree on all bits but t
+abbrev pub agree : ℕ → ℕ → ℕ → Bool
+agree t r s = eqb s r || eqb s (flip t r)
+
+-- a gate on bit t, controlled by the bits ks: where row and column agree on all other bits, the gate's entry if the controls are 1, and
+-- the identity's, at the gate's denominator, if not
+unfoldable pub controlled : Single → List ℕ → ℕ → ℕ → ℕ → Zω
+controlled g ks t r s =
+    pick (agree t r s) (pick (ones ks r) (g .u (bit r t) (bit s t)) (pick (eqb s r) (sqrt2s (g .k) oneω) zeroω)) zeroω
+
+abbrev pub matrixOf : Single → List ℕ → ℕ → Exact
+matrixOf g ks t = record { k = g .k; e = controlled g ks t }
+
+-- the matrix of each kind: the last operand is the target, the others are controls
+abbrev pub paperGate : ℕ → Kind → ℕ → ℕ → ℕ → Exact
+paperGate n H a b c = matrixOf hadamard [] (bitOf n a)
+paperGate n X a b c = matrixOf pauliX [] (bitOf n a)
+paperGate n Z a b c = matrixOf (phaseGate 4) [] (bitOf n a)
+paperGate n S a b c = matrixOf (phaseGate 2) [] (bitOf n a)
+paperGate n Sdg a b c = matrixOf (phaseGate 6) [] (bitOf n a)
+paperGate n T a b c = matrixOf (phaseGate 1) [] (bitOf n a)
+paperGate n Tdg a b c = matrixOf (phaseGate 7) [] (bitOf n a)
+paperGate n Cx a b c = matrixOf pauliX (bitOf n a ∷ []) (bitOf n b)
+paperGate n Cz a b c = matrixOf (phaseGate 4) (bitOf n a ∷ []) (bitOf n b)
+paperGate n Ccx a b c = matrixOf pauliX (bitOf n a ∷ bitOf n b ∷ []) (bitOf n c)
+paperGate n Ccz a b c = matrixOf (phaseGate 4) (bitOf n a ∷ bitOf n b ∷ []) (bitOf n c)
+paperGate n Other a b c = identity
+
+unfoldable pub paperOf : ℕ → ℕ → Exact
+paperOf n g = pick (valid n g) (paperGate n (kindOf g) (first g) (second g) (third g)) identity
+
+-- the sum of f s for s below m
+abbrev pub sumω : ℕ → (ℕ → Zω) → Zω
+sumω zero f = zeroω
+sumω (suc m) f = addω (sumω m f) (f m)
+
+-- the product of two matrices of width n
+abbrev pub multiply : ℕ → Exact → Exact → Exact
+multiply n x y = record { k = x .k + y .k; e = λ r c. sumω (2 ^ n) (λ s. mulω (x .e r s) (y .e s c)) }
+
+-- the paper's product of a list, oldest gate first in the list, newest on the left in the product
+abbrev pub paperAfter : ℕ → Exact → List ℕ → Exact
+paperAfter n x [] = x
+paperAfter n x (g ∷ l) = paperAfter n (multiply n (paperOf n g) x) l
+
+abbrev pub paperProduct : ℕ → List ℕ → Exact
+paperProduct n l = paperAfter n identity l

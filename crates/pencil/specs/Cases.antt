@@ -1,8 +1,8 @@
 -- Document 01's cases "checked by pencil (P: proved)", as one table: in each row what the definitions give, and what the document states.
--- Rows on matrices join it where matrices are defined. Assumes nothing.
+-- Assumes nothing.
 use mathlib.Core.Bool.{Bool, true, false}
 use mathlib.Core.List.{List, [], _∷_}
-use Prim.Native.Nat.{ℕ}
+use Prim.Native.Nat.{ℕ, zero, suc, _*_, _^_}
 use lib.IntN.{ℤ, pos, negsuc}
 use lib.ListN.{length}
 use Rattle.cyclotomic.specs.Zomega.{Zω, mk, addω, subω, turn, divisible, overSqrt2, phase}
@@ -10,13 +10,17 @@ use Rattle.cyclotomic.specs.Told.{Told, entry, refused, checked}
 use Rattle.circuit.specs.Sets.{supported}
 use Rattle.circuit.specs.Codes.{valid}
 use Rattle.generators.specs.Generators.{generators}
+use Rattle.exact.specs.Matrix.{Exact}
+use Rattle.exact.specs.Lists.{product}
+use Rattle.exact.specs.Phase.{flat, phaseOf}
 
--- what a row speaks of: an element, a test, a number, or an answer with its refusal's number
+-- what a row speaks of: an element, a test, a number, an answer with its refusal's number, or a matrix: its exponent and its entries
 pub data Value : Type 0 where
   element : Zω → Value
   test : Bool → Value
   number : ℕ → Value
   answer : Told → Value
+  matrix : ℕ → List Zω → Value
 
 -- a row: what is computed, what is stated
 pub record Case : Type 0 where
@@ -30,6 +34,18 @@ _is_ x y = record { computed = x; stated = y }
 -- a number as an element
 abbrev int : ℤ → Zω
 int z = mk z (pos 0) (pos 0) (pos 0)
+
+-- m entries in row-major order
+abbrev listing : ℕ → (ℕ → Zω) → List Zω
+listing zero f = []
+listing (suc m) f = f 0 ∷ listing m (λ i. f (suc i))
+
+abbrev shown : ℕ → Exact → Value
+shown n x = matrix (x .k) (listing (2 ^ n * 2 ^ n) (flat n (x .e)))
+
+-- four numbers as entries
+abbrev row : ℤ → ℤ → ℤ → ℤ → List Zω → List Zω
+row a b c d l = int a ∷ int b ∷ int c ∷ int d ∷ l
 
 abbrev pub cases : List Case
 cases =
@@ -46,11 +62,18 @@ cases =
     ∷ (answer (checked (addω (int (pos 127)) (int (pos 0)))) is answer (entry (int (pos 127))))
     ∷ (answer (checked (addω (int (pos 127)) (int (pos 1)))) is answer (refused 8))
     ∷ (answer (checked (subω (int (negsuc 126)) (int (pos 1)))) is answer (refused 8))
+    -- width 1, list 0 (H): k 1, entries 1, 1, 1, -1. List 0 0: identity, k 0
+    ∷ (shown 1 (product 1 (0 ∷ [])) is matrix 1 (row (pos 1) (pos 1) (pos 1) (negsuc 0) []))
+    ∷ (shown 1 (product 1 (0 ∷ 0 ∷ [])) is matrix 0 (row (pos 1) (pos 0) (pos 0) (pos 1) []))
+    -- 32784 at width 2 exchanges rows 2 and 3
+    ∷ (shown 2 (product 2 (32784 ∷ []))
+    is matrix 0 (row (pos 1) (pos 0) (pos 0) (pos 0) (row (pos 0) (pos 1) (pos 0) (pos 0) (row (pos 0) (pos 0) (pos 0) (pos 1) (row (pos 0) (pos 0) (pos 1) (pos 0) [])))))
     -- 36880 is valid at width 2, 37120 is not
     ∷ (test (valid 2 36880) is test true)
     ∷ (test (valid 2 37120) is test false)
     -- pivot (1,0,0,0) has phase 4
     ∷ (number (phase (int (pos 1))) is number 4)
+    ∷ (number (phaseOf 1 (product 1 [])) is number 4)
     -- basis 3967 has 7, 17, 34, 62, 105 generators at widths 1 to 5
     ∷ (number (length (generators 1 supported)) is number 7)
     ∷ (number (length (generators 2 supported)) is number 17)

@@ -91,6 +91,10 @@ eqZ (pos a) (ℤ.negsuc b) = false
 eqZ (ℤ.negsuc a) (pos b) = false
 eqZ (ℤ.negsuc a) (ℤ.negsuc b) = eqb a b
 
+-- two entries are the same
+unfoldable pub eqω : Zω → Zω → Bool
+eqω x y = eqZ (x .a) (y .a) && (eqZ (x .b) (y .b) && (eqZ (x .c) (y .c) && eqZ (x .d) (y .d)))
+
 unfoldable pub isZero : Zω → Bool
 isZero x = eqZ (x .a) (pos 0) && eqZ (x .b) (pos 0) && eqZ (x .c) (pos 0) && eqZ (x .d) (pos 0)
 

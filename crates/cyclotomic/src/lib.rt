@@ -5,7 +5,7 @@ ghost use mathlib.Core.Path.{_≡_};
 ghost use Prim.Native.Nat.{_+_, _≤_};
 ghost use lib.IntN.{natAbs, negℤ, _+ℤ_, _-ℤ_};
 ghost use lib.Signed.{ltZ};
-ghost use Rattle.cyclotomic.specs.Zomega.{limit, mk, zeroω, oneω, addω, subω, turn, sameParity, half, divisible, overSqrt2, eqZ, isZero, less, within, Small};
+ghost use Rattle.cyclotomic.specs.Zomega.{limit, mk, zeroω, oneω, addω, subω, turn, sameParity, half, divisible, overSqrt2, eqZ, eqω, isZero, less, within, Small};
 ghost use Rattle.cyclotomic.specs.Told.{told, checked};
 
 // A coefficient's type, and the type in which sums are formed.
@@ -154,6 +154,22 @@ impl Cyclotomic {
             return false;
         }
         same(self.d, 0)
+    }
+
+    // Whether the two are the same.
+    pub fn equals(self, rhs: Cyclotomic) -> bool
+        ensures { λ r. ⌜ r ≡ eqω self rhs ⌝ }
+    {
+        if !same(self.a, rhs.a) {
+            return false;
+        }
+        if !same(self.b, rhs.b) {
+            return false;
+        }
+        if !same(self.c, rhs.c) {
+            return false;
+        }
+        same(self.d, rhs.d)
     }
 
     // The sum, unless a coefficient of it passes the limit.

@@ -11,13 +11,13 @@ use lib.Dec.{eqb}
 use lib.Pow.{pow-pos, high, low}
 use Rattle.ints.specs.Lists.{pick}
 use Rattle.ints.proofs.Bools.{both-true, and-both}
-use Rattle.cyclotomic.specs.Zomega.{Zω, mk, zeroω, turn, eqZ, isZero, less, leastUpTo, phase}
+use Rattle.cyclotomic.specs.Zomega.{eqω, Zω, mk, zeroω, turn, eqZ, isZero, less, leastUpTo, phase}
 use Rattle.cyclotomic.proofs.Turns.{turn-sum, turn-back, turn-zero}
 use Rattle.cyclotomic.proofs.Order
 use Rattle.cyclotomic.proofs.Order.{phase-below, phase-unique, phase-turn}
 use Rattle.cyclotomic.proofs.Answers.{eqZ-true, eqZ-self, zero-yes, zero-no, zero-is, zero-turn}
 use Rattle.exact.specs.Matrix.{Exact, Equal, Lowest, allEntries, turned, PowerOf}
-use Rattle.exact.specs.Phase.{flat, firstNonzero, pivot, phaseOf, phased, eqω, upToPhase}
+use Rattle.exact.specs.Phase.{flat, firstNonzero, pivot, phaseOf, phased, upToPhase}
 use Rattle.exact.proofs.Values.{entries-to, entries-from, equal-refl, equal-sym, equal-trans, equal-same, unique, turned-lowest}
 
 -- ---- tests of entries
@@ -85,16 +85,16 @@ phase-zero = refl
 module _ (n : ℕ) where
   -- ---- entries by row and column, and by their place
 
-  row-lt : (i : ℕ) → i < 2 ^ n * 2 ^ n → i / 2 ^ n < 2 ^ n
+  pub row-lt : (i : ℕ) → i < 2 ^ n * 2 ^ n → i / 2 ^ n < 2 ^ n
   row-lt i h = div-lt-iff-lt-mul (pow-pos n) .1 h
 
-  col-lt : (i : ℕ) → i % 2 ^ n < 2 ^ n
+  pub col-lt : (i : ℕ) → i % 2 ^ n < 2 ^ n
   col-lt i = mod-lt i (pow-pos n)
 
   at-flat : (e : ℕ → ℕ → Zω) (r c : ℕ) → c < 2 ^ n → flat n e (r * 2 ^ n + c) ≡ e r c
   at-flat e r c h = λ i. e (high r n h i) (low r n h i)
 
-  flat-lt : (r c : ℕ) → r < 2 ^ n → c < 2 ^ n → r * 2 ^ n + c < 2 ^ n * 2 ^ n
+  pub flat-lt : (r c : ℕ) → r < 2 ^ n → c < 2 ^ n → r * 2 ^ n + c < 2 ^ n * 2 ^ n
   flat-lt r c p q = let m : suc r * 2 ^ n ≤ 2 ^ n * 2 ^ n = mul-le-mul-right (2 ^ n) p in omega (arith, suc-mul r (2 ^ n))
 
   pub flat-equal : {x y : Exact} → Equal n x y → (i : ℕ) → i < 2 ^ n * 2 ^ n → flat n (x .e) i ≡ flat n (y .e) i

@@ -14,7 +14,7 @@ use Rattle.exact.specs.Phase.{flat, phased, upToPhase}
 use Rattle.exact.specs.Fingerprint.{Streams, start, mixAll, xorShift, fold, coefficients, wordsOf, fingerprint}
 use Rattle.exact.proofs.Phases.{flat-equal, phased-equal, test-phased, test-of-power}
 
-words-same : (m : ℕ) (f g : ℕ → Zω) → ((i : ℕ) → i < m → f i ≡ g i) → wordsOf m f ≡ wordsOf m g
+pub words-same : (m : ℕ) (f g : ℕ → Zω) → ((i : ℕ) → i < m → f i ≡ g i) → wordsOf m f ≡ wordsOf m g
 words-same zero f g h = refl
 words-same (suc m) f g h =
     λ i. coefficients (h 0 (omega arith) i) ++ words-same m (λ j. f (suc j)) (λ j. g (suc j)) (λ j q. h (suc j) (omega arith)) i

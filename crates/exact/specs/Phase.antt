@@ -3,7 +3,7 @@ use mathlib.Core.Bool.{Bool, _&&_}
 use Prim.Native.Nat.{ℕ, zero, suc, _*_, _^_, _/_, _%_}
 use lib.Dec.{eqb}
 use Rattle.ints.specs.Lists.{pick}
-use Rattle.cyclotomic.specs.Zomega.{Zω, zeroω, eqZ, isZero, phase}
+use Rattle.cyclotomic.specs.Zomega.{Zω, zeroω, eqω, isZero, phase}
 use Rattle.exact.specs.Matrix.{Exact, allEntries, turned}
 
 -- entry i in row-major order
@@ -27,9 +27,6 @@ phaseOf n x = phase (pivot n x)
 -- the matrix after its own phase
 abbrev pub phased : ℕ → Exact → Exact
 phased n x = turned (phaseOf n x) x
-
-unfoldable pub eqω : Zω → Zω → Bool
-eqω x y = eqZ (x .a) (y .a) && (eqZ (x .b) (y .b) && (eqZ (x .c) (y .c) && eqZ (x .d) (y .d)))
 
 -- "Equal up to phase: same width, same k, same entries after each one's own phase." The widths are n
 unfoldable pub upToPhase : ℕ → Exact → Exact → Bool

@@ -1,0 +1,53 @@
+// How 4,096 signed places hold a matrix of width up to 5: four for each entry, row-major. Reading and storing an entry.
+ghost use mathlib.Core.Path.{_≡_};
+ghost use Prim.Native.Nat.{_*_, _^_, _<_, _≤_};
+ghost use Rattle.places.specs.Places.{entry, put};
+use cyclotomic::Coefficient;
+use cyclotomic::Cyclotomic;
+
+// How many rows a matrix of width n has.
+pub fn dim(n: usize) -> usize
+    requires { ⌜ n ≤ 5 ⌝ }
+    ensures { λ r. ⌜ r ≡ 2 ^ n ⌝ }
+{
+    1 << n
+}
+
+// How many entries.
+pub fn area(n: usize) -> usize
+    requires { ⌜ n ≤ 5 ⌝ }
+    ensures { λ r. ⌜ r ≡ 2 ^ n * 2 ^ n ⌝ }
+{
+    let d = dim(n);
+    d * d
+}
+
+// The entry at a place, counted in entries.
+pub fn get(m: &[Coefficient; 4096], e: usize) -> Cyclotomic
+    requires { ⌜ e < 1024 ⌝ }
+    ensures { λ r. ⌜ r ≡ entry (now (m .entry)) e ⌝ }
+{
+    let i = 4 * e;
+    Cyclotomic {
+        a: m[i],
+        b: m[i + 1],
+        c: m[i + 2],
+        d: m[i + 3],
+    }
+}
+
+// Stores an entry.
+pub fn put_at(m: &mut [Coefficient; 4096], e: usize, z: Cyclotomic)
+    requires { ⌜ e < 1024 ⌝ }
+    ensures { λ _. ⌜ now (m .exit) ≡ put (now (m .entry)) e z ⌝ }
+{
+    let i = 4 * e;
+    let a = z.a;
+    let b = z.b;
+    let c = z.c;
+    let d = z.d;
+    m[i] = a;
+    m[i + 1] = b;
+    m[i + 2] = c;
+    m[i + 3] = d;
+}

@@ -1,0 +1,154 @@
+// The phase of a matrix, equality up to phase, and the fingerprint. matrix.rs of the original: `canonical_phase_power`,
+// `equivalent_up_to_global_phase`, `unitary_fingerprint`. Entries are turned one by one on the way, and nothing is copied.
+ghost use mathlib.Core.Path.{_≡_};
+ghost use Prim.Native.Nat.{_^_, _<_, _≤_};
+ghost use Rattle.cyclotomic.specs.Zomega.{phase, Small, turn};
+ghost use Rattle.places.specs.Places.{entry, read, held, AllSmall};
+ghost use Rattle.exact.specs.Phase.{phaseOf, upToPhase};
+ghost use Rattle.exact.specs.Fingerprint.{mix, mixAll, fold, coefficients, wordsOf, fingerprint};
+ghost use Rattle.prints.specs.Prints.{FirstNonzero, SmallTo, streams};
+use cyclotomic::Coefficient;
+use cyclotomic::Cyclotomic;
+
+// The place of the first of the entries that is not zero; their number if all are.
+fn first_nonzero(m: &[Coefficient; 4096], size: usize) -> usize
+    requires { ⌜ size ≤ 1024 ⌝ }
+    ensures { λ r. ⌜ FirstNonzero (now (m .entry)) size r ⌝ }
+{
+    let mut e = 0;
+    while e < size {
+        if !places::get(m, e).is_zero() {
+            return e;
+        }
+        e += 1;
+    }
+    size
+}
+
+// The power 0 to 7 that makes an entry least, compared as four signed numbers.
+fn least_power(z: Cyclotomic) -> u8
+    requires { ⌜ Small z ⌝ }
+    ensures { λ r. ⌜ r ≡ phase z ⌝ }
+{
+    let mut least: u8 = 0;
+    let mut power: u8 = 1;
+    while power < 8 {
+        if z.times_omega(power).less_than(z.times_omega(least)) {
+            least = power;
+        }
+        power += 1;
+    }
+    least
+}
+
+// The phase of a matrix: of its first nonzero entry; 0 for the zero matrix.
+pub fn canonical_phase_power(m: &[Coefficient; 4096], n: usize) -> u8
+    requires { ⌜ n ≤ 5 ⌝ }
+    requires { ⌜ AllSmall n (read n (now m)) ⌝ }
+    ensures { λ r. ⌜ r ≡ phaseOf n (held n 0 (now (m .entry))) ⌝ }
+{
+    let size = places::area(n);
+    let e = first_nonzero(m, size);
+    if e == size {
+        return 0;
+    }
+    least_power(places::get(m, e))
+}
+
+// Whether two matrices of width n are equal up to phase: same exponent, same entries after each one's own phase.
+pub fn equivalent_up_to_global_phase(
+    left: &[Coefficient; 4096],
+    right: &[Coefficient; 4096],
+    n: usize,
+    j: u16,
+    k: u16,
+) -> bool
+    requires { ⌜ n ≤ 5 ⌝ }
+    requires { ⌜ AllSmall n (read n (now left)) × AllSmall n (read n (now right)) ⌝ }
+    ensures { λ r. ⌜ r ≡ upToPhase n (held n j (now (left .entry))) (held n k (now (right .entry))) ⌝ }
+{
+    if j != k {
+        return false;
+    }
+    let p = canonical_phase_power(left, n);
+    let q = canonical_phase_power(right, n);
+    let size = places::area(n);
+    let mut e = 0;
+    while e < size {
+        if !places::get(left, e)
+            .times_omega(p)
+            .equals(places::get(right, e).times_omega(q)) {
+            return false;
+        }
+        e += 1;
+    }
+    true
+}
+
+// The two streams of the fingerprint.
+pub struct Streams {
+    pub first: u64,
+    pub second: u64,
+}
+
+impl Streams {
+    fn mix(self, word: u64) -> Streams
+        ensures { λ r. ⌜ streams r ≡ mix (streams self) word ⌝ }
+    {
+        let first = words::wrapping_mul(self.first ^ word, 0x0000_0100_0000_01b3);
+        let shifted = std::num::wrapping_add_u64(word, 0x517c_c1b7_2722_0a95);
+        let second = words::wrapping_mul(
+            words::rotate_left(self.second ^ shifted, 27),
+            0x94d0_49bb_1331_11eb,
+        );
+        Streams { first, second }
+    }
+
+    fn mix_entry(self, z: Cyclotomic) -> Streams
+        ensures { λ r. ⌜ streams r ≡ mixAll (streams self) (coefficients z) ⌝ }
+    {
+        let a = self.mix(words::sign_extended(z.a));
+        let b = a.mix(words::sign_extended(z.b));
+        let c = b.mix(words::sign_extended(z.c));
+        c.mix(words::sign_extended(z.d))
+    }
+
+    fn fold(self) -> u64
+        ensures { λ r. ⌜ r ≡ fold (streams self) ⌝ }
+    {
+        let one = self.first ^ words::rotate_left(self.second, 32);
+        let two = words::wrapping_mul(one ^ (one >> 30), 0xbf58_476d_1ce4_e5b9);
+        let three = words::wrapping_mul(two ^ (two >> 27), 0x94d0_49bb_1331_11eb);
+        three ^ (three >> 31)
+    }
+}
+
+// The entries, each turned by omega^power, are mixed in.
+fn mix_entries(m: &[Coefficient; 4096], size: usize, power: u8, s: Streams) -> Streams
+    requires { ⌜ size ≤ 1024 ⌝ }
+    requires { ⌜ SmallTo (now m) size ⌝ }
+    ensures { λ r. ⌜ streams r ≡ mixAll (streams s) (wordsOf size (λ i. turn power (entry (now (m .entry)) i))) ⌝ }
+{
+    let mut t = s;
+    let mut e = 0;
+    while e < size {
+        t = t.mix_entry(places::get(m, e).times_omega(power));
+        e += 1;
+    }
+    t
+}
+
+// The fingerprint of the matrix of width n over sqrt(2)^k.
+pub fn unitary_fingerprint(m: &[Coefficient; 4096], n: usize, k: u16) -> u64
+    requires { ⌜ n ≤ 5 ⌝ }
+    requires { ⌜ AllSmall n (read n (now m)) ⌝ }
+    ensures { λ r. ⌜ r ≡ fingerprint n (held n k (now (m .entry))) ⌝ }
+{
+    let power = canonical_phase_power(m, n);
+    let start = Streams {
+        first: 0xcbf2_9ce4_8422_2325,
+        second: 0x9e37_79b9_7f4a_7c15,
+    };
+    let head = start.mix(n as u64).mix(k as u64);
+    mix_entries(m, places::area(n), power, head).fold()
+}

@@ -7,3 +7,4 @@ pub mod Product
 pub mod Order
 pub mod Answers
 pub mod Number
+pub mod Sizes

@@ -5,7 +5,7 @@ use mathlib.Core.Bool.{Bool, true, false, _&&_}
 use Prim.Native.Nat.{ℕ, zero, suc, _+_, _*_, _%_, _≤_}
 use lib.IntN.{ℤ, pos, natAbs, negℤ, _+ℤ_, _-ℤ_, _*ℤ_}
 use lib.Signed.{ltZ, quotZ}
-use lib.Dec.{eqb, leb}
+use lib.Dec.{eqb, leb, ltb}
 use mir.Syntax.{Width, w8, w16}
 use Rattle.cyclotomic.specs.declared.Cyclotomic.{Cyclotomic}
 
@@ -134,3 +134,7 @@ pub record Small (x : Zω) : Type 0 where
   pub b-small : natAbs (x .b) ≤ limit
   pub c-small : natAbs (x .c) ≤ limit
   pub d-small : natAbs (x .d) ≤ limit
+
+-- the sizes of two coefficients add up past the limit
+abbrev pub sizesPass : ℤ → ℤ → Bool
+sizesPass x y = ltb limit (natAbs x + natAbs y)

@@ -3,9 +3,9 @@
 // test. matrix.rs of the original, `Cyclotomic`.
 ghost use mathlib.Core.Path.{_≡_};
 ghost use Prim.Native.Nat.{_+_, _≤_};
-ghost use lib.IntN.{natAbs, negℤ, _+ℤ_, _-ℤ_};
+ghost use lib.IntN.{pos, natAbs, negℤ, _+ℤ_, _-ℤ_};
 ghost use lib.Signed.{ltZ};
-ghost use Rattle.cyclotomic.specs.Zomega.{limit, mk, zeroω, oneω, addω, subω, turn, sameParity, half, divisible, overSqrt2, eqZ, eqω, isZero, less, within, Small};
+ghost use Rattle.cyclotomic.specs.Zomega.{limit, mk, zeroω, oneω, addω, subω, turn, sameParity, half, divisible, overSqrt2, eqZ, eqω, isZero, less, within, Small, sizesPass};
 ghost use Rattle.cyclotomic.specs.Told.{told, checked};
 
 // A coefficient's type, and the type in which sums are formed.
@@ -113,6 +113,24 @@ fn narrowed(a: Wide, b: Wide, c: Wide, d: Wide) -> Checked
     })
 }
 
+// The size of a coefficient.
+fn size(x: Coefficient) -> Wide
+    ensures { λ r. ⌜ r ≡ pos (natAbs x) ⌝ }
+{
+    let wide = x as Wide;
+    if wide < 0 {
+        return -wide;
+    }
+    wide
+}
+
+// Whether the sizes of two coefficients add up past the limit: then their sum or their difference does, and only then.
+pub fn sizes_pass(x: Coefficient, y: Coefficient) -> bool
+    ensures { λ r. ⌜ r ≡ sizesPass x y ⌝ }
+{
+    size(x) + size(y) > LIMIT
+}
+
 impl Cyclotomic {
     pub const ZERO: Cyclotomic = Cyclotomic {
         a: 0,
@@ -194,6 +212,32 @@ impl Cyclotomic {
             minus(self.c, rhs.c),
             minus(self.d, rhs.d),
         )
+    }
+
+    // The sum, where it is within the limit.
+    pub fn add(self, rhs: Cyclotomic) -> Cyclotomic
+        requires { ⌜ Small (addω self rhs) ⌝ }
+        ensures { λ r. ⌜ r ≡ addω self rhs ⌝ }
+    {
+        Cyclotomic {
+            a: narrow_coefficient(plus(self.a, rhs.a)),
+            b: narrow_coefficient(plus(self.b, rhs.b)),
+            c: narrow_coefficient(plus(self.c, rhs.c)),
+            d: narrow_coefficient(plus(self.d, rhs.d)),
+        }
+    }
+
+    // The difference, where it is within the limit.
+    pub fn subtract(self, rhs: Cyclotomic) -> Cyclotomic
+        requires { ⌜ Small (subω self rhs) ⌝ }
+        ensures { λ r. ⌜ r ≡ subω self rhs ⌝ }
+    {
+        Cyclotomic {
+            a: narrow_coefficient(minus(self.a, rhs.a)),
+            b: narrow_coefficient(minus(self.b, rhs.b)),
+            c: narrow_coefficient(minus(self.c, rhs.c)),
+            d: narrow_coefficient(minus(self.d, rhs.d)),
+        }
     }
 
     // omega to the power, times this. A turn by 8 changes nothing, so any power is taken.

@@ -12,3 +12,4 @@ pub mod Unitaries
 pub mod Bounds
 pub mod Phases
 pub mod Prints
+pub mod Keeps

@@ -1,0 +1,31 @@
+-- `size` meets its contract: the sign's test picks the number or its opposite, and the wide type holds the opposite of every coefficient.
+use mathlib.Core.List.{[], _∷_}
+use native.Mathlib.Omega.{arith}
+use mir.Facts.{toZ-ofZ, sfits-widen}
+use Rattle.cyclotomic.specs.Zomega.{near, far}
+use Rattle.ints.proofs.Int.{_⊖_, A, int}
+use Rattle.ints.proofs.Machine.{fit, range, read-wide}
+use Rattle.cyclotomic.proofs.Sizes.{size-below, size-above}
+use Rattle.cyclotomic.proofs.size.Statement.{statement}
+use Rattle.cyclotomic.proofs.size.Tie as tie
+
+cast-wide : tie.Need-cast-wide
+cast-wide c = rw (toZ-ofZ (c .fits .x)) (sfits-widen tt (c .fits .x))
+
+sub-result : tie.Need-sub-result
+sub-result c =
+    let x = range (c .before .fits .x) in
+    rw (read-wide near far tt (c .before .fits .x)) (fit far (c .before .args .x ∷ []) (int 0 ⊖ A) (omega arith) (omega arith))
+
+returns : tie.Need-returns
+returns c =
+    rw (toZ-ofZ (sub-result c), read-wide near far tt (c .before .fits .x))
+    (size-below (c .before .args .x) (rw (read-wide near far tt (c .before .fits .x)) at (c .if1 .taken)))
+
+returns-2 : tie.Need-returns-2
+returns-2 c =
+    rw (read-wide near far tt (c .before .fits .x))
+    (size-above (c .before .args .x) (rw (read-wide near far tt (c .before .fits .x)) at (c .if1 .left)))
+
+pub size-spec : {M : Type 1} → statement M
+size-spec = tie.close (tie.spec cast-wide sub-result returns returns-2)

@@ -1,0 +1,130 @@
+-- What turns and exchanges keep: the lowest denominator and small coefficients, so that of all row operations only H can fail to fit.
+-- Whether a step fits, and what it gives, is one for equal matrices. Assumes nothing.
+use mathlib.Core.Path.{_≡_, refl, sym, ap, _∙_}
+use mathlib.Core.Bool.{Bool, true, false, _&&_}
+use mathlib.Core.List.{List}
+use Prim.Native.Nat.{ℕ, _^_, _≤_, _<_}
+use native.Mathlib.Omega.{arith}
+use lib.Dec.{leb}
+use borrow.Author.Tests.{le-leb, lt-leb}
+use Rattle.ints.specs.Lists.{pick}
+use Rattle.ints.proofs.Bools.{clash, and-both, iff}
+use Rattle.cyclotomic.specs.Zomega.{Zω, turn, divisible, fits, Small}
+use Rattle.cyclotomic.proofs.Division.{divisible-turn}
+use Rattle.cyclotomic.proofs.Squares.{small-turn}
+use Rattle.cyclotomic.proofs.Answers.{small-fits}
+use Rattle.exact.specs.Matrix.{Exact, Equal, allEntries, allDivisible, Lowest}
+use Rattle.exact.specs.Rows.{flip, ones, Gate, phase, exchange, had, column, raise, raw, act, Proper, exchanges}
+use Rattle.exact.specs.Fits.{mostK, stepFits}
+use Rattle.exact.proofs.Flips.{flip-lt}
+use Rattle.exact.proofs.Values.{pick-ind, entries-to, entries-from, divisible-to, divisible-from, sqrt2s-cancel, equal-same, lower-stays}
+use Rattle.exact.proofs.Linear.{column-cong, raw-back}
+use Rattle.exact.proofs.Acts.{act-equal}
+
+-- every entry is within the limit
+pub record SmallEntries (n : ℕ) (x : Exact) : Type 0 where
+  pub small : (r c : ℕ) → r < 2 ^ n → c < 2 ^ n → Small (x .e r c)
+
+-- a test that implies one that fails
+fails-too : (s t : Bool) → (t ≡ true → s ≡ true) → s ≡ false → t ≡ false
+fails-too s true f h = clash (f refl) h
+fails-too s false f h = refl
+
+module _ (n : ℕ) where
+  -- ---- what holds of every entry
+  abbrev Every : (Zω → Type 0) → Exact → Type 0
+  Every P x = (r c : ℕ) → r < 2 ^ n → c < 2 ^ n → P (x .e r c)
+
+  phase-every : (P : Zω → Type 0) (ks : List ℕ) (p : ℕ) (x : Exact) → ((z : Zω) → P z → P (turn p z)) → Every P x → Every P (raw (phase ks p) x)
+  unfolding column
+  phase-every P ks p x f w r c i j = pick-ind P (ones ks r) (λ e. f (x .e r c) (w r c i j)) (λ e. w r c i j)
+
+  phase-every-back : (P : Zω → Type 0) (ks : List ℕ) (p : ℕ) (x : Exact) → ((z : Zω) → P (turn p z) → P z) → Every P (raw (phase ks p) x) → Every P x
+  unfolding column
+  phase-every-back P ks p x f w r c i j = by (ones ks r) (w r c i j)
+    where
+      by : (b : Bool) → P (pick b (turn p (x .e r c)) (x .e r c)) → P (x .e r c)
+      by true h = f (x .e r c) h
+      by false h = h
+
+  exchange-every : (P : Zω → Type 0) (ks : List ℕ) (k : ℕ) (x : Exact) → Proper n (exchange ks k) → Every P x → Every P (raw (exchange ks k) x)
+  unfolding column
+  exchange-every P ks k x pr w r c i j =
+      w (pick (ones ks r) (flip k r) r) c (pick-ind (λ (s : ℕ). s < 2 ^ n) (ones ks r) (λ e. flip-lt n k r (pr .0) i) (λ e. i)) j
+
+  -- an exchange undoes itself
+  exchange-twice : (ks : List ℕ) (k : ℕ) (x : Exact) → Proper n (exchange ks k) → (r c : ℕ) → r < 2 ^ n → c < 2 ^ n
+      → raw (exchange ks k) (raw (exchange ks k) x) .e r c ≡ x .e r c
+  exchange-twice ks k x pr r c i j = sqrt2s-cancel (x .k) _ _ (raw-back n x (exchanges (pr .2)) .at r c i j)
+
+  -- ---- the lowest denominator
+  divisible-back : (x y : Exact) → (Every (λ z. divisible z ≡ true) y → Every (λ z. divisible z ≡ true) x)
+      → allDivisible n (x .e) ≡ false → allDivisible n (y .e) ≡ false
+  divisible-back x y f = fails-too (allDivisible n (x .e)) (allDivisible n (y .e)) (λ h. divisible-from n (x .e) (f (divisible-to n (y .e) h)))
+
+  pub phase-lowest : (ks : List ℕ) (p : ℕ) {x : Exact} → Lowest n x → Lowest n (raw (phase ks p) x)
+  phase-lowest ks p {x} l = record {
+    lowest = λ h. divisible-back x (raw (phase ks p) x)
+        (phase-every-back (λ z. divisible z ≡ true) ks p x (λ z d. sym (divisible-turn p z) ∙ d)) (l .lowest h);
+  }
+
+  pub exchange-lowest : (ks : List ℕ) (k : ℕ) {x : Exact} → Proper n (exchange ks k) → Lowest n x → Lowest n (raw (exchange ks k) x)
+  exchange-lowest ks k {x} pr l = record {
+    lowest = λ h. divisible-back x (raw (exchange ks k) x)
+        (λ w r c i j. ap divisible (sym (exchange-twice ks k x pr r c i j))
+        ∙ exchange-every (λ z. divisible z ≡ true) ks k (raw (exchange ks k) x) pr w r c i j) (l .lowest h);
+  }
+
+  -- nothing is to lower after them
+  pub phase-act : (ks : List ℕ) (p : ℕ) {x : Exact} → Lowest n x → Equal n (act n (phase ks p) x) (raw (phase ks p) x)
+  phase-act ks p l = lower-stays n (phase-lowest ks p l)
+
+  pub exchange-act : (ks : List ℕ) (k : ℕ) {x : Exact} → Proper n (exchange ks k) → Lowest n x → Equal n (act n (exchange ks k) x) (raw (exchange ks k) x)
+  exchange-act ks k pr l = lower-stays n (exchange-lowest ks k pr l)
+
+  -- ---- small coefficients
+  pub phase-small : (ks : List ℕ) (p : ℕ) {x : Exact} → SmallEntries n x → SmallEntries n (raw (phase ks p) x)
+  phase-small ks p {x} w = record { small = phase-every Small ks p x (small-turn p) (w .small) }
+
+  pub exchange-small : (ks : List ℕ) (k : ℕ) {x : Exact} → Proper n (exchange ks k) → SmallEntries n x → SmallEntries n (raw (exchange ks k) x)
+  exchange-small ks k {x} pr w = record { small = exchange-every Small ks k x pr (w .small) }
+
+  -- ---- what fits
+  small-step : (g : Gate) (x : Exact) → SmallEntries n (raw g x) → raw g x .k ≤ mostK → stepFits n g x ≡ true
+  unfolding stepFits
+  small-step g x w h =
+      and-both (leb (raw g x .k) mostK) (allEntries n (λ r c. fits (raw g x .e r c))) (le-leb (raw g x .k) mostK h)
+      (entries-from n (λ r c. fits (raw g x .e r c)) (λ r c i j. small-fits (raw g x .e r c) (w .small r c i j)))
+
+  pub phase-step-fits : (ks : List ℕ) (p : ℕ) {x : Exact} → SmallEntries n x → x .k ≤ mostK → stepFits n (phase ks p) x ≡ true
+  phase-step-fits ks p {x} w h = small-step (phase ks p) x (phase-small ks p w) h
+
+  pub exchange-step-fits : (ks : List ℕ) (k : ℕ) {x : Exact} → Proper n (exchange ks k) → SmallEntries n x → x .k ≤ mostK → stepFits n (exchange ks k) x ≡ true
+  exchange-step-fits ks k {x} pr w h = small-step (exchange ks k) x (exchange-small ks k pr w) h
+
+  -- of H the entries decide, and at the largest exponent it does not fit
+  pub had-step : (t : ℕ) (x : Exact) → x .k < mostK → stepFits n (had t) x ≡ allEntries n (λ r c. fits (raw (had t) x .e r c))
+  unfolding stepFits
+  had-step t x h = rw (le-leb (raw (had t) x .k) mostK h)
+
+  pub had-step-k : (t : ℕ) (x : Exact) → mostK ≤ x .k → stepFits n (had t) x ≡ false
+  unfolding stepFits
+  had-step-k t x h = rw (lt-leb (raw (had t) x .k) mostK (omega arith))
+
+  -- ---- equal matrices
+  entries-same : (f g : ℕ → ℕ → Bool) → ((r c : ℕ) → r < 2 ^ n → c < 2 ^ n → f r c ≡ g r c) → allEntries n f ≡ allEntries n g
+  entries-same f g e =
+      iff (allEntries n f) (allEntries n g)
+      (λ h. entries-from n g (λ r c i j. sym (e r c i j) ∙ entries-to n f h r c i j))
+      (λ h. entries-from n f (λ r c i j. e r c i j ∙ entries-to n g h r c i j))
+
+  pub step-equal : (g : Gate) {x y : Exact} → Equal n x y → Proper n g → stepFits n g x ≡ stepFits n g y
+  unfolding stepFits
+  step-equal g {x} {y} s pr =
+      λ i. leb (raise g (s .exponent i)) mostK && entries-same (λ r c. fits (raw g x .e r c)) (λ r c. fits (raw g y .e r c)) same i
+    where
+      same : (r c : ℕ) → r < 2 ^ n → c < 2 ^ n → fits (raw g x .e r c) ≡ fits (raw g y .e r c)
+      same r c i j = ap fits (column-cong n g (λ t. x .e t c) (λ t. y .e t c) pr (λ t q. s .entries t c q j) r i)
+
+  pub act-equal' : (g : Gate) {x y : Exact} → Equal n x y → Proper n g → Equal n (act n g x) (act n g y)
+  act-equal' g s pr = act-equal n g pr (equal-same n s)

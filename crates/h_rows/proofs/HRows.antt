@@ -1,0 +1,327 @@
+-- H by rows: the test of the sizes, a pair of rows that becomes its sums and differences, and the sweep over all pairs, each worked at its
+-- lower row. Assumes nothing.
+use mathlib.Core.Path.{_≡_, refl, sym, ap, _∙_, subst}
+use mathlib.Core.Bool.{Bool, true, false, not, _||_}
+use mathlib.Core.List.{List}
+use Prim.Native.Nat.{ℕ, zero, suc, _+_, _*_, _-_, _^_, _/_, _%_, _≤_, _<_, min, max}
+use native.Mathlib.Omega.{arith}
+use native.Mathlib.Nat.{div-add-mod', mod-lt}
+use borrow.Author.Count.{below-more}
+use borrow.Author.Tests.{eq-eqb, ne-eqb, eqb-true, eqb-false, ltb-true, ltb-false}
+use lib.Bits.{bitAnd, bitOr, and-high, and-le-l, and-le-r, or-lt, or-add-and}
+use lib.IntN.{ℤ, natAbs}
+use lib.ListN.{length}
+use lib.Pow.{pow-pos, pow-lt, pow-add, high}
+use Rattle.ints.specs.Bits.{digit}
+use Rattle.ints.proofs.Bits.{digit-lt, ext, and-digit, or-digit}
+use Rattle.ints.proofs.Bools.{clash}
+use Rattle.cyclotomic.specs.Zomega.{Zω, limit, addω, subω, Small, sizesPass}
+use Rattle.cyclotomic.proofs.Sizes.{SizesSmall, sizes-sum, sizes-difference, both-sizes}
+use Rattle.places.specs.Places.{places, entry, put, read, Same, AllSmall}
+use Rattle.rows.specs.Rows.{has, hRows}
+use Rattle.h_rows.specs.Work.{at, Summed, SizesFit, SumsFit, PairFits, PairSummed, Tells}
+use Rattle.places.proofs.Placed.{length-put, entry-put-same, entry-put-other, row-le}
+use Rattle.h_rows.proofs.RowPlaces.{row-before, rows-apart}
+
+-- ---- the test of the sizes, place by place
+
+module _ (l : List ℤ) (p q : ℕ) where
+  pub sizes-none : Tells (SizesFit l p q 0) true
+  sizes-none = record { holds = λ h. record { fit = λ i b. absurd (omega arith) }; fails = λ h. clash refl h }
+
+  pub sizes-more : (over t : Bool) (c : ℕ) → Tells (SizesFit l p q c) (not over) → t ≡ sizesPass (at l (p + c)) (at l (q + c))
+      → Tells (SizesFit l p q (c + 1)) (not (over || t))
+  sizes-more true t c w e = record {
+    holds = λ h. clash h refl;
+    fails = λ h f. w .fails refl (record { fit = λ i b. f .fit i (omega arith) });
+  }
+  sizes-more false true c w e = record { holds = λ h. clash h refl; fails = λ h f. omega (arith, ltb-true limit (natAbs (at l (p + c)) + natAbs (at l (q + c))) (sym e), f .fit c (omega arith)) }
+  sizes-more false false c w e = record {
+    holds = λ h. record { fit = below-more _ c (w .holds refl .fit) (ltb-false _ _ (sym e)) };
+    fails = λ h. clash refl h;
+  }
+
+pub sizes-to : {l : List ℤ} {p q c d : ℕ} {b : Bool} → Tells (SizesFit l p q c) b → c ≤ d → d ≤ c → Tells (SizesFit l p q d) b
+sizes-to {c = c} {d = d} w a b = let e : c ≡ d = omega arith in rw e at w
+
+-- sizes of places, and sums and differences of entries: each follows from the other
+pub sizes-sums : {l : List ℤ} {e f c : ℕ} → SizesFit l (4 * e) (4 * f) (4 * c) → SumsFit l e f c
+unfolding entry
+sizes-sums {l} {e} {f} {c} w =
+    record { sum-fits = λ k h. sizes-sum _ _ (four k h); difference-fits = λ k h. sizes-difference _ _ (four k h) }
+  where
+    one : (t i j : ℕ) → t < 4 * c → i ≡ 4 * e + t → j ≡ 4 * f + t → natAbs (at l i) + natAbs (at l j) ≤ limit
+    one t i j b p q = rw (p, q) (w .fit t b)
+
+    four : (k : ℕ) → k < c → SizesSmall (entry l (e + k)) (entry l (f + k))
+    four k h = record {
+      a-sizes = one (4 * k) _ _ (omega arith) (omega arith) (omega arith);
+      b-sizes = one (4 * k + 1) _ _ (omega arith) (omega arith) (omega arith);
+      c-sizes = one (4 * k + 2) _ _ (omega arith) (omega arith) (omega arith);
+      d-sizes = one (4 * k + 3) _ _ (omega arith) (omega arith) (omega arith);
+    }
+
+pub sums-sizes : {l : List ℤ} {e f c : ℕ} → SumsFit l e f c → SizesFit l (4 * e) (4 * f) (4 * c)
+unfolding entry
+sums-sizes {l} {e} {f} {c} w = record { fit = λ i h. by i (i / 4) (i % 4) (omega arith) (omega arith) (both i h) }
+  where
+    both : (i : ℕ) → i < 4 * c → SizesSmall (entry l (e + i / 4)) (entry l (f + i / 4))
+    both i h = both-sizes _ _ (w .sum-fits (i / 4) (omega arith)) (w .difference-fits (i / 4) (omega arith))
+
+    one : (i j k m : ℕ) → i ≡ 4 * e + k → j ≡ 4 * f + k → k ≡ m → natAbs (at l i) + natAbs (at l j) ≤ limit
+        → natAbs (at l (4 * e + m)) + natAbs (at l (4 * f + m)) ≤ limit
+    one i j k m p q r h = rw (sym r, sym p, sym q) h
+
+    by : (i k j : ℕ) → i ≡ 4 * k + j → j < 4 → SizesSmall (entry l (e + k)) (entry l (f + k)) → natAbs (at l (4 * e + i)) + natAbs (at l (4 * f + i)) ≤ limit
+    by i k zero p b s = one _ _ (4 * k) i (omega arith) (omega arith) (omega arith) (s .a-sizes)
+    by i k (suc zero) p b s = one _ _ (4 * k + 1) i (omega arith) (omega arith) (omega arith) (s .b-sizes)
+    by i k (suc (suc zero)) p b s = one _ _ (4 * k + 2) i (omega arith) (omega arith) (omega arith) (s .c-sizes)
+    by i k (suc (suc (suc zero))) p b s = one _ _ (4 * k + 3) i (omega arith) (omega arith) (omega arith) (s .d-sizes)
+    by i k (suc (suc (suc (suc j)))) p b s = absurd (omega arith)
+
+-- ---- a run of entries and a later one that become their sums and their differences
+
+pub summed-none : (l : List ℤ) (e f : ℕ) → Summed l l e f 0
+summed-none l e f =
+    record { long = refl; sums = λ k b. absurd (omega arith); differences = λ k b. absurd (omega arith); other = λ k a b. refl }
+
+module _ {l l1 : List ℤ} {e f c len : ℕ} (w : Summed l l1 e f c) (s : e + len ≤ f) (b : c < len) where
+  -- the entries that come next are still as they were
+  pub summed-low : entry l1 (e + c) ≡ entry l (e + c)
+  summed-low = w .other (e + c) (λ i k q. omega arith) (λ i k q. omega arith)
+
+  pub summed-high : entry l1 (f + c) ≡ entry l (f + c)
+  summed-high = w .other (f + c) (λ i k q. omega arith) (λ i k q. omega arith)
+
+  pub summed-more : {l2 l3 : List ℤ} {x y : Zω} → length l ≡ places → f + len ≤ 1024 → x ≡ addω (entry l (e + c)) (entry l (f + c))
+      → y ≡ subω (entry l (e + c)) (entry l (f + c)) → l2 ≡ put l1 (e + c) x → l3 ≡ put l2 (f + c) y → Summed l l3 e f (c + 1)
+  summed-more {l2} {l3} {x} {y} n g ex ey p q = record {
+    long = ap length q ∙ length-put l2 (f + c) y ∙ first ∙ w .long;
+    sums =
+        below-more _ c (λ k h. keep (e + k) (λ t. omega arith) (λ t. omega arith) ∙ w .sums k h)
+        (second (e + c) (λ t. omega arith) ∙ ap (λ (m : List ℤ). entry m (e + c)) p ∙ entry-put-same l1 (e + c) x (omega (arith, w .long)) ∙ ex);
+    differences =
+        below-more _ c (λ k h. keep (f + k) (λ t. omega arith) (λ t. omega arith) ∙ w .differences k h)
+        (ap (λ (m : List ℤ). entry m (f + c)) q ∙ entry-put-same l2 (f + c) y (omega (arith, w .long, first)) ∙ ey);
+    other = λ k a o. keep k (a c (omega arith)) (o c (omega arith)) ∙ w .other k (λ i h. a i (omega arith)) (λ i h. o i (omega arith));
+  }
+    where
+      first : length l2 ≡ length l1
+      first = ap length p ∙ length-put l1 (e + c) x
+
+      second : (k : ℕ) → (k ≡ f + c → ⊥) → entry l3 k ≡ entry l2 k
+      second k h = ap (λ (m : List ℤ). entry m k) q ∙ entry-put-other l2 (f + c) y k h
+
+      keep : (k : ℕ) → (k ≡ e + c → ⊥) → (k ≡ f + c → ⊥) → entry l3 k ≡ entry l1 k
+      keep k a o = second k o ∙ ap (λ (m : List ℤ). entry m k) p ∙ entry-put-other l1 (e + c) x k a
+
+pub summed-to : {l l′ : List ℤ} {e f c d : ℕ} → Summed l l′ e f c → c ≤ d → d ≤ c → Summed l l′ e f d
+summed-to {c = c} {d = d} w a b = let q : c ≡ d = omega arith in rw q at w
+
+-- ---- a row and the row that has a bit besides
+
+-- the row with the bit comes later
+pub or-above : (s b : ℕ) → has s b ≡ false → s < bitOr s b
+or-above s b h = by (bitAnd s b) (eqb-false _ _ h) (and-le-r s b) (or-add-and s b)
+  where
+    by : (x : ℕ) → (x ≡ b → ⊥) → x ≤ b → bitOr s b + x ≡ s + b → s < bitOr s b
+    by x n k e = omega arith
+
+pub has-or : (s b : ℕ) → has (bitOr s b) b ≡ true
+has-or s b = eq-eqb _ _ (ext _ _ (λ k. and-digit (bitOr s b) b k ∙ rw (or-digit s b k) (by (digit s k) (digit b k))))
+  where
+    by : (x y : ℕ) → min (max x y) y ≡ y
+    by x y = omega arith
+
+-- rows r and s of d entries lie in the array, one before the other
+abbrev pub Lie : ℕ → ℕ → ℕ → Type 0
+Lie d r s = (r * d + d ≤ s * d) × (s * d + d ≤ 1024)
+
+pub pair-lies : {n r b d : ℕ} → n ≤ 5 → r < 2 ^ n → b < 2 ^ n → has r b ≡ false → d ≡ 2 ^ n → Lie d r (bitOr r b)
+pair-lies {n} {r} {b} {d} hn hr hb h e =
+    rw e (row-before (2 ^ n) r (bitOr r b) (or-above r b h), row-le n (bitOr r b) hn (or-lt n r b hr hb))
+
+module _ (t : ℕ) where
+  and-one : (s : ℕ) → bitAnd s (2 ^ t) ≡ digit s t * 2 ^ t
+  and-one s = subst (λ (m : ℕ). bitAnd s m ≡ digit s t * 2 ^ t) one (and-high s 1 t)
+    where
+      one : 2 ^ (1 + t) - 2 ^ t ≡ 2 ^ t
+      one = omega (arith, pow-add 2 1 t)
+
+  -- one bit is there, or it is not
+  none : (s : ℕ) → has s (2 ^ t) ≡ false → bitAnd s (2 ^ t) ≡ 0
+  none s h = by (digit s t) (digit-lt s t) (and-one s)
+    where
+      by : (d : ℕ) → d < 2 → bitAnd s (2 ^ t) ≡ d * 2 ^ t → bitAnd s (2 ^ t) ≡ 0
+      by zero b e = omega arith
+      by (suc zero) b e = absurd (eqb-false (bitAnd s (2 ^ t)) (2 ^ t) h (omega arith))
+      by (suc (suc d)) b e = absurd (omega arith)
+
+  -- the row with the bit is 2^t later
+  pub or-sum : (s : ℕ) → has s (2 ^ t) ≡ false → bitOr s (2 ^ t) ≡ s + 2 ^ t
+  or-sum s h = omega (arith, or-add-and s (2 ^ t), none s h)
+
+  -- a row with the bit is the partner of one that lacks it
+  pub lower : (s : ℕ) → has s (2 ^ t) ≡ true → (has (s - 2 ^ t) (2 ^ t) ≡ false) × (bitOr (s - 2 ^ t) (2 ^ t) ≡ s)
+  lower s h = (lacks, or-sum (s - 2 ^ t) lacks ∙ omega (arith, and-le-l s (2 ^ t), eqb-true (bitAnd s (2 ^ t)) (2 ^ t) h))
+    where
+      odd : (d : ℕ) → d < 2 → bitAnd s (2 ^ t) ≡ d * 2 ^ t → d ≡ 1
+      odd zero b e = absurd (omega (arith, eqb-true (bitAnd s (2 ^ t)) (2 ^ t) h, pow-pos t))
+      odd (suc zero) b e = refl
+      odd (suc (suc d)) b e = absurd (omega arith)
+
+      even : (a r : ℕ) → r < 2 ^ t → s ≡ a * 2 ^ t + r → a % 2 ≡ 1 → digit (s - 2 ^ t) t ≡ 0
+      even zero r b e o = absurd (omega arith)
+      even (suc a) r b e o =
+          let q : s - 2 ^ t ≡ a * 2 ^ t + r = omega arith in
+          ap (λ (x : ℕ). x / 2 ^ t % 2) q ∙ ap (λ (x : ℕ). x % 2) (high a t b) ∙ omega arith
+
+      lacks : has (s - 2 ^ t) (2 ^ t) ≡ false
+      lacks =
+          let z = even (s / 2 ^ t) (s % 2 ^ t) (mod-lt s (pow-pos t)) (sym (div-add-mod' s (2 ^ t))) (odd (digit s t) (digit-lt s t) (and-one s)) in
+          ne-eqb (bitAnd (s - 2 ^ t) (2 ^ t)) (2 ^ t) (λ q. omega (arith, and-one (s - 2 ^ t), ap (λ (x : ℕ). x * 2 ^ t) z, q, pow-pos t))
+
+-- what holds of each row that lacks the bit and of its partner holds of every row
+pub by-pairs : (n t : ℕ) (P : ℕ → Type 0) → ((s : ℕ) → s < 2 ^ n → has s (2 ^ t) ≡ false → P s × P (bitOr s (2 ^ t))) → (s : ℕ) → s < 2 ^ n → P s
+by-pairs n t P f s b = by (has s (2 ^ t)) refl
+  where
+    by : (q : Bool) → has s (2 ^ t) ≡ q → P s
+    by true h = let p = lower t s h in subst P (p .1) (f (s - 2 ^ t) (omega arith) (p .0) .1)
+    by false h = f s b h .0
+
+-- ---- what H makes of a pair
+
+module _ (t : ℕ) (x : ℕ → ℕ → Zω) (s c : ℕ) (h : has s (2 ^ t) ≡ false) where
+  h-low : hRows (2 ^ t) x s c ≡ addω (x s c) (x (bitOr s (2 ^ t)) c)
+  unfolding hRows
+  h-low = rw h
+
+  h-high : hRows (2 ^ t) x (bitOr s (2 ^ t)) c ≡ subω (x s c) (x (bitOr s (2 ^ t)) c)
+  unfolding hRows
+  h-high =
+      let e : bitOr s (2 ^ t) - 2 ^ t ≡ s = omega (arith, or-sum t s h) in
+      rw (has-or s (2 ^ t)) (ap (λ (r : ℕ). subω (x r c) (x (bitOr s (2 ^ t)) c)) e)
+
+-- ---- the test of all pairs
+
+-- the test of one pair's sizes tells whether it fits
+pub pair-tells : {n b r d : ℕ} {l : List ℤ} {ok : Bool} → d ≡ 2 ^ n → has r b ≡ false → Tells (SizesFit l (4 * (r * d)) (4 * (bitOr r b * d)) (4 * d)) ok
+    → Tells (PairFits n b l r) ok
+pair-tells e h w = record {
+  holds = λ q. record { pair = λ _. sizes-sums (rw e at (w .holds q)) };
+  fails = λ q p. w .fails q (rw e (sums-sizes (p .pair h)));
+}
+
+-- the pairs of the rows below r fit
+pub record FitsTo (n bit : ℕ) (l : List ℤ) (r : ℕ) : Type 0 where
+  pub below : (s : ℕ) → s < r → PairFits n bit l s
+
+module _ {n bit : ℕ} {l : List ℤ} where
+  pub fits-none : FitsTo n bit l 0
+  fits-none = record { below = λ s b. absurd (omega arith) }
+
+  pub fits-more : {r : ℕ} → FitsTo n bit l r → PairFits n bit l r → FitsTo n bit l (r + 1)
+  fits-more {r} w p = record { below = below-more _ r (w .below) p }
+
+-- where every pair fits, the whole result does, and conversely
+pub fits-all : (t : ℕ) {n : ℕ} {l : List ℤ} {r : ℕ} → FitsTo n (2 ^ t) l r → 2 ^ n ≤ r → AllSmall n (hRows (2 ^ t) (read n l))
+fits-all t {n} {l} {r} w g =
+    record { small = λ s c hs hc. by-pairs n t (λ s. Small (hRows (2 ^ t) (read n l) s c)) (λ s b h. one s c b hc h) s hs }
+  where
+    one : (s c : ℕ) → s < 2 ^ n → c < 2 ^ n → has s (2 ^ t) ≡ false
+        → Small (hRows (2 ^ t) (read n l) s c) × Small (hRows (2 ^ t) (read n l) (bitOr s (2 ^ t)) c)
+    one s c hs hc h =
+        let p = w .below s (omega arith) .pair h in
+        (subst Small (sym (h-low t (read n l) s c h)) (p .sum-fits c hc), subst Small (sym (h-high t (read n l) s c h)) (p .difference-fits c hc))
+
+pub all-pair : (t : ℕ) {n : ℕ} {l : List ℤ} {r : ℕ} → AllSmall n (hRows (2 ^ t) (read n l)) → t < n → r < 2 ^ n → PairFits n (2 ^ t) l r
+all-pair t {n} {l} {r} w ht hr = record {
+  pair = λ h. record {
+    sum-fits = λ c hc. subst Small (h-low t (read n l) r c h) (w .small r c hr hc);
+    difference-fits = λ c hc. subst Small (h-high t (read n l) r c h) (w .small (bitOr r (2 ^ t)) c (or-lt n r (2 ^ t) hr (pow-lt ht)) hc);
+  };
+}
+
+-- ---- the sweep
+
+-- row s and its partner are their sums and their differences; they are as they were
+pub record Worked (n bit : ℕ) (l l′ : List ℤ) (s : ℕ) : Type 0 where
+  pub low : (c : ℕ) → c < 2 ^ n → read n l′ s c ≡ addω (read n l s c) (read n l (bitOr s bit) c)
+  pub high : (c : ℕ) → c < 2 ^ n → read n l′ (bitOr s bit) c ≡ subω (read n l s c) (read n l (bitOr s bit) c)
+
+pub record Kept (n bit : ℕ) (l l′ : List ℤ) (s : ℕ) : Type 0 where
+  pub low : (c : ℕ) → c < 2 ^ n → read n l′ s c ≡ read n l s c
+  pub high : (c : ℕ) → c < 2 ^ n → read n l′ (bitOr s bit) c ≡ read n l (bitOr s bit) c
+
+-- the pairs whose lower row is below r are worked, the others are as they were
+pub record Halfway (n bit : ℕ) (l l′ : List ℤ) (r : ℕ) : Type 0 where
+  pub long : length l′ ≡ length l
+  pub done : (s : ℕ) → s < r → has s bit ≡ false → Worked n bit l l′ s
+  pub rest : (s : ℕ) → r ≤ s → has s bit ≡ false → Kept n bit l l′ s
+
+pub half-start : (n bit : ℕ) (l : List ℤ) → Halfway n bit l l 0
+half-start n bit l = record { long = refl; done = λ s b. absurd (omega arith); rest = λ s b h. record { low = λ c hc. refl; high = λ c hc. refl } }
+
+module _ (t : ℕ) {n : ℕ} {l l1 : List ℤ} {r : ℕ} (w : Halfway n (2 ^ t) l l1 r) where
+  -- the pair that comes next fits as it did at the start
+  pub half-fits : PairFits n (2 ^ t) l r → PairFits n (2 ^ t) l1 r
+  half-fits p = record { pair = λ h. by (p .pair h) (w .rest r (omega arith) h) }
+    where
+      by : SumsFit l (r * 2 ^ n) (bitOr r (2 ^ t) * 2 ^ n) (2 ^ n) → Kept n (2 ^ t) l l1 r → SumsFit l1 (r * 2 ^ n) (bitOr r (2 ^ t) * 2 ^ n) (2 ^ n)
+      by s k = record {
+        sum-fits = λ c hc. rw (k .low c hc, k .high c hc) (s .sum-fits c hc);
+        difference-fits = λ c hc. rw (k .low c hc, k .high c hc) (s .difference-fits c hc);
+      }
+
+  -- a pair other than that of row r is kept
+  keep : {l2 : List ℤ} → has r (2 ^ t) ≡ false → Summed l1 l2 (r * 2 ^ n) (bitOr r (2 ^ t) * 2 ^ n) (2 ^ n)
+      → (s : ℕ) → (s ≡ r → ⊥) → has s (2 ^ t) ≡ false → Kept n (2 ^ t) l1 l2 s
+  keep {l2} hr p s ne hs =
+      record {
+        low = same s ne (λ e. clash (ap (λ (x : ℕ). has x (2 ^ t)) e ∙ has-or r (2 ^ t)) hs);
+        high =
+            same (bitOr s (2 ^ t)) (λ e. clash (ap (λ (x : ℕ). has x (2 ^ t)) (sym e) ∙ has-or s (2 ^ t)) hr)
+            (λ e. ne (omega (arith, or-sum t s hs, or-sum t r hr, e)));
+      }
+    where
+      same : (s : ℕ) → (s ≡ r → ⊥) → (s ≡ bitOr r (2 ^ t) → ⊥) → (c : ℕ) → c < 2 ^ n → read n l2 s c ≡ read n l1 s c
+      same s a b c hc =
+          p .other (s * 2 ^ n + c) (λ i k q. rows-apart (2 ^ n) r s c i hc k a q) (λ i k q. rows-apart (2 ^ n) (bitOr r (2 ^ t)) s c i hc k b q)
+
+  -- the next row: its pair is worked, or it has the bit and nothing changes
+  pub half-more : {l2 : List ℤ} → PairSummed n (2 ^ t) l1 l2 r → Halfway n (2 ^ t) l l2 (r + 1)
+  half-more {l2} p = by (has r (2 ^ t)) refl
+    where
+      by : (q : Bool) → has r (2 ^ t) ≡ q → Halfway n (2 ^ t) l l2 (r + 1)
+      by true hr = record {
+        long = ap length (p .alone hr) ∙ w .long;
+        done = below-more _ r (λ s b h. subst (λ (m : List ℤ). Worked n (2 ^ t) l m s) (sym (p .alone hr)) (w .done s b h)) (λ h. clash hr h);
+        rest = λ s b h. subst (λ (m : List ℤ). Kept n (2 ^ t) l m s) (sym (p .alone hr)) (w .rest s (omega arith) h);
+      }
+      by false hr = record {
+        long = p .pair hr .long ∙ w .long;
+        done = below-more _ r (λ s b h. worked (keep hr (p .pair hr) s (λ e. omega arith) h) (w .done s b h)) (λ h. new (p .pair hr) (w .rest r (omega arith) h));
+        rest = λ s b h. kept (keep hr (p .pair hr) s (λ e. omega arith) h) (w .rest s (omega arith) h);
+      }
+        where
+          worked : {s : ℕ} → Kept n (2 ^ t) l1 l2 s → Worked n (2 ^ t) l l1 s → Worked n (2 ^ t) l l2 s
+          worked k d = record { low = λ c hc. k .low c hc ∙ d .low c hc; high = λ c hc. k .high c hc ∙ d .high c hc }
+
+          kept : {s : ℕ} → Kept n (2 ^ t) l1 l2 s → Kept n (2 ^ t) l l1 s → Kept n (2 ^ t) l l2 s
+          kept k d = record { low = λ c hc. k .low c hc ∙ d .low c hc; high = λ c hc. k .high c hc ∙ d .high c hc }
+
+          new : Summed l1 l2 (r * 2 ^ n) (bitOr r (2 ^ t) * 2 ^ n) (2 ^ n) → Kept n (2 ^ t) l l1 r → Worked n (2 ^ t) l l2 r
+          new s k = record {
+            low = λ c hc. s .sums c hc ∙ (λ i. addω (k .low c hc i) (k .high c hc i));
+            high = λ c hc. s .differences c hc ∙ (λ i. subω (k .low c hc i) (k .high c hc i));
+          }
+
+  pub half-end : 2 ^ n ≤ r → Same n (read n l1) (hRows (2 ^ t) (read n l))
+  half-end g =
+      record { at = λ s c hs hc. by-pairs n t (λ s. read n l1 s c ≡ hRows (2 ^ t) (read n l) s c) (λ s b h. one s c b hc h) s hs }
+    where
+      one : (s c : ℕ) → s < 2 ^ n → c < 2 ^ n → has s (2 ^ t) ≡ false
+          → (read n l1 s c ≡ hRows (2 ^ t) (read n l) s c) × (read n l1 (bitOr s (2 ^ t)) c ≡ hRows (2 ^ t) (read n l) (bitOr s (2 ^ t)) c)
+      one s c hs hc h =
+          let d = w .done s (omega arith) h in
+          (d .low c hc ∙ sym (h-low t (read n l) s c h), d .high c hc ∙ sym (h-high t (read n l) s c h))

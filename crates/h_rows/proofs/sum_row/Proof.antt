@@ -1,0 +1,70 @@
+-- `sum_row` meets its contract: the entries not passed are as they were, so each pair read is the old one, whose sum and difference fit.
+use Prim.Native.Nat.{_+_, _-_, _≤_}
+use native.Mathlib.Omega.{arith}
+use borrow.Author.Needs.{needs}
+use mathlib.Core.Path.{_≡_, refl, _∙_}
+use Rattle.places.specs.Places.{entry}
+use Rattle.h_rows.specs.Work.{Summed}
+use Rattle.h_rows.proofs.HRows.{summed-none, summed-low, summed-high, summed-more, summed-to}
+use Rattle.h_rows.proofs.sum_row.Statement.{statement}
+use Rattle.h_rows.proofs.sum_row.Tie as tie
+
+abbrev Inv-loop : tie.InvT-loop
+Inv-loop m₀ e f c i₀ m i = (i ≤ c) × Summed m₀ m e f i
+
+abbrev μ-loop : tie.MeasureT-loop
+μ-loop m₀ e f c i₀ m i = c - i
+
+-- what was read of the pair
+low-is : (c : tie.After-get2 Inv-loop μ-loop)
+    → c .before .before .get .result ≡ entry (c .before .before .before .before .before .before .args .m .now) (c .before .before .before .before .before .before .args .e + c .before .before .before .before .before .loop .i)
+low-is c = c .before .before .get .ensures ∙ summed-low (c .before .before .before .before .before .loop .inv .1) (c .before .before .before .before .before .before .pre .1 .0 .0) (c .before .before .before .before .loop-test .taken)
+
+high-is : (c : tie.After-get2 Inv-loop μ-loop)
+    → c .get2 .result ≡ entry (c .before .before .before .before .before .before .args .m .now) (c .before .before .before .before .before .before .args .f + c .before .before .before .before .before .loop .i)
+high-is c = c .get2 .ensures ∙ summed-high (c .before .before .before .before .before .loop .inv .1) (c .before .before .before .before .before .before .pre .1 .0 .0) (c .before .before .before .before .loop-test .taken)
+
+add-requires : tie.Need-add-requires Inv-loop μ-loop
+add-requires c κs =
+    let g = c .before in
+    rw (low-is g, high-is g) (g .before .before .before .before .before .before .pre .1 .1 .sum-fits (g .before .before .before .before .before .loop .i) (g .before .before .before .before .loop-test .taken))
+
+subtract-requires : tie.Need-subtract-requires Inv-loop μ-loop
+subtract-requires c κs =
+    let g = c .before .before .before .before in
+    rw (low-is g, high-is g) (g .before .before .before .before .before .before .pre .1 .1 .difference-fits (g .before .before .before .before .before .loop .i) (g .before .before .before .before .loop-test .taken))
+
+loop-again : tie.Need-loop-again Inv-loop μ-loop
+loop-again c =
+    let g = c .before .before .before .before .before .before in
+    let s = g .before .before .before .before .before .before in (
+      omega arith,
+      summed-more (g .before .before .before .before .before .loop .inv .1) (s .pre .1 .0 .0) (g .before .before .before .before .loop-test .taken) (s .pre .0) (s .pre .1 .0 .1)
+          (c .before .before .before .before .add .ensures ∙ rw (low-is g, high-is g) refl) (c .before .subtract .ensures ∙ rw (low-is g, high-is g) refl)
+          (c .before .before .before .put-at .ensures) (c .put-at2 .ensures),
+    )
+
+returns : tie.Need-returns Inv-loop μ-loop
+returns c = summed-to (c .before .loop .inv .1) (c .before .loop .inv .0) (c .loop-test .left)
+
+pub sum-row-spec : {M : Type 1} → statement M
+sum-row-spec =
+    tie.close
+    (tie.spec
+    Inv-loop
+    μ-loop
+    (λ c. (search needs, summed-none _ _ _))
+    (λ c. search needs)
+    (λ c κs. search needs)
+    (λ c. search needs)
+    (λ c κs. search needs)
+    (λ c. search needs)
+    add-requires
+    (λ c κs. search needs)
+    (λ c. search needs)
+    subtract-requires
+    (λ c κs. search needs)
+    (λ c. search needs)
+    (λ c. search needs)
+    loop-again
+    returns)

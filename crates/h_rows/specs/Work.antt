@@ -1,0 +1,51 @@
+-- What the loops over places do to them. Assumes nothing.
+use mathlib.Core.Path.{_≡_}
+use mathlib.Core.Bool.{Bool, true, false}
+use mathlib.Core.List.{List}
+use Prim.Native.Nat.{ℕ, _+_, _*_, _^_, _≤_, _<_}
+use lib.IntN.{ℤ, pos, natAbs}
+use lib.ListN.{length, getD}
+use lib.Bits.{bitOr}
+use Rattle.cyclotomic.specs.Zomega.{Zω, limit, addω, subω, Small}
+use Rattle.places.specs.Places.{places, entry, Same, AllSmall, read}
+use Rattle.rows.specs.Rows.{has}
+
+-- the place j
+abbrev pub at : List ℤ → ℕ → ℤ
+at l j = getD l j (pos 0)
+
+-- c entries from e on and c entries from f on became their sums and their differences; no other entry changed
+pub record Summed (l l′ : List ℤ) (e f c : ℕ) : Type 0 where
+  pub long : length l′ ≡ length l
+  pub sums : (k : ℕ) → k < c → entry l′ (e + k) ≡ addω (entry l (e + k)) (entry l (f + k))
+  pub differences : (k : ℕ) → k < c → entry l′ (f + k) ≡ subω (entry l (e + k)) (entry l (f + k))
+  pub other : (k : ℕ) → ((i : ℕ) → i < c → k ≡ e + i → ⊥) → ((i : ℕ) → i < c → k ≡ f + i → ⊥) → entry l′ k ≡ entry l k
+
+-- the sizes of c places from p on and of c places from q on, added one by one, are within the limit
+pub record SizesFit (l : List ℤ) (p q c : ℕ) : Type 0 where
+  pub fit : (i : ℕ) → i < c → natAbs (at l (p + i)) + natAbs (at l (q + i)) ≤ limit
+
+-- the sums and the differences of c entries from e on and c entries from f on are within the limit
+pub record SumsFit (l : List ℤ) (e f c : ℕ) : Type 0 where
+  pub sum-fits : (k : ℕ) → k < c → Small (addω (entry l (e + k)) (entry l (f + k)))
+  pub difference-fits : (k : ℕ) → k < c → Small (subω (entry l (e + k)) (entry l (f + k)))
+
+-- where row r lacks the bit: its sums and differences with the row that has it besides are within the limit
+pub record PairFits (n bit : ℕ) (l : List ℤ) (r : ℕ) : Type 0 where
+  pub pair : has r bit ≡ false → SumsFit l (r * 2 ^ n) (bitOr r bit * 2 ^ n) (2 ^ n)
+
+-- where row r lacks the bit: it and the row that has it besides became their sums and their differences; otherwise no place changed
+pub record PairSummed (n bit : ℕ) (l l′ : List ℤ) (r : ℕ) : Type 0 where
+  pub pair : has r bit ≡ false → Summed l l′ (r * 2 ^ n) (bitOr r bit * 2 ^ n) (2 ^ n)
+  pub alone : has r bit ≡ true → l′ ≡ l
+
+-- a test that says whether P holds
+pub record Tells (P : Type 0) (ok : Bool) : Type 0 where
+  pub holds : ok ≡ true → P
+  pub fails : ok ≡ false → P → ⊥
+
+-- what H leaves, where its exact result is x: all of x, which fits, or, where x does not fit, all places as they were
+pub record HDone (n : ℕ) (x : ℕ → ℕ → Zω) (l l′ : List ℤ) (ok : Bool) : Type 0 where
+  pub long : length l′ ≡ places
+  pub done : ok ≡ true → Same n (read n l′) x × AllSmall n x
+  pub refused : ok ≡ false → (l′ ≡ l) × (AllSmall n x → ⊥)

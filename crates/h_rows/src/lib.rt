@@ -3,7 +3,6 @@
 // the ring's own functions. Rows are tested by and, a row's partner is found by or.
 ghost use mathlib.Core.Path.{_≡_};
 ghost use Prim.Native.Nat.{_+_, _*_, _^_, _<_, _≤_};
-
 ghost use lib.ListN.{length};
 ghost use Rattle.cyclotomic.specs.Zomega.{limit};
 ghost use Rattle.places.specs.Places.{places, entry, read, Same, AllSmall};

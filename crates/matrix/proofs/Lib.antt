@@ -1,2 +1,4 @@
 pub mod Lowering
 pub mod Filling
+pub mod Steps
+pub mod Masks

@@ -1,14 +1,42 @@
 -- What the matrix code leaves in the places, in terms of exact matrices. Assumes nothing.
 use mathlib.Core.Path.{_≡_}
+use mathlib.Core.Bool.{true, false}
 use mathlib.Core.List.{List}
 use Prim.Native.Nat.{ℕ}
 use lib.IntN.{ℤ}
 use lib.ListN.{length}
-use Rattle.exact.specs.Matrix.{Exact, Equal}
+use Rattle.exact.specs.Matrix.{Exact, Equal, Lowest}
+use Rattle.circuit.specs.Pairs.{maskOf}
+use Rattle.exact.specs.Rows.{Gate, phase, exchange, act, Proper}
+use Rattle.exact.specs.Fits.{stepFits}
 use Rattle.places.specs.Places.{places, read, held, AllSmall}
+use Rattle.matrix.specs.declared.Applied.{Applied}
+use Rattle.matrix.specs.declared.Applied.the-variants.{Done, DoesNotFit}
 
 -- the places hold the matrix x of width n, with exponent k and coefficients within the limit
 pub record Holds (n k : ℕ) (l : List ℤ) (x : Exact) : Type 0 where
   pub long : length l ≡ places
   pub equal : Equal n (held n k l) x
   pub small : AllSmall n (read n l)
+
+-- the places hold some matrix of width n in lowest denominator, with exponent k and coefficients within the limit
+pub record Ready (n k : ℕ) (l : List ℤ) : Type 0 where
+  pub long : length l ≡ places
+  pub small : AllSmall n (read n l)
+  pub lowest : Lowest n (held n k l)
+
+-- what a step by the gate g leaves: its exact result, with the exponent told, where the raw row operation fits; where it does not fit, all
+-- places as they were
+abbrev pub Left : (n k : ℕ) → Gate → List ℤ → List ℤ → Applied → Type 0
+Left n k g l l′ (Done j) = (stepFits n g (held n k l) ≡ true) × Holds n j l′ (act n g (held n k l))
+Left n k g l l′ DoesNotFit = (stepFits n g (held n k l) ≡ false) × (l′ ≡ l)
+
+pub record Stepped (n k : ℕ) (g : Gate) (l l′ : List ℤ) (r : Applied) : Type 0 where
+  pub left : Left n k g l l′ r
+
+-- the same for a turn and for an exchange, whose bits are given as a mask
+pub record Turned (n k mask p : ℕ) (l l′ : List ℤ) (r : Applied) : Type 0 where
+  pub by : (ks : List ℕ) → mask ≡ maskOf ks → Stepped n k (phase ks p) l l′ r
+
+pub record Exchanged (n k control t : ℕ) (l l′ : List ℤ) (r : Applied) : Type 0 where
+  pub by : (ks : List ℕ) → control ≡ maskOf ks → Proper n (exchange ks t) → Stepped n k (exchange ks t) l l′ r

@@ -1,13 +1,26 @@
 // A matrix of width up to 5 in 4,096 signed places, and one gate applied to it. matrix.rs of the original: `identity`,
-// `normalize_denominator`.
+// `normalize_denominator`, `apply_gate_left`.
 ghost use mathlib.Core.Path.{_≡_};
+ghost use mathlib.Core.Bool.{true};
+
 ghost use Prim.Native.Nat.{_/_, _%_, _^_, _<_, _≤_};
+ghost use lib.Bits.{bitAnd};
 ghost use lib.ListN.{length};
+ghost use Rattle.circuit.specs.Kinds.{kindAt, isKind};
+ghost use Rattle.circuit.specs.Codes.{valid};
 ghost use Rattle.exact.specs.Matrix.{lower, identity};
+ghost use Rattle.exact.specs.Rows.{exchange, had, Proper, bitOf, gate, gateOf};
 ghost use Rattle.places.specs.Places.{places, read, held, AllSmall};
-ghost use Rattle.matrix.specs.Step.{Holds};
+ghost use Rattle.matrix.specs.Step.{Holds, Ready, Stepped, Turned, Exchanged};
+use circuit::LibraryGate;
 use cyclotomic::Coefficient;
 use cyclotomic::Cyclotomic;
+
+// What a gate left: the exponent, or that a coefficient or the exponent passes its limit.
+pub enum Applied {
+    Done(u16),
+    DoesNotFit,
+}
 
 // The identity's entry at a place, counted in entries.
 fn identity_entry(n: usize, e: usize) -> Cyclotomic
@@ -51,4 +64,106 @@ pub fn normalize_denominator(m: &mut [Coefficient; 4096], n: usize, k: u16) -> u
         j -= 1;
     }
     j
+}
+
+// A turn by omega^power of the rows that have all bits of the mask.
+fn phase_step(m: &mut [Coefficient; 4096], n: usize, mask: usize, power: u8, k: u16) -> Applied
+    requires { ⌜ n ≤ 5 ⌝ }
+    requires { ⌜ Ready n k (now m) ⌝ }
+    ensures { λ r. ⌜ Turned n k mask power (now (m .entry)) (now (m .exit)) r ⌝ }
+{
+    rows::apply_phase_left(m, n, mask, power);
+    Applied::Done(k)
+}
+
+// An exchange of the rows that differ in bit t, where they have all bits of control.
+fn exchange_step(m: &mut [Coefficient; 4096], n: usize, control: usize, t: usize, k: u16) -> Applied
+    requires { ⌜ (n ≤ 5) × (t < n) ⌝ }
+    requires { ⌜ bitAnd control (2 ^ t) ≡ 0 ⌝ }
+    requires { ⌜ Ready n k (now m) ⌝ }
+    ensures { λ r. ⌜ Exchanged n k control t (now (m .entry)) (now (m .exit)) r ⌝ }
+{
+    rows::apply_controlled_x_left(m, n, control, t);
+    Applied::Done(k)
+}
+
+// H on bit t.
+fn h_step(m: &mut [Coefficient; 4096], n: usize, t: usize, k: u16) -> Applied
+    requires { ⌜ (n ≤ 5) × (t < n) ⌝ }
+    requires { ⌜ Ready n k (now m) ⌝ }
+    ensures { λ r. ⌜ Stepped n k (had t) (now (m .entry)) (now (m .exit)) r ⌝ }
+{
+    if k == 65535 {
+        return Applied::DoesNotFit;
+    }
+    if !h_rows::apply_h_left(m, n, t) {
+        return Applied::DoesNotFit;
+    }
+    Applied::Done(normalize_denominator(m, n, k + 1))
+}
+
+// The bit of a row's number that stands for qubit q: qubit 0 is the most significant.
+fn row_bit(n: usize, q: u32) -> usize
+    ensures { λ r. ⌜ r ≡ bitOf n q ⌝ }
+{
+    let i = q as usize;
+    if i >= n {
+        return 0;
+    }
+    n - 1 - i
+}
+
+// The gate of a kind on the qubits a, b, c.
+fn kind_step(
+    m: &mut [Coefficient; 4096],
+    n: usize,
+    kind: u32,
+    a: u32,
+    b: u32,
+    c: u32,
+    k: u16,
+) -> Applied
+    requires { ⌜ n ≤ 5 ⌝ }
+    requires { ⌜ isKind (kindAt kind) ≡ true ⌝ }
+    requires { ⌜ Proper n (gate n (kindAt kind) a b c) ⌝ }
+    requires { ⌜ Ready n k (now m) ⌝ }
+    ensures { λ r. ⌜ Stepped n k (gate n (kindAt kind) a b c) (now (m .entry)) (now (m .exit)) r ⌝ }
+{
+    let s = row_bit(n, a);
+    let t = row_bit(n, b);
+    let u = row_bit(n, c);
+    let bit_s = places::dim(s);
+    let bit_t = places::dim(t);
+    let bit_u = places::dim(u);
+    match kind {
+        0 => h_step(m, n, s, k),
+        1 => exchange_step(m, n, 0, s, k),
+        2 => phase_step(m, n, bit_s, 4, k),
+        3 => phase_step(m, n, bit_s, 2, k),
+        4 => phase_step(m, n, bit_s, 6, k),
+        5 => phase_step(m, n, bit_s, 1, k),
+        6 => phase_step(m, n, bit_s, 7, k),
+        8 => exchange_step(m, n, bit_s, t, k),
+        9 => phase_step(m, n, bit_s | bit_t, 4, k),
+        10 => exchange_step(m, n, bit_s | bit_t, u, k),
+        _ => phase_step(m, n, bit_s | (bit_t | bit_u), 4, k),
+    }
+}
+
+// The gate of a valid code, applied on the left.
+pub fn apply_gate_left(m: &mut [Coefficient; 4096], n: usize, gate: LibraryGate, k: u16) -> Applied
+    requires { ⌜ n ≤ 5 ⌝ }
+    requires { ⌜ valid n (gate .0) ≡ true ⌝ }
+    requires { ⌜ Ready n k (now m) ⌝ }
+    ensures { λ r. ⌜ Stepped n k (gateOf n (gate .0)) (now (m .entry)) (now (m .exit)) r ⌝ }
+{
+    kind_step(
+        m,
+        n,
+        gate.kind(),
+        gate.first(),
+        gate.second(),
+        gate.third(),
+        k,
+    )
 }

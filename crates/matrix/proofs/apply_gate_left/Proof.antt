@@ -1,0 +1,22 @@
+-- `apply_gate_left` meets its contract: the gate of a valid code is that of its kind on its operands. Assumes nothing.
+use borrow.Author.Needs.{needs}
+use Rattle.exact.proofs.Coded.{valid-kind}
+use Rattle.matrix.proofs.Masks.{coded, coded-proper}
+use Rattle.matrix.proofs.apply_gate_left.Statement.{statement}
+use Rattle.matrix.proofs.apply_gate_left.Tie as tie
+
+kind-step-requires : tie.Need-kind-step-requires
+kind-step-requires c κs =
+    let p = c .before .before .before .before .before .pre in
+    rw (c .before .before .before .kind .ensures, c .before .before .first .ensures, c .before .second .ensures, c .third .ensures)
+    (p .0, (valid-kind _ _ (p .1 .0), (coded-proper _ _ (p .1 .0), p .1 .1)))
+
+returns : tie.Need-returns
+returns c =
+    let p = c .before .before .before .before .before .before .pre in
+    rw (coded _ _ (p .1 .0)) (rw (c .before .before .before .before .kind .ensures, c .before .before .before .first .ensures, c .before .before .second .ensures, c .before .third .ensures) at (c .kind-step .ensures))
+
+pub apply-gate-left-spec : {M : Type 1} → statement M
+apply-gate-left-spec =
+    tie.close
+    (tie.spec (λ c κs. search needs) (λ c κs. search needs) (λ c κs. search needs) (λ c κs. search needs) kind-step-requires returns)

@@ -1,0 +1,12 @@
+-- `phase_step` meets its contract: a turn always fits, and keeps the lowest denominator. Assumes nothing.
+use native.Mathlib.Omega.{arith}
+use borrow.Author.Needs.{needs}
+use Rattle.matrix.proofs.Steps.{phase-stepped}
+use Rattle.matrix.proofs.phase_step.Statement.{statement}
+use Rattle.matrix.proofs.phase_step.Tie as tie
+
+returns : tie.Need-returns
+returns c = record { by = phase-stepped _ _ _ _ (c .before .before .pre .1) _ _ (omega arith) (c .apply-phase-left .ensures .0) (c .apply-phase-left .ensures .1) }
+
+pub phase-step-spec : {M : Type 1} → statement M
+phase-step-spec = tie.close (tie.spec (λ c κs. search needs) returns)

@@ -128,3 +128,8 @@ module _ (n : ℕ) where
 
   pub act-equal' : (g : Gate) {x y : Exact} → Equal n x y → Proper n g → Equal n (act n g x) (act n g y)
   act-equal' g s pr = act-equal n g pr (equal-same n s)
+
+  pub equal-lowest : {x y : Exact} → Equal n x y → Lowest n x → Lowest n y
+  equal-lowest {x} {y} s l = record {
+    lowest = λ h. divisible-back x y (λ w r c i j. ap divisible (s .entries r c i j) ∙ w r c i j) (l .lowest (rw (s .exponent) h));
+  }

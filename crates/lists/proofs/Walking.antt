@@ -1,0 +1,117 @@
+-- A list in place, gate by gate: what is left of the list, from the matrix in the places on, says of the whole list whether it fits and what
+-- its product is. Assumes nothing.
+use mathlib.Core.Path.{_≡_, refl, ap, _∙_, subst}
+use mathlib.Core.Bool.{Bool, true}
+use mathlib.Core.List.{List, [], _∷_}
+use Prim.Native.Nat.{ℕ, zero, suc, _+_, _≤_, _<_}
+use native.Mathlib.Omega.{arith}
+use lib.IntN.{ℤ}
+use lib.ListN.{length, getD, drop, drop-of-length-le}
+use lib.Seq.{drop-cons}
+use Rattle.ints.specs.Lists.{pick, all}
+use Rattle.ints.proofs.Bools.{and-left, and-right}
+use Rattle.exact.specs.Matrix.{Exact, Equal, identity}
+use Rattle.exact.specs.Rows.{Gate, act, gateOf}
+use Rattle.exact.specs.Lists.{after, product}
+use Rattle.exact.specs.Fits.{Steps, allFit, unfitAt, next, stepsFrom, steps}
+use Rattle.exact.proofs.Values.{equal-sym, equal-trans}
+use Rattle.exact.proofs.Acts.{act-lowest}
+use Rattle.exact.proofs.Listed.{after-equal}
+use Rattle.exact.proofs.Coded.{proper}
+use Rattle.exact.proofs.Keeps.{step-equal, act-equal', equal-lowest}
+use Rattle.places.specs.Places.{places, held}
+use Rattle.matrix.specs.Step.{Holds, Ready, Stepped}
+use Rattle.matrix.specs.declared.Applied.{Applied}
+use Rattle.matrix.specs.declared.Applied.the-variants.{Done, DoesNotFit}
+use Rattle.lists.specs.Walk.{Ended}
+use Rattle.lists.specs.declared.Walked.the-variants.{Fits, UnfitAt}
+
+-- a test of every code, at one place
+pub all-at : (f : ℕ → Bool) (l : List ℕ) (i : ℕ) → all f l ≡ true → i < length l → f (getD l i 0) ≡ true
+unfolding all
+all-at f [] i h p = absurd (omega arith)
+all-at f (x ∷ l) zero h p = and-left (f x) (all f l) h
+all-at f (x ∷ l) (suc i) h p = all-at f l i (and-right (f x) (all f l) h) (omega arith)
+
+-- the answer is known by an equation
+pub at-answer : {n k : ℕ} {g : Gate} {l l′ : List ℤ} {r s : Applied} → r ≡ s → Stepped n k g l l′ r → Stepped n k g l l′ s
+at-answer {n} {k} {g} {l} {l′} e w = subst (λ (x : Applied). Stepped n k g l l′ x) e w
+
+-- i steps later
+abbrev later : ℕ → Steps → Steps
+later zero s = s
+later (suc i) s = later i (next s)
+
+later-fit : (i : ℕ) → later i allFit ≡ allFit
+later-fit zero = refl
+later-fit (suc i) = later-fit i
+
+later-unfit : (i j : ℕ) → later i (unfitAt j) ≡ unfitAt (i + j)
+later-unfit zero j = ap unfitAt (omega arith)
+later-unfit (suc i) j = later-unfit i (suc j) ∙ ap unfitAt (omega arith)
+
+module _ (n : ℕ) where
+  steps-equal : {x y : Exact} (l : List ℕ) → Equal n x y → stepsFrom n x l ≡ stepsFrom n y l
+  steps-equal [] s = refl
+  steps-equal (g ∷ l) s =
+      λ i. pick (step-equal n (gateOf n g) s (proper n g) i) (next (steps-equal l (act-equal' n (gateOf n g) s (proper n g)) i)) (unfitAt 0)
+
+-- the first i gates of a list were applied, and the places hold their product over √2 to the k
+pub record Walking (n : ℕ) (codes : List ℕ) (i k : ℕ) (l : List ℤ) : Type 0 where
+  pub within : i ≤ length codes
+  pub ready : Ready n k l
+  pub ahead : steps n codes ≡ later i (stepsFrom n (held n k l) (drop i codes))
+  pub rest : Equal n (product n codes) (after n (held n k l) (drop i codes))
+
+module _ (n : ℕ) (codes : List ℕ) where
+  pub walking-first : (l : List ℤ) → Holds n 0 l identity → Walking n codes 0 0 l
+  unfolding steps product
+  walking-first l w = record {
+    within = omega arith;
+    ready = record { long = w .long; small = w .small; lowest = record { lowest = λ h. absurd (omega arith) } };
+    ahead = steps-equal n codes (equal-sym n (w .equal));
+    rest = after-equal n codes (equal-sym n (w .equal));
+  }
+
+  module _ {i k : ℕ} {l : List ℤ} (w : Walking n codes i k l) (h : i < length codes) where
+    abbrev code : ℕ
+    code = getD codes i 0
+
+    ahead-here : steps n codes ≡ later i (stepsFrom n (held n k l) (code ∷ drop (suc i) codes))
+    ahead-here = w .ahead ∙ ap (λ (z : List ℕ). later i (stepsFrom n (held n k l) z)) (drop-cons codes i 0 h)
+
+    pub walking-more : {j : ℕ} (l′ : List ℤ) → Stepped n k (gateOf n code) l l′ (Done j) → Walking n codes (i + 1) j l′
+    walking-more {j} l′ s =
+        let fit = s .left .0 in
+        let held′ = s .left .1 in
+        let one : suc i ≡ i + 1 = omega arith in
+        subst (λ (z : ℕ). Walking n codes z j l′) one
+        (record {
+          within = h;
+          ready = record { long = held′ .long; small = held′ .small; lowest = equal-lowest n (equal-sym n (held′ .equal)) (act-lowest n (gateOf n code) (held n k l)) };
+          ahead = ahead-here ∙ ap (λ b. later i (pick b (next (stepsFrom n (act n (gateOf n code) (held n k l)) (drop (suc i) codes))) (unfitAt 0))) fit
+              ∙ ap (λ (z : Steps). later i (next z)) (steps-equal n (drop (suc i) codes) (equal-sym n (held′ .equal)));
+          rest = equal-trans n (subst (λ (z : List ℕ). Equal n (product n codes) (after n (held n k l) z)) (drop-cons codes i 0 h) (w .rest))
+              (after-equal n (drop (suc i) codes) (equal-sym n (held′ .equal)));
+        })
+
+    pub walking-unfit : (l′ : List ℤ) → Stepped n k (gateOf n code) l l′ DoesNotFit → Ended n codes l′ (UnfitAt i)
+    walking-unfit l′ s = record {
+      end = ahead-here
+          ∙ ap (λ b. later i (pick b (next (stepsFrom n (act n (gateOf n code) (held n k l)) (drop (suc i) codes))) (unfitAt 0))) (s .left .0)
+          ∙ later-unfit i 0 ∙ ap unfitAt (omega arith);
+    }
+
+  pub walking-end : {i k : ℕ} {l : List ℤ} → Walking n codes i k l → length codes ≤ i → Ended n codes l (Fits k)
+  walking-end {i} {k} {l} w h =
+      let e = drop-of-length-le codes {i = i} h in
+      record {
+        end = (
+          w .ahead ∙ ap (λ (z : List ℕ). later i (stepsFrom n (held n k l) z)) e ∙ later-fit i,
+          record {
+            long = w .ready .long;
+            equal = equal-sym n (subst (λ (z : List ℕ). Equal n (product n codes) (after n (held n k l) z)) e (w .rest));
+            small = w .ready .small;
+          },
+        );
+      }

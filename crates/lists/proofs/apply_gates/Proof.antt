@@ -1,0 +1,52 @@
+-- `apply_gates` meets its contract: after each gate the rest of the list says what the whole list does. Assumes nothing.
+use Prim.Native.Nat.{_-_}
+use native.Mathlib.Omega.{arith}
+use lib.ListN.{length}
+use borrow.Author.Needs.{needs}
+use Rattle.lists.proofs.Walking.{Walking, all-at, at-answer, walking-first, walking-more, walking-unfit, walking-end}
+use Rattle.lists.proofs.apply_gates.Statement.{statement}
+use Rattle.lists.proofs.apply_gates.Tie as tie
+
+abbrev Inv-loop : tie.InvT-loop
+Inv-loop m₀ n codes k₀ i₀ m k i = Walking n codes i k m
+
+abbrev μ-loop : tie.MeasureT-loop
+μ-loop m₀ n codes k₀ i₀ m k i = length codes - i
+
+loop-holds : tie.Need-loop-holds Inv-loop μ-loop
+loop-holds c = walking-first _ _ _ (c .set-identity .ensures)
+
+apply-gate-left-requires : tie.Need-apply-gate-left-requires Inv-loop μ-loop
+apply-gate-left-requires c κs =
+    let p = c .before .before .before .before .before .before .before .pre in
+    (p .1 .0, (all-at _ _ _ (p .1 .1) (c .before .before .loop-test .taken), c .before .before .before .loop .inv .ready))
+
+returns : tie.Need-returns Inv-loop μ-loop
+returns c =
+    walking-unfit _ _ (c .before .before .before .before .before .before .loop .inv) (c .before .before .before .before .before .loop-test .taken) _ (at-answer (c .enum-told .given .1) (c .before .before .apply-gate-left .ensures))
+
+loop-again : tie.Need-loop-again Inv-loop μ-loop
+loop-again c =
+    walking-more _ _ (c .before .before .before .before .before .before .before .loop .inv) (c .before .before .before .before .before .before .loop-test .taken) _ (at-answer (c .before .j .given .1) (c .before .before .before .apply-gate-left .ensures))
+
+returns-2 : tie.Need-returns-2 Inv-loop μ-loop
+returns-2 c = walking-end _ _ (c .before .loop .inv) (omega (arith, c .loop-test .left))
+
+pub apply-gates-spec : {M : Type 1} → statement M
+apply-gates-spec =
+    tie.close
+    (tie.spec
+    Inv-loop
+    μ-loop
+    (λ c κs. search needs)
+    loop-holds
+    (λ c. search needs)
+    (λ c. search needs)
+    apply-gate-left-requires
+    (λ c. search needs)
+    (λ c. search needs)
+    returns
+    (λ c. search needs)
+    (λ c. search needs)
+    loop-again
+    returns-2)

@@ -1,0 +1,18 @@
+-- What a list of valid codes leaves in the places. Assumes nothing.
+use mathlib.Core.Path.{_≡_}
+use mathlib.Core.List.{List}
+use Prim.Native.Nat.{ℕ}
+use lib.IntN.{ℤ}
+use Rattle.exact.specs.Lists.{product}
+use Rattle.exact.specs.Fits.{allFit, unfitAt, steps}
+use Rattle.matrix.specs.Step.{Holds}
+use Rattle.lists.specs.declared.Walked.{Walked}
+use Rattle.lists.specs.declared.Walked.the-variants.{Fits, UnfitAt}
+
+-- "does not fit; position of the gate": the list's exact product where every step fits, otherwise the position of the first step that does not
+abbrev pub End : ℕ → List ℕ → List ℤ → Walked → Type 0
+End n codes l (Fits k) = (steps n codes ≡ allFit) × Holds n k l (product n codes)
+End n codes l (UnfitAt i) = steps n codes ≡ unfitAt i
+
+pub record Ended (n : ℕ) (codes : List ℕ) (l : List ℤ) (r : Walked) : Type 0 where
+  pub end : End n codes l r

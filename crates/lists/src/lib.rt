@@ -1,0 +1,39 @@
+// A list of gates applied to the identity in place. murm.rs of the original, `library_circuit_matrix`, below the entry: the codes are valid
+// and the places are there.
+ghost use mathlib.Core.Path.{_≡_};
+ghost use mathlib.Core.Bool.{true};
+ghost use Prim.Native.Nat.{_≤_};
+ghost use lib.ListN.{length};
+ghost use Rattle.ints.specs.Lists.{all};
+ghost use Rattle.circuit.specs.Codes.{valid};
+ghost use Rattle.places.specs.Places.{places};
+ghost use Rattle.lists.specs.Walk.{Ended};
+use circuit::LibraryGate;
+use cyclotomic::Coefficient;
+use matrix::Applied;
+
+// How a list ended: all its steps fit, and the exponent; or the position of the first that does not fit.
+pub enum Walked {
+    Fits(u16),
+    UnfitAt(usize),
+}
+
+// The gates of a list, oldest first, from the identity on.
+pub fn apply_gates(m: &mut [Coefficient; 4096], n: usize, codes: &[u32]) -> Walked
+    requires { ⌜ length (now m) ≡ places ⌝ }
+    requires { ⌜ n ≤ 5 ⌝ }
+    requires { ⌜ all (valid n) (now codes) ≡ true ⌝ }
+    ensures { λ r. ⌜ Ended n (now (codes .entry)) (now (m .exit)) r ⌝ }
+{
+    matrix::set_identity(m, n);
+    let mut k: u16 = 0;
+    let mut i = 0;
+    while i < codes.len() {
+        match matrix::apply_gate_left(m, n, LibraryGate(codes[i]), k) {
+            Applied::Done(j) => k = j,
+            Applied::DoesNotFit => return Walked::UnfitAt(i),
+        }
+        i += 1;
+    }
+    Walked::Fits(k)
+}

@@ -1,0 +1,1 @@
+-- The entries' answers, case by case, as the definition has them. Assumes nothing.

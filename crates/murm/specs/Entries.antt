@@ -1,0 +1,98 @@
+-- What the public entries answer, for every input: the values, or the refusal's number and position, and what the lent bytes then hold.
+-- Assumes nothing.
+use mathlib.Core.Bool.{Bool, true, false, not, _&&_, _||_}
+use mathlib.Core.List.{List, [], _∷_}
+use Prim.Native.Nat.{ℕ, zero, suc, _*_, _^_}
+use lib.IntN.{ℤ, negsuc}
+use lib.Dec.{eqb, ltb}
+use lib.ListN.{length}
+use Rattle.ints.specs.Lists.{pick}
+use Rattle.cyclotomic.specs.Zomega.{Zω, limit, eqZ}
+use Rattle.circuit.specs.Codes.{valid}
+use Rattle.exact.specs.Matrix.{Exact, allDivisible}
+use Rattle.exact.specs.Lists.{product}
+use Rattle.exact.specs.Fits.{Steps, allFit, unfitAt, steps}
+use Rattle.exact.specs.Phase.{flat}
+use Rattle.exact.specs.Fingerprint.{fingerprint}
+use Rattle.places.specs.Places.{read, held}
+use Rattle.murm.specs.declared.Listed.{Listed}
+use Rattle.murm.specs.declared.Listed.the-variants as l
+use Rattle.murm.specs.declared.Fingerprinted.{Fingerprinted}
+use Rattle.murm.specs.declared.Fingerprinted.the-variants as f
+
+-- an entry's answer: a number (the exponent, the fingerprint), or "its number and position"
+pub data Answer : Type 0 where
+  given : ℕ → Answer
+  refused : ℕ → ℕ → Answer
+
+-- ---- sizes and tests of document 01's table "Checked, and where"
+
+-- "exactly 4 × 4^n"
+abbrev pub byteCount : ℕ → ℕ
+byteCount n = 4 * 4 ^ n
+
+-- the position of the first code that is not valid; the number of codes if all are
+abbrev pub firstInvalid : ℕ → List ℕ → ℕ
+firstInvalid n [] = 0
+firstInvalid n (g ∷ l) = pick (valid n g) (suc (firstInvalid n l)) 0
+
+-- "a coefficient of -128": one below the limit's negative
+unfoldable pub lowestByte : List ℤ → Bool
+lowestByte [] = false
+lowestByte (x ∷ l) = eqZ x (negsuc limit) || lowestByte l
+
+-- ---- "a list becomes a matrix"
+
+-- "four per entry, row-major"
+abbrev pub bytesOf : ℕ → (ℕ → Zω) → List ℤ
+bytesOf zero e = []
+bytesOf (suc m) e = e 0 .a ∷ e 0 .b ∷ e 0 .c ∷ e 0 .d ∷ bytesOf m (λ i. e (suc i))
+
+unfoldable pub coefficients : ℕ → Exact → List ℤ
+coefficients n x = bytesOf (2 ^ n * 2 ^ n) (flat n (x .e))
+
+-- the answer, and what the lent bytes hold after it
+pub record Outcome : Type 0 where
+  pub answer : Answer
+  pub bytes : List ℤ
+
+abbrev pub outcome : Answer → List ℤ → Outcome
+outcome a l = record { answer = a; bytes = l }
+
+abbrev formed : ℕ → List ℕ → List ℤ → Steps → Outcome
+formed n codes bytes allFit = outcome (given (product n codes .k)) (coefficients n (product n codes))
+formed n codes bytes (unfitAt i) = outcome (refused 8 i) bytes
+
+-- "An accepted list writes the 4 × 4^n signed bytes and returns the exponent." Rows 6, 9, 7, 8 are tried in this order
+unfoldable pub listed : ℕ → List ℕ → List ℤ → Outcome
+listed n codes bytes =
+    pick (ltb 5 n) (outcome (refused 6 0) bytes)
+    (pick (eqb (length bytes) (byteCount n))
+    (pick (ltb (firstInvalid n codes) (length codes)) (outcome (refused 7 (firstInvalid n codes)) bytes) (formed n codes bytes (steps n codes)))
+    (outcome (refused 9 0) bytes))
+
+-- the number and the values of each case
+abbrev pub toldListed : Listed → Answer
+toldListed (l.Matrix k) = given k
+toldListed l.WidthTooLarge = refused 6 0
+toldListed l.LengthNotExact = refused 9 0
+toldListed (l.NotValid i) = refused 7 i
+toldListed (l.DoesNotFit i) = refused 8 i
+
+-- ---- the fingerprint of a matrix that may be asked of a table
+
+-- The query's rows 6, 9, 10, 11 are tried in this order
+unfoldable pub fingerprinted : ℕ → ℕ → List ℤ → Answer
+fingerprinted n k bytes =
+    pick (ltb 5 n) (refused 6 0)
+    (pick (eqb (length bytes) (byteCount n))
+    (pick (lowestByte bytes) (refused 10 0)
+    (pick (ltb 0 k && allDivisible n (read n bytes)) (refused 11 0) (given (fingerprint n (held n k bytes)))))
+    (refused 9 0))
+
+abbrev pub toldFingerprinted : Fingerprinted → Answer
+toldFingerprinted (f.Fingerprint p) = given p
+toldFingerprinted f.WidthTooLarge = refused 6 0
+toldFingerprinted f.LengthNotExact = refused 9 0
+toldFingerprinted f.OutOfRange = refused 10 0
+toldFingerprinted f.NotLowest = refused 11 0

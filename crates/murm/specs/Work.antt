@@ -1,0 +1,19 @@
+-- What the tests of coefficients tell. Assumes nothing.
+use mathlib.Core.Path.{_≡_}
+use mathlib.Core.Bool.{Bool, true, false, not}
+use mathlib.Core.List.{List}
+use Prim.Native.Nat.{ℕ, _≤_, _<_}
+use lib.IntN.{ℤ, pos, negsuc, natAbs}
+use lib.ListN.{length, getD}
+use Rattle.cyclotomic.specs.Zomega.{limit, eqZ}
+use Rattle.murm.specs.Entries.{lowestByte}
+
+-- whether a coefficient is -128; a byte that is not is within the limit
+pub record PastLimit (x : ℤ) (r : Bool) : Type 0 where
+  pub told : r ≡ eqZ x (negsuc limit)
+  pub small : r ≡ false → natAbs x ≤ limit
+
+-- the same of all coefficients
+pub record InRange (l : List ℤ) (r : Bool) : Type 0 where
+  pub told : r ≡ not (lowestByte l)
+  pub small : r ≡ true → (i : ℕ) → i < length l → natAbs (getD l i (pos 0)) ≤ limit

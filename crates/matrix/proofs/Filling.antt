@@ -38,9 +38,9 @@ module _ (n : ℕ) where
   filled-none = record { long = refl; done = λ r b. absurd (omega arith); ahead = λ r b c q. none-entry 4096 (r * 2 ^ n + c) }
 
   -- 1 at the diagonal's place of the next row
-  pub filled-more : {l l′ : List ℤ} {z : Zω} (i : ℕ) {e : ℕ} → n ≤ 5 → Filled n l i → i < 2 ^ n → e ≡ i * 2 ^ n + i → z ≡ oneω → l′ ≡ put l e z
+  pub filled-more : {l l′ : List ℤ} {z : Zω} (i : ℕ) {e : ℕ} → n ≤ 5 → Filled n l i → i < 2 ^ n → l′ ≡ put l e z → z ≡ oneω → e ≡ i * 2 ^ n + i
       → Filled n l′ (i + 1)
-  filled-more {l} {l′} {z} i {e} b w h p t q = record {
+  filled-more {l} {l′} {z} i {e} b w h q t p = record {
     long = ap length q ∙ length-put l e z ∙ w .long;
     done = below-more (λ r. (c : ℕ) → c < 2 ^ n → read n l′ r c ≡ identity .e r c) i
         (λ r g c k. other r c k (λ s. omega arith) ∙ w .done r g c k) next;
@@ -60,9 +60,12 @@ module _ (n : ℕ) where
   identity-small : (r c : ℕ) → Small (identity .e r c)
   identity-small r c = pick-ind Small (eqb r c) (λ h. small-one) (λ h. small-zero)
 
-  pub filled-end : {l : List ℤ} → Filled n l (2 ^ n) → Holds n 0 l identity
-  filled-end {l} w = record {
+  pub filled-end : {l : List ℤ} (i : ℕ) → Filled n l i → 2 ^ n ≤ i → Holds n 0 l identity
+  filled-end {l} i w h = record {
     long = w .long;
-    equal = record { exponent = refl; entries = λ r c p q. w .done r p c q };
-    small = record { small = λ r c p q. subst Small (sym (w .done r p c q)) (identity-small r c) };
+    equal = record { exponent = refl; entries = known };
+    small = record { small = λ r c p q. subst Small (sym (known r c p q)) (identity-small r c) };
   }
+    where
+      known : (r c : ℕ) → r < 2 ^ n → c < 2 ^ n → read n l r c ≡ identity .e r c
+      known r c p q = w .done r (omega arith) c q

@@ -8,7 +8,7 @@ ghost use lib.ListN.{length};
 ghost use Rattle.circuit.specs.Kinds.{kindAt, isKind};
 ghost use Rattle.circuit.specs.Codes.{valid};
 ghost use Rattle.exact.specs.Matrix.{lower, identity};
-ghost use Rattle.exact.specs.Rows.{exchange, had, Proper, bitOf, gate, gateOf};
+ghost use Rattle.exact.specs.Rows.{had, Proper, bitOf, gate, gateOf};
 ghost use Rattle.places.specs.Places.{places, read, held, AllSmall};
 ghost use Rattle.matrix.specs.Step.{IsMatrix, Holds, Ready, Stepped, Turned, Exchanged};
 use circuit::LibraryGate;

@@ -1,6 +1,6 @@
 -- `identity` meets its contract: the rows so far are the identity's, the others 0. Assumes nothing.
-use mathlib.Core.Path.{_≡_, refl, _∙_, subst}
-use Prim.Native.Nat.{_+_, _*_, _^_, _-_, _≤_, _<_}
+use mathlib.Core.Path.{refl}
+use Prim.Native.Nat.{_+_, _*_, _^_, _-_, _<_}
 use native.Mathlib.Nat.{mul-add}
 use native.Mathlib.Omega.{arith}
 use borrow.Author.Needs.{needs}
@@ -10,23 +10,21 @@ use Rattle.matrix.proofs.UnitaryMatrix.identity.Statement.{statement}
 use Rattle.matrix.proofs.UnitaryMatrix.identity.Tie as tie
 
 abbrev Inv-loop : tie.InvT-loop
-Inv-loop n data₀ d i₀ «data» i = (i ≤ d) × Filled n «data» i
+Inv-loop n data₀ d i₀ «data» i = Filled n «data» i
 
 abbrev μ-loop : tie.MeasureT-loop
 μ-loop n data₀ d i₀ «data» i = d - i
 
 loop-holds : tie.Need-loop-holds Inv-loop μ-loop
-loop-holds c = (search needs, filled-none _)
-
--- where row i has its 1
-diagonal : (c : tie.In-loop Inv-loop μ-loop) → c .before .loop .i * (c .before .before .dim .result + 1) ≡ c .before .loop .i * 2 ^ c .before .before .before .args .n + c .before .loop .i
-diagonal c = rw (c .before .before .dim .ensures) (omega (arith, mul-add (c .before .loop .i) (2 ^ c .before .before .before .args .n) 1))
+loop-holds c = filled-none _
 
 row : (c : tie.In-loop Inv-loop μ-loop) → c .before .loop .i < 2 ^ c .before .before .before .args .n
 row c = omega (arith, c .before .before .dim .ensures)
 
 inside : (c : tie.In-loop Inv-loop μ-loop) → c .before .loop .i * (c .before .before .dim .result + 1) < 1024
-inside c = omega (arith, diagonal c, place-fits _ _ _ (c .before .before .before .pre) (row c) (row c))
+inside c =
+    rw (c .before .before .dim .ensures)
+    (omega (arith, mul-add (c .before .loop .i) (2 ^ c .before .before .before .args .n) 1, place-fits _ _ _ (c .before .before .before .pre) (row c) (row c)))
 
 add-put-at : tie.Need-add-put-at Inv-loop μ-loop
 add-put-at c = omega (arith, c .before .before .before .dim .ensures, dim-le _ (c .before .before .before .before .pre))
@@ -35,16 +33,18 @@ mul-put-at : tie.Need-mul-put-at Inv-loop μ-loop
 mul-put-at c = omega (arith, inside (c .before))
 
 loop-again : tie.Need-loop-again Inv-loop μ-loop
-loop-again c = (
-  omega arith,
-  filled-more _ _ (c .before .before .before .before .before .before .pre) (c .before .before .before .before .loop .inv .1) (row (c .before .before .before))
-      (diagonal (c .before .before .before)) (c .before .one .ensures) (c .put-at .ensures),
-)
+loop-again c =
+    filled-more _ _ (c .before .before .before .before .before .before .pre) (c .before .before .before .before .loop .inv) (row (c .before .before .before))
+    (c .put-at .ensures) (c .before .one .ensures)
+    (rw (c .before .before .before .before .before .dim .ensures)
+    (omega (arith, mul-add (c .before .before .before .before .loop .i) (2 ^ c .before .before .before .before .before .before .args .n) 1)))
 
 returns : tie.Need-returns Inv-loop μ-loop
-returns c =
-    let all : c .before .loop .i ≡ c .before .before .dim .result = omega arith in
-    record { width = refl; exponent = refl; holds = filled-end _ (subst (Filled _ _) (all ∙ c .before .before .dim .ensures) (c .before .loop .inv .1)) }
+returns c = record {
+  width = refl;
+  exponent = refl;
+  holds = filled-end _ _ (c .before .loop .inv) (omega (arith, c .before .before .dim .ensures));
+}
 
 pub identity-spec : {M : Type 1} → statement M
 identity-spec =

@@ -1,12 +1,12 @@
-// A list of gates applied to the identity in place. murm.rs of the original, `library_circuit_matrix`, below the entry: the codes are valid
-// and the places are there.
+// A list of gates applied in place to the identity, which the caller hands over. murm.rs of the original, `library_circuit_matrix`, below
+// the entry: the codes are valid.
 ghost use mathlib.Core.Path.{_≡_};
 ghost use mathlib.Core.Bool.{true};
 ghost use Prim.Native.Nat.{_≤_};
-ghost use lib.ListN.{length};
 ghost use Rattle.ints.specs.Lists.{all};
 ghost use Rattle.circuit.specs.Codes.{valid};
-ghost use Rattle.places.specs.Places.{places};
+ghost use Rattle.exact.specs.Matrix.{identity};
+ghost use Rattle.matrix.specs.Step.{Holds};
 ghost use Rattle.lists.specs.Walk.{Ended};
 use circuit::LibraryGate;
 use cyclotomic::Coefficient;
@@ -18,14 +18,13 @@ pub enum Walked {
     UnfitAt(usize),
 }
 
-// The gates of a list, oldest first, from the identity on.
+// The gates of a list, oldest first, from the identity in the places on.
 pub fn apply_gates(m: &mut [Coefficient; 4096], n: usize, codes: &[u32]) -> Walked
-    requires { ⌜ length (now m) ≡ places ⌝ }
     requires { ⌜ n ≤ 5 ⌝ }
     requires { ⌜ all (valid n) (now codes) ≡ true ⌝ }
+    requires { ⌜ Holds n 0 (now m) identity ⌝ }
     ensures { λ r. ⌜ Ended n (now (codes .entry)) (now (m .exit)) r ⌝ }
 {
-    matrix::set_identity(m, n);
     let mut k: u16 = 0;
     let mut i = 0;
     while i < codes.len() {

@@ -10,6 +10,7 @@ use Rattle.circuit.specs.Pairs.{maskOf}
 use Rattle.exact.specs.Rows.{Gate, phase, exchange, act, Proper}
 use Rattle.exact.specs.Fits.{stepFits}
 use Rattle.places.specs.Places.{places, read, held, AllSmall}
+use Rattle.matrix.specs.declared.UnitaryMatrix.{UnitaryMatrix}
 use Rattle.matrix.specs.declared.Applied.{Applied}
 use Rattle.matrix.specs.declared.Applied.the-variants.{Done, DoesNotFit}
 
@@ -18,6 +19,12 @@ pub record Holds (n k : ℕ) (l : List ℤ) (x : Exact) : Type 0 where
   pub long : length l ≡ places
   pub equal : Equal n (held n k l) x
   pub small : AllSmall n (read n l)
+
+-- the value is the matrix x of width n, with exponent k and coefficients within the limit
+pub record IsMatrix (n k : ℕ) (v : UnitaryMatrix) (x : Exact) : Type 0 where
+  pub width : v .«num_qubits» ≡ n
+  pub exponent : v .«denominator_exponent» ≡ k
+  pub holds : Holds n k (v .data) x
 
 -- the places hold some matrix of width n in lowest denominator, with exponent k and coefficients within the limit
 pub record Ready (n k : ℕ) (l : List ℤ) : Type 0 where

@@ -2,15 +2,15 @@
 // `normalize_denominator`, `apply_gate_left`.
 ghost use mathlib.Core.Path.{_≡_};
 ghost use mathlib.Core.Bool.{true};
-ghost use Prim.Native.Nat.{_/_, _%_, _^_, _<_, _≤_};
+ghost use Prim.Native.Nat.{_^_, _<_, _≤_};
 ghost use lib.Bits.{bitAnd};
 ghost use lib.ListN.{length};
 ghost use Rattle.circuit.specs.Kinds.{kindAt, isKind};
 ghost use Rattle.circuit.specs.Codes.{valid};
 ghost use Rattle.exact.specs.Matrix.{lower, identity};
-ghost use Rattle.exact.specs.Rows.{exchange, had, Proper, bitOf, gate, gateOf};
+ghost use Rattle.exact.specs.Rows.{had, Proper, bitOf, gate, gateOf};
 ghost use Rattle.places.specs.Places.{places, read, held, AllSmall};
-ghost use Rattle.matrix.specs.Step.{Holds, Ready, Stepped, Turned, Exchanged};
+ghost use Rattle.matrix.specs.Step.{IsMatrix, Holds, Ready, Stepped, Turned, Exchanged};
 use circuit::LibraryGate;
 use cyclotomic::Coefficient;
 use cyclotomic::Cyclotomic;
@@ -21,29 +21,31 @@ pub enum Applied {
     DoesNotFit,
 }
 
-// The identity's entry at a place, counted in entries.
-fn identity_entry(n: usize, e: usize) -> Cyclotomic
-    requires { ⌜ n ≤ 5 ⌝ }
-    ensures { λ r. ⌜ r ≡ identity .e (e / 2 ^ n) (e % 2 ^ n) ⌝ }
-{
-    let d = places::dim(n);
-    if e / d == e % d {
-        return Cyclotomic::one();
-    }
-    Cyclotomic::zero()
+// A matrix by value.
+pub struct UnitaryMatrix {
+    pub num_qubits: usize,
+    pub denominator_exponent: u16,
+    pub data: [Coefficient; 4096],
 }
 
-// The identity of width n.
-pub fn set_identity(m: &mut [Coefficient; 4096], n: usize)
-    requires { ⌜ length (now m) ≡ places ⌝ }
-    requires { ⌜ n ≤ 5 ⌝ }
-    ensures { λ _. ⌜ Holds n 0 (now (m .exit)) identity ⌝ }
-{
-    let size = places::area(n);
-    let mut e = 0;
-    while e < size {
-        places::put_at(m, e, identity_entry(n, e));
-        e += 1;
+impl UnitaryMatrix {
+    // The identity of width n: 1 at the diagonal's places, 0 at all others.
+    pub fn identity(n: usize) -> UnitaryMatrix
+        requires { ⌜ n ≤ 5 ⌝ }
+        ensures { λ r. ⌜ IsMatrix n 0 r identity ⌝ }
+    {
+        let mut data: [Coefficient; 4096] = [0; 4096];
+        let d = places::dim(n);
+        let mut i = 0;
+        while i < d {
+            places::put_at(&mut data, i * (d + 1), Cyclotomic::one());
+            i += 1;
+        }
+        UnitaryMatrix {
+            num_qubits: n,
+            denominator_exponent: 0,
+            data,
+        }
     }
 }
 

@@ -14,12 +14,12 @@ abbrev μ-loop : tie.MeasureT-loop
 μ-loop m₀ n codes k₀ i₀ m k i = length codes - i
 
 loop-holds : tie.Need-loop-holds Inv-loop μ-loop
-loop-holds c = walking-first _ _ _ (c .set-identity .ensures)
+loop-holds c = walking-first _ _ _ (c .before .pre .1 .1)
 
 apply-gate-left-requires : tie.Need-apply-gate-left-requires Inv-loop μ-loop
 apply-gate-left-requires c κs =
-    let p = c .before .before .before .before .before .before .before .pre in
-    (p .1 .0, (all-at _ _ _ (p .1 .1) (c .before .before .loop-test .taken), c .before .before .before .loop .inv .ready))
+    let p = c .before .before .before .before .before .pre in
+    (p .0, (all-at _ _ _ (p .1 .0) (c .before .before .loop-test .taken), c .before .before .before .loop .inv .ready))
 
 returns : tie.Need-returns Inv-loop μ-loop
 returns c =
@@ -38,7 +38,6 @@ apply-gates-spec =
     (tie.spec
     Inv-loop
     μ-loop
-    (λ c κs. search needs)
     loop-holds
     (λ c. search needs)
     (λ c. search needs)

@@ -9,8 +9,9 @@ use native.Mathlib.Nat.{mod-lt}
 use lib.IntN.{ℤ, pos, negsuc}
 use lib.Signed.{ltZ}
 use borrow.Author.Tests.{eq-eqb, ne-eqb, lt-ltb, le-ltb}
+use Rattle.ints.specs.Lists.{pick}
 use Rattle.ints.proofs.Int.{up, dn, same-is}
-use Rattle.cyclotomic.specs.Zomega.{Zω, mk, zeroω, turn, eqZ, orElse, less, choose, leastUpTo, phase}
+use Rattle.cyclotomic.specs.Zomega.{Zω, mk, zeroω, turn, eqZ, orElse, less, leastUpTo, phase}
 use Rattle.ints.proofs.Bools.{clash}
 use Rattle.cyclotomic.proofs.Turns.{turn-turn, turn-mod, turn-sum, turn-back, turn-inj}
 
@@ -143,7 +144,7 @@ at-most-trans x y z h g = by (less z x) refl (less x y) refl
 
 -- one more power: what was least of those before, or the new one
 step : (x : Zω) (k p n : ℕ) → p ≤ suc k → (p ≤ k → less (turn p x) (turn n x) ≡ false)
-    → (t : Bool) → less (turn (suc k) x) (turn n x) ≡ t → Dec (k < p) → less (turn p x) (turn (choose t (suc k) n) x) ≡ false
+    → (t : Bool) → less (turn (suc k) x) (turn n x) ≡ t → Dec (k < p) → less (turn p x) (turn (pick t (suc k) n) x) ≡ false
 step x k p n h ih true e (yes g) = let q : p ≡ suc k = omega arith in rw q (less-irrefl (turn (suc k) x))
 step x k p n h ih false e (yes g) = let q : p ≡ suc k = omega arith in rw q e
 step x k p n h ih true e (no g) =
@@ -160,7 +161,7 @@ unfolding leastUpTo
 below zero x = omega arith
 below (suc k) x = by (less (turn (suc k) x) (turn (leastUpTo k x) x)) (leastUpTo k x) (below k x)
   where
-    by : (b : Bool) (n : ℕ) → n ≤ k → choose b (suc k) n ≤ suc k
+    by : (b : Bool) (n : ℕ) → n ≤ k → pick b (suc k) n ≤ suc k
     by true n h = omega arith
     by false n h = omega arith
 

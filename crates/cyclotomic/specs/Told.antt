@@ -1,6 +1,6 @@
 -- What an answer of the ring says in document 01's terms. Assumes nothing.
-use mathlib.Core.Bool.{Bool, true, false}
 use Prim.Native.Nat.{ℕ}
+use Rattle.ints.specs.Lists.{pick}
 use Rattle.cyclotomic.specs.declared.Checked.{Checked}
 use Rattle.cyclotomic.specs.declared.Checked.the-variants.{Value, TooLarge}
 use Rattle.cyclotomic.specs.Zomega.{Zω, fits}
@@ -18,10 +18,6 @@ doesNotFit = 8
 abbrev pub told : Checked → Told
 told (Value x) = entry x
 told TooLarge = refused doesNotFit
-
-abbrev pub pick : Bool → Told → Told → Told
-pick true x y = x
-pick false x y = y
 
 -- "a result past 127 either way .. is 'does not fit'": what is to be said of the exact result x
 unfoldable pub checked : Zω → Told

@@ -7,6 +7,7 @@ use lib.IntN.{ℤ, pos, natAbs, negℤ, _+ℤ_, _-ℤ_, _*ℤ_}
 use lib.Signed.{ltZ, quotZ}
 use lib.Dec.{eqb, leb, ltb}
 use mir.Syntax.{Width, w8, w16}
+use Rattle.ints.specs.Lists.{pick}
 use Rattle.cyclotomic.specs.declared.Cyclotomic.{Cyclotomic}
 
 -- "Coefficients stay in -127 to 127."
@@ -110,13 +111,9 @@ less x y =
     (orElse (eqZ (x .c) (y .c)) (ltZ (x .c) (y .c)) (ltZ (x .d) (y .d))))
 
 -- "the power 0 to 7 that makes [it] least": of a nonzero entry there is one such power (proofs/Order)
-abbrev pub choose : Bool → ℕ → ℕ → ℕ
-choose true p q = p
-choose false p q = q
-
 unfoldable pub leastUpTo : ℕ → Zω → ℕ
 leastUpTo zero x = 0
-leastUpTo (suc k) x = choose (less (turn (suc k) x) (turn (leastUpTo k x) x)) (suc k) (leastUpTo k x)
+leastUpTo (suc k) x = pick (less (turn (suc k) x) (turn (leastUpTo k x) x)) (suc k) (leastUpTo k x)
 
 abbrev pub phase : Zω → ℕ
 phase x = leastUpTo 7 x

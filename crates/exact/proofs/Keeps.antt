@@ -15,15 +15,11 @@ use Rattle.cyclotomic.proofs.Squares.{small-turn}
 use Rattle.cyclotomic.proofs.Answers.{small-fits}
 use Rattle.exact.specs.Matrix.{Exact, Equal, allEntries, allDivisible, Lowest}
 use Rattle.exact.specs.Rows.{flip, ones, Gate, phase, exchange, had, column, raise, raw, act, Proper, exchanges}
-use Rattle.exact.specs.Fits.{mostK, stepFits}
+use Rattle.exact.specs.Fits.{mostK, stepFits, AllSmall}
 use Rattle.exact.proofs.Flips.{flip-lt}
 use Rattle.exact.proofs.Values.{pick-ind, entries-to, entries-from, divisible-to, divisible-from, sqrt2s-cancel, equal-same, lower-stays}
 use Rattle.exact.proofs.Linear.{column-cong, raw-back}
 use Rattle.exact.proofs.Acts.{act-equal}
-
--- every entry is within the limit
-pub record SmallEntries (n : ℕ) (x : Exact) : Type 0 where
-  pub small : (r c : ℕ) → r < 2 ^ n → c < 2 ^ n → Small (x .e r c)
 
 -- a test that implies one that fails
 fails-too : (s t : Bool) → (t ≡ true → s ≡ true) → s ≡ false → t ≡ false
@@ -83,24 +79,24 @@ module _ (n : ℕ) where
   exchange-act ks k pr l = lower-stays n (exchange-lowest ks k pr l)
 
   -- ---- small coefficients
-  pub phase-small : (ks : List ℕ) (p : ℕ) {x : Exact} → SmallEntries n x → SmallEntries n (raw (phase ks p) x)
-  phase-small ks p {x} w = record { small = phase-every Small ks p x (small-turn p) (w .small) }
+  pub phase-small : (ks : List ℕ) (p : ℕ) (x : Exact) → AllSmall n (x .e) → AllSmall n (raw (phase ks p) x .e)
+  phase-small ks p x w = record { small = phase-every Small ks p x (small-turn p) (w .small) }
 
-  pub exchange-small : (ks : List ℕ) (k : ℕ) {x : Exact} → Proper n (exchange ks k) → SmallEntries n x → SmallEntries n (raw (exchange ks k) x)
-  exchange-small ks k {x} pr w = record { small = exchange-every Small ks k x pr (w .small) }
+  pub exchange-small : (ks : List ℕ) (k : ℕ) (x : Exact) → Proper n (exchange ks k) → AllSmall n (x .e) → AllSmall n (raw (exchange ks k) x .e)
+  exchange-small ks k x pr w = record { small = exchange-every Small ks k x pr (w .small) }
 
   -- ---- what fits
-  small-step : (g : Gate) (x : Exact) → SmallEntries n (raw g x) → raw g x .k ≤ mostK → stepFits n g x ≡ true
+  small-step : (g : Gate) (x : Exact) → AllSmall n (raw g x .e) → raw g x .k ≤ mostK → stepFits n g x ≡ true
   unfolding stepFits
   small-step g x w h =
       and-both (leb (raw g x .k) mostK) (allEntries n (λ r c. fits (raw g x .e r c))) (le-leb (raw g x .k) mostK h)
       (entries-from n (λ r c. fits (raw g x .e r c)) (λ r c i j. small-fits (raw g x .e r c) (w .small r c i j)))
 
-  pub phase-step-fits : (ks : List ℕ) (p : ℕ) {x : Exact} → SmallEntries n x → x .k ≤ mostK → stepFits n (phase ks p) x ≡ true
-  phase-step-fits ks p {x} w h = small-step (phase ks p) x (phase-small ks p w) h
+  pub phase-step-fits : (ks : List ℕ) (p : ℕ) (x : Exact) → AllSmall n (x .e) → x .k ≤ mostK → stepFits n (phase ks p) x ≡ true
+  phase-step-fits ks p x w h = small-step (phase ks p) x (phase-small ks p x w) h
 
-  pub exchange-step-fits : (ks : List ℕ) (k : ℕ) {x : Exact} → Proper n (exchange ks k) → SmallEntries n x → x .k ≤ mostK → stepFits n (exchange ks k) x ≡ true
-  exchange-step-fits ks k {x} pr w h = small-step (exchange ks k) x (exchange-small ks k pr w) h
+  pub exchange-step-fits : (ks : List ℕ) (k : ℕ) (x : Exact) → Proper n (exchange ks k) → AllSmall n (x .e) → x .k ≤ mostK → stepFits n (exchange ks k) x ≡ true
+  exchange-step-fits ks k x pr w h = small-step (exchange ks k) x (exchange-small ks k x pr w) h
 
   -- of H the entries decide, and at the largest exponent it does not fit
   pub had-step : (t : ℕ) (x : Exact) → x .k < mostK → stepFits n (had t) x ≡ allEntries n (λ r c. fits (raw (had t) x .e r c))

@@ -5,7 +5,7 @@ use Prim.Native.Nat.{ℕ, suc, _^_, _≤_, _<_}
 use lib.IntN.{natAbs}
 use lib.Dec.{leb}
 use Rattle.ints.specs.Lists.{pick}
-use Rattle.cyclotomic.specs.Zomega.{Zω, fits}
+use Rattle.cyclotomic.specs.Zomega.{Zω, fits, Small}
 use Rattle.exact.specs.Matrix.{Exact, allEntries, identity}
 use Rattle.exact.specs.Rows.{Gate, raw, act, gateOf}
 
@@ -16,6 +16,10 @@ mostK = 65535
 -- "a result past 127 either way, or k past 65535, is 'does not fit'": the raw row operation, before lowering
 unfoldable pub stepFits : ℕ → Gate → Exact → Bool
 stepFits n g x = leb (raw g x .k) mostK && allEntries n (λ r c. fits (raw g x .e r c))
+
+-- every coefficient of every entry is within the limit
+pub record AllSmall (n : ℕ) (e : ℕ → ℕ → Zω) : Type 0 where
+  pub small : (r c : ℕ) → r < 2 ^ n → c < 2 ^ n → Small (e r c)
 
 -- whether every step of a list fits, or the position of the first that does not
 pub data Steps : Type 0 where

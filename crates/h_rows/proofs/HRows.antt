@@ -8,20 +8,22 @@ use native.Mathlib.Omega.{arith}
 use native.Mathlib.Nat.{div-add-mod', mod-lt}
 use borrow.Author.Count.{below-more}
 use borrow.Author.Tests.{eq-eqb, ne-eqb, eqb-true, eqb-false, ltb-true, ltb-false}
-use lib.Bits.{bitAnd, bitOr, and-high, and-le-l, and-le-r, or-lt, or-add-and}
+use lib.Bits.{bitAnd, bitOr, and-le-l, and-le-r, or-lt, or-add-and}
 use lib.IntN.{ℤ, natAbs}
 use lib.ListN.{length}
-use lib.Pow.{pow-pos, pow-lt, pow-add, high}
+use lib.Pow.{pow-pos, pow-lt, high}
 use Rattle.ints.specs.Bits.{digit}
 use Rattle.ints.proofs.Bits.{digit-lt, ext, and-digit, or-digit}
 use Rattle.ints.proofs.Bools.{clash}
 use Rattle.cyclotomic.specs.Zomega.{Zω, limit, addω, subω, Small, sizesPass}
 use Rattle.cyclotomic.proofs.Sizes.{SizesSmall, sizes-sum, sizes-difference, both-sizes}
-use Rattle.places.specs.Places.{places, entry, put, read, Same, AllSmall}
+use Rattle.exact.specs.Fits.{AllSmall}
+use Rattle.places.specs.Places.{places, entry, put, read, Same}
 use Rattle.rows.specs.Rows.{has, hRows}
-use Rattle.h_rows.specs.Work.{at, Summed, SizesFit, SumsFit, PairFits, PairSummed, Tells}
-use Rattle.places.proofs.Placed.{length-put, entry-put-same, entry-put-other, row-le}
-use Rattle.h_rows.proofs.RowPlaces.{row-before, rows-apart}
+use Rattle.h_rows.specs.Work.{Summed, SizesFit, SumsFit, PairFits, PairSummed, Tells}
+use Rattle.places.proofs.Placed.{length-put, entry-put-same, entry-put-other, row-le, row-before, rows-apart}
+use Rattle.rows.specs.Work.{at}
+use Rattle.rows.proofs.ByMask.{and-one}
 
 -- ---- the test of the sizes, place by place
 
@@ -142,15 +144,9 @@ pair-lies {n} {r} {b} {d} hn hr hb h e =
     rw e (row-before (2 ^ n) r (bitOr r b) (or-above r b h), row-le n (bitOr r b) hn (or-lt n r b hr hb))
 
 module _ (t : ℕ) where
-  and-one : (s : ℕ) → bitAnd s (2 ^ t) ≡ digit s t * 2 ^ t
-  and-one s = subst (λ (m : ℕ). bitAnd s m ≡ digit s t * 2 ^ t) one (and-high s 1 t)
-    where
-      one : 2 ^ (1 + t) - 2 ^ t ≡ 2 ^ t
-      one = omega (arith, pow-add 2 1 t)
-
   -- one bit is there, or it is not
   none : (s : ℕ) → has s (2 ^ t) ≡ false → bitAnd s (2 ^ t) ≡ 0
-  none s h = by (digit s t) (digit-lt s t) (and-one s)
+  none s h = by (digit s t) (digit-lt s t) (and-one s t)
     where
       by : (d : ℕ) → d < 2 → bitAnd s (2 ^ t) ≡ d * 2 ^ t → bitAnd s (2 ^ t) ≡ 0
       by zero b e = omega arith
@@ -178,8 +174,8 @@ module _ (t : ℕ) where
 
       lacks : has (s - 2 ^ t) (2 ^ t) ≡ false
       lacks =
-          let z = even (s / 2 ^ t) (s % 2 ^ t) (mod-lt s (pow-pos t)) (sym (div-add-mod' s (2 ^ t))) (odd (digit s t) (digit-lt s t) (and-one s)) in
-          ne-eqb (bitAnd (s - 2 ^ t) (2 ^ t)) (2 ^ t) (λ q. omega (arith, and-one (s - 2 ^ t), ap (λ (x : ℕ). x * 2 ^ t) z, q, pow-pos t))
+          let z = even (s / 2 ^ t) (s % 2 ^ t) (mod-lt s (pow-pos t)) (sym (div-add-mod' s (2 ^ t))) (odd (digit s t) (digit-lt s t) (and-one s t)) in
+          ne-eqb (bitAnd (s - 2 ^ t) (2 ^ t)) (2 ^ t) (λ q. omega (arith, and-one (s - 2 ^ t) t, ap (λ (x : ℕ). x * 2 ^ t) z, q, pow-pos t))
 
 -- what holds of each row that lacks the bit and of its partner holds of every row
 pub by-pairs : (n t : ℕ) (P : ℕ → Type 0) → ((s : ℕ) → s < 2 ^ n → has s (2 ^ t) ≡ false → P s × P (bitOr s (2 ^ t))) → (s : ℕ) → s < 2 ^ n → P s
@@ -286,7 +282,7 @@ module _ (t : ℕ) {n : ℕ} {l l1 : List ℤ} {r : ℕ} (w : Halfway n (2 ^ t) 
     where
       same : (s : ℕ) → (s ≡ r → ⊥) → (s ≡ bitOr r (2 ^ t) → ⊥) → (c : ℕ) → c < 2 ^ n → read n l2 s c ≡ read n l1 s c
       same s a b c hc =
-          p .other (s * 2 ^ n + c) (λ i k q. rows-apart (2 ^ n) r s c i hc k a q) (λ i k q. rows-apart (2 ^ n) (bitOr r (2 ^ t)) s c i hc k b q)
+          p .other (s * 2 ^ n + c) (λ i k q. a (rows-apart n r s c i hc k q)) (λ i k q. b (rows-apart n (bitOr r (2 ^ t)) s c i hc k q))
 
   -- the next row: its pair is worked, or it has the bit and nothing changes
   pub half-more : {l2 : List ℤ} → PairSummed n (2 ^ t) l1 l2 r → Halfway n (2 ^ t) l l2 (r + 1)

@@ -3,16 +3,14 @@ use mathlib.Core.Path.{_≡_}
 use mathlib.Core.Bool.{Bool, true, false}
 use mathlib.Core.List.{List}
 use Prim.Native.Nat.{ℕ, _+_, _*_, _^_, _≤_, _<_}
-use lib.IntN.{ℤ, pos, natAbs}
-use lib.ListN.{length, getD}
+use lib.IntN.{ℤ, natAbs}
+use lib.ListN.{length}
 use lib.Bits.{bitOr}
 use Rattle.cyclotomic.specs.Zomega.{Zω, limit, addω, subω, Small}
-use Rattle.places.specs.Places.{places, entry, Same, AllSmall, read}
+use Rattle.exact.specs.Fits.{AllSmall}
+use Rattle.places.specs.Places.{places, entry, Same, read}
 use Rattle.rows.specs.Rows.{has}
-
--- the place j
-abbrev pub at : List ℤ → ℕ → ℤ
-at l j = getD l j (pos 0)
+use Rattle.rows.specs.Work.{at}
 
 -- c entries from e on and c entries from f on became their sums and their differences; no other entry changed
 pub record Summed (l l′ : List ℤ) (e f c : ℕ) : Type 0 where

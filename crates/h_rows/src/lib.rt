@@ -4,8 +4,8 @@
 ghost use mathlib.Core.Path.{_≡_};
 ghost use Prim.Native.Nat.{_+_, _*_, _^_, _<_, _≤_};
 ghost use lib.ListN.{length};
-ghost use Rattle.cyclotomic.specs.Zomega.{limit};
-ghost use Rattle.places.specs.Places.{places, entry, read, Same, AllSmall};
+ghost use Rattle.exact.specs.Fits.{AllSmall};
+ghost use Rattle.places.specs.Places.{places, entry, read, Same};
 ghost use Rattle.rows.specs.Rows.{hRows};
 ghost use Rattle.h_rows.specs.Work.{Summed, SizesFit, SumsFit, PairFits, PairSummed, Tells, HDone};
 use cyclotomic::Coefficient;

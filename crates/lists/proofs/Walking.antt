@@ -1,29 +1,29 @@
--- A list in place, gate by gate: what is left of the list, from the matrix in the places on, says of the whole list whether it fits and what
--- its product is. Assumes nothing.
+-- A list in place, gate by gate: the places hold the product of the gates so far, and what is left of the list, from there on, says whether
+-- the whole list fits. Assumes nothing.
 use mathlib.Core.Path.{_≡_, refl, ap, _∙_, subst}
 use mathlib.Core.Bool.{Bool, true}
 use mathlib.Core.List.{List, [], _∷_}
 use Prim.Native.Nat.{ℕ, zero, suc, _+_, _≤_, _<_}
 use native.Mathlib.Omega.{arith}
 use lib.IntN.{ℤ}
-use lib.ListN.{length, getD, drop, drop-of-length-le}
-use lib.Seq.{drop-cons}
+use lib.ListN.{length, getD, take, drop, drop-of-length-le}
+use lib.Seq.{drop-cons, take-suc, take-all}
 use Rattle.ints.specs.Lists.{pick, all}
 use Rattle.ints.proofs.Bools.{and-left, and-right}
 use Rattle.exact.specs.Matrix.{Exact, Equal, identity}
 use Rattle.exact.specs.Rows.{Gate, act, gateOf}
-use Rattle.exact.specs.Lists.{after, product}
+use Rattle.exact.specs.Lists.{product}
 use Rattle.exact.specs.Fits.{Steps, allFit, unfitAt, next, stepsFrom, steps}
 use Rattle.exact.proofs.Values.{equal-sym, equal-trans}
 use Rattle.exact.proofs.Acts.{act-lowest}
-use Rattle.exact.proofs.Listed.{after-equal}
+use Rattle.exact.proofs.Listed.{product-snoc}
 use Rattle.exact.proofs.Coded.{proper}
 use Rattle.exact.proofs.Keeps.{step-equal, act-equal', equal-lowest}
-use Rattle.places.specs.Places.{places, held}
+use Rattle.places.specs.Places.{held}
 use Rattle.matrix.specs.Step.{Holds, Ready, Stepped}
 use Rattle.matrix.specs.declared.Applied.{Applied}
 use Rattle.matrix.specs.declared.Applied.the-variants.{Done, DoesNotFit}
-use Rattle.lists.specs.Walk.{Ended}
+use Rattle.lists.specs.Walk.{HoldsProduct, Ended}
 use Rattle.lists.specs.declared.Walked.the-variants.{Fits, UnfitAt}
 
 -- a test of every code, at one place
@@ -61,16 +61,19 @@ pub record Walking (n : ℕ) (codes : List ℕ) (i k : ℕ) (l : List ℤ) : Typ
   pub within : i ≤ length codes
   pub ready : Ready n k l
   pub ahead : steps n codes ≡ later i (stepsFrom n (held n k l) (drop i codes))
-  pub rest : Equal n (product n codes) (after n (held n k l) (drop i codes))
+  pub so-far : Equal n (held n k l) (product n (take i codes))
 
 module _ (n : ℕ) (codes : List ℕ) where
+  pub walked-holds : {i k : ℕ} {l : List ℤ} → Walking n codes i k l → HoldsProduct n (take i codes) l
+  walked-holds w = record { long = w .ready .long; equal = record { exponent = refl; entries = w .so-far .entries }; small = w .ready .small }
+
   pub walking-first : (l : List ℤ) → Holds n 0 l identity → Walking n codes 0 0 l
   unfolding steps product
   walking-first l w = record {
     within = omega arith;
     ready = record { long = w .long; small = w .small; lowest = record { lowest = λ h. absurd (omega arith) } };
     ahead = steps-equal n codes (equal-sym n (w .equal));
-    rest = after-equal n codes (equal-sym n (w .equal));
+    so-far = w .equal;
   }
 
   module _ {i k : ℕ} {l : List ℤ} (w : Walking n codes i k l) (h : i < length codes) where
@@ -91,27 +94,26 @@ module _ (n : ℕ) (codes : List ℕ) where
           ready = record { long = held′ .long; small = held′ .small; lowest = equal-lowest n (equal-sym n (held′ .equal)) (act-lowest n (gateOf n code) (held n k l)) };
           ahead = ahead-here ∙ ap (λ b. later i (pick b (next (stepsFrom n (act n (gateOf n code) (held n k l)) (drop (suc i) codes))) (unfitAt 0))) fit
               ∙ ap (λ (z : Steps). later i (next z)) (steps-equal n (drop (suc i) codes) (equal-sym n (held′ .equal)));
-          rest = equal-trans n (subst (λ (z : List ℕ). Equal n (product n codes) (after n (held n k l) z)) (drop-cons codes i 0 h) (w .rest))
-              (after-equal n (drop (suc i) codes) (equal-sym n (held′ .equal)));
+          so-far = rw (take-suc codes i 0 h, product-snoc n) (equal-trans n (held′ .equal) (act-equal' n (gateOf n code) (w .so-far) (proper n code)));
         })
 
     pub walking-unfit : (l′ : List ℤ) → Stepped n k (gateOf n code) l l′ DoesNotFit → Ended n codes l′ (UnfitAt i)
     walking-unfit l′ s = record {
-      end = ahead-here
-          ∙ ap (λ b. later i (pick b (next (stepsFrom n (act n (gateOf n code) (held n k l)) (drop (suc i) codes))) (unfitAt 0))) (s .left .0)
-          ∙ later-unfit i 0 ∙ ap unfitAt (omega arith);
+      end = (
+        ahead-here
+            ∙ ap (λ b. later i (pick b (next (stepsFrom n (act n (gateOf n code) (held n k l)) (drop (suc i) codes))) (unfitAt 0))) (s .left .0)
+            ∙ later-unfit i 0 ∙ ap unfitAt (omega arith),
+        rw (s .left .1) (walked-holds w),
+      );
     }
 
   pub walking-end : {i k : ℕ} {l : List ℤ} → Walking n codes i k l → length codes ≤ i → Ended n codes l (Fits k)
   walking-end {i} {k} {l} w h =
-      let e = drop-of-length-le codes {i = i} h in
+      let all = take-all i codes h in
       record {
         end = (
-          w .ahead ∙ ap (λ (z : List ℕ). later i (stepsFrom n (held n k l) z)) e ∙ later-fit i,
-          record {
-            long = w .ready .long;
-            equal = equal-sym n (subst (λ (z : List ℕ). Equal n (product n codes) (after n (held n k l) z)) e (w .rest));
-            small = w .ready .small;
-          },
+          w .ahead ∙ ap (λ (z : List ℕ). later i (stepsFrom n (held n k l) z)) (drop-of-length-le codes {i = i} h) ∙ later-fit i,
+          w .so-far .exponent ∙ ap (λ (z : List ℕ). product n z .k) all,
+          rw all at (walked-holds w),
         );
       }

@@ -12,7 +12,8 @@ use Rattle.cyclotomic.proofs.Division.{sqrt2-over}
 use Rattle.cyclotomic.proofs.Squares.{small-over}
 use Rattle.exact.specs.Matrix.{sqrt2s, Equal, allDivisible, lower}
 use Rattle.exact.proofs.Values.{sqrt2s-sqrt2, divisible-to, equal-refl, equal-sym, equal-trans, lower-unique, lower-stays}
-use Rattle.places.specs.Places.{places, read, held, Same, AllSmall}
+use Rattle.exact.specs.Fits.{AllSmall}
+use Rattle.places.specs.Places.{places, read, held, Same}
 use Rattle.rows.specs.Rows.{dividedAll}
 use Rattle.matrix.specs.Step.{Holds}
 

@@ -11,10 +11,10 @@ use Rattle.cyclotomic.proofs.Answers.{small-fits, fits-small}
 use Rattle.circuit.specs.Pairs.{maskOf}
 use Rattle.exact.specs.Matrix.{Exact, Equal, allEntries, lower}
 use Rattle.exact.specs.Rows.{Gate, phase, exchange, had, raw, act, Proper}
-use Rattle.exact.specs.Fits.{mostK}
+use Rattle.exact.specs.Fits.{mostK, AllSmall}
 use Rattle.exact.proofs.Values.{equal-sym, equal-trans, equal-same, lower-unique, entries-to, entries-from}
-use Rattle.exact.proofs.Keeps.{SmallEntries, phase-act, exchange-act, phase-small, exchange-small, phase-step-fits, exchange-step-fits, had-step, had-step-k}
-use Rattle.places.specs.Places.{places, read, held, Same, AllSmall}
+use Rattle.exact.proofs.Keeps.{phase-act, exchange-act, phase-small, exchange-small, phase-step-fits, exchange-step-fits, had-step, had-step-k}
+use Rattle.places.specs.Places.{places, read, held, Same}
 use Rattle.rows.specs.Rows.{phaseRows, exchangeRows, hRows}
 use Rattle.rows.proofs.ByMask.{phase-rows, exchange-rows, h-rows}
 use Rattle.h_rows.specs.Work.{HDone}
@@ -22,14 +22,10 @@ use Rattle.matrix.specs.Step.{Holds, Ready, Stepped}
 use Rattle.matrix.specs.declared.Applied.the-variants.{Done, DoesNotFit}
 
 module _ (n k : ℕ) (l l′ : List ℤ) (w : Ready n k l) where
-  -- every entry is within the limit
-  start : SmallEntries n (held n k l)
-  start = record { small = w .small .small }
-
   -- the places hold the raw operation's result, and nothing is to lower
   raw-held : (g : Gate) → length l′ ≡ places → raw g (held n k l) .k ≡ k
       → ((r c : ℕ) → r < 2 ^ n → c < 2 ^ n → read n l′ r c ≡ raw g (held n k l) .e r c)
-      → SmallEntries n (raw g (held n k l)) → Equal n (act n g (held n k l)) (raw g (held n k l)) → Holds n k l′ (act n g (held n k l))
+      → AllSmall n (raw g (held n k l) .e) → Equal n (act n g (held n k l)) (raw g (held n k l)) → Holds n k l′ (act n g (held n k l))
   raw-held g h e same s a = record {
     long = h;
     equal = equal-trans n (record { exponent = sym e; entries = same }) (equal-sym n a);
@@ -41,10 +37,10 @@ module _ (n k : ℕ) (l l′ : List ℤ) (w : Ready n k l) where
   phase-stepped mask p b h s ks e =
       record {
         left = (
-          phase-step-fits n ks p start b,
+          phase-step-fits n ks p (held n k l) (w .small) b,
           raw-held (phase ks p) h refl
               (λ r c i j. s .at r c i j ∙ ap (λ (x : ℕ). phaseRows x p (read n l) r c) e ∙ phase-rows ks p (read n l) r c)
-              (phase-small n ks p start) (phase-act n ks p (w .lowest)),
+              (phase-small n ks p (held n k l) (w .small)) (phase-act n ks p (w .lowest)),
         );
       }
 
@@ -53,10 +49,10 @@ module _ (n k : ℕ) (l l′ : List ℤ) (w : Ready n k l) where
   exchange-stepped control t b h s ks e pr =
       record {
         left = (
-          exchange-step-fits n ks t pr start b,
+          exchange-step-fits n ks t (held n k l) pr (w .small) b,
           raw-held (exchange ks t) h refl
               (λ r c i j. s .at r c i j ∙ ap (λ (x : ℕ). exchangeRows x (2 ^ t) (read n l) r c) e ∙ exchange-rows ks t (read n l) r c)
-              (exchange-small n ks t pr start) (exchange-act n ks t pr (w .lowest)),
+              (exchange-small n ks t (held n k l) pr (w .small)) (exchange-act n ks t pr (w .lowest)),
         );
       }
 

@@ -8,8 +8,8 @@ use lib.ListN.{length}
 use Rattle.exact.specs.Matrix.{Exact, Equal, Lowest}
 use Rattle.circuit.specs.Pairs.{maskOf}
 use Rattle.exact.specs.Rows.{Gate, phase, exchange, act, Proper}
-use Rattle.exact.specs.Fits.{stepFits}
-use Rattle.places.specs.Places.{places, read, held, AllSmall}
+use Rattle.exact.specs.Fits.{stepFits, AllSmall}
+use Rattle.places.specs.Places.{places, read, held}
 use Rattle.matrix.specs.declared.UnitaryMatrix.{UnitaryMatrix}
 use Rattle.matrix.specs.declared.Applied.{Applied}
 use Rattle.matrix.specs.declared.Applied.the-variants.{Done, DoesNotFit}

@@ -15,9 +15,10 @@ use Rattle.ints.proofs.Bools.{clash, iff}
 use Rattle.cyclotomic.specs.Zomega.{Zω, divisible, Small}
 use Rattle.cyclotomic.proofs.Number.{each}
 use Rattle.exact.specs.Matrix.{allDivisible}
+use Rattle.exact.specs.Fits.{AllSmall}
 use Rattle.exact.proofs.Values.{divisible-to, divisible-from}
 use Rattle.exact.proofs.Phases.{row-lt, col-lt, flat-lt}
-use Rattle.places.specs.Places.{entry, put, read, AllSmall}
+use Rattle.places.specs.Places.{entry, put, read}
 
 -- ---- sizes, for all widths together
 
@@ -34,6 +35,10 @@ place-fits n r c h p q = omega (arith, area-le n h, flat-lt n r c p q)
 -- a whole row
 pub row-le : (n r : ℕ) → n ≤ 5 → r < 2 ^ n → r * 2 ^ n + 2 ^ n ≤ 1024
 row-le n r h p = omega (arith, area-le n h, mul-le-mul-right (2 ^ n) p, suc-mul r (2 ^ n))
+
+-- a row ends before a later one begins
+pub row-before : (d r s : ℕ) → r < s → r * d + d ≤ s * d
+row-before d r s h = omega (arith, mul-le-mul-right d h, suc-mul r d)
 
 -- entries of two rows differ
 pub rows-apart : (n r s c k : ℕ) → c < 2 ^ n → k < 2 ^ n → s * 2 ^ n + c ≡ r * 2 ^ n + k → s ≡ r

@@ -4,7 +4,7 @@ use mathlib.Core.List.{List}
 use Prim.Native.Nat.{ℕ, _+_, _*_, _^_, _<_}
 use lib.IntN.{ℤ, pos}
 use lib.ListN.{getD, set}
-use Rattle.cyclotomic.specs.Zomega.{Zω, mk, Small}
+use Rattle.cyclotomic.specs.Zomega.{Zω, mk}
 use Rattle.exact.specs.Matrix.{Exact}
 
 abbrev pub places : ℕ
@@ -29,7 +29,3 @@ held n k l = record { k = k; e = read n l }
 -- two matrices of width n have the same entries
 pub record Same (n : ℕ) (x y : ℕ → ℕ → Zω) : Type 0 where
   pub at : (r c : ℕ) → r < 2 ^ n → c < 2 ^ n → x r c ≡ y r c
-
--- every coefficient is within the limit
-pub record AllSmall (n : ℕ) (x : ℕ → ℕ → Zω) : Type 0 where
-  pub small : (r c : ℕ) → r < 2 ^ n → c < 2 ^ n → Small (x r c)

@@ -6,7 +6,7 @@ use Prim.Native.Nat.{ℕ, zero, suc, _+_, _*_, _-_, _^_, _≤_, _<_}
 use native.Mathlib.Omega.{arith}
 use lib.IntN.{ℤ}
 use Rattle.ints.specs.Lists.{pick}
-use Rattle.cyclotomic.specs.Zomega.{Zω, turn, isZero, less, choose, leastUpTo, phase}
+use Rattle.cyclotomic.specs.Zomega.{Zω, turn, isZero, less, leastUpTo, phase}
 use Rattle.cyclotomic.proofs.Answers.{zero-yes}
 use Rattle.exact.specs.Phase.{firstNonzero, pivot, phaseOf, flat}
 use Rattle.exact.proofs.Phases.{flat-lt, phase-of-zero}
@@ -47,13 +47,13 @@ phase-any n j k l = refl
 
 -- a step of the search for the least power
 least-next : (z : Zω) (p least : ℕ) (b : Bool) → b ≡ less (turn (suc p) z) (turn least z) → least ≡ leastUpTo p z
-    → choose b (suc p) least ≡ leastUpTo (suc p) z
+    → pick b (suc p) least ≡ leastUpTo (suc p) z
 unfolding leastUpTo
 least-next z p least b t e = rw (t, e)
 
 -- the same, by the code's numbers
 pub least-more : (z : Zω) (p least : ℕ) (b : Bool) → 1 ≤ p → b ≡ less (turn p z) (turn least z) → least ≡ leastUpTo (p - 1) z
-    → choose b p least ≡ leastUpTo (p + 1 - 1) z
+    → pick b p least ≡ leastUpTo (p + 1 - 1) z
 least-more z zero least b h t e = absurd (omega arith)
 least-more z (suc p) least b h t e =
     let before : suc p - 1 ≡ p = omega arith in

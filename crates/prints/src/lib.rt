@@ -3,7 +3,8 @@
 ghost use mathlib.Core.Path.{_≡_};
 ghost use Prim.Native.Nat.{_^_, _<_, _≤_};
 ghost use Rattle.cyclotomic.specs.Zomega.{phase, Small, turn};
-ghost use Rattle.places.specs.Places.{entry, read, held, AllSmall};
+ghost use Rattle.places.specs.Places.{entry, read, held};
+ghost use Rattle.exact.specs.Fits.{AllSmall};
 ghost use Rattle.exact.specs.Phase.{phaseOf, upToPhase};
 ghost use Rattle.exact.specs.Fingerprint.{mix, mixAll, fold, coefficients, wordsOf, fingerprint};
 ghost use Rattle.prints.specs.Prints.{FirstNonzero, SmallTo, streams};

@@ -5,14 +5,14 @@ use mathlib.Core.Bool.{Bool, true, false, not}
 use mathlib.Core.List.{List}
 use Prim.Native.Nat.{ℕ, _+_, _*_, _-_, _^_, _%_, _≤_, _<_, min, max}
 use native.Mathlib.Omega.{arith}
-use native.Mathlib.Nat.{mul-le-mul-right, suc-mul, div-eq-of-lt}
+use native.Mathlib.Nat.{div-eq-of-lt}
 use native.Mathlib.Decide.{decLt}
 use borrow.Author.Count.{below-more}
 use borrow.Author.Tests.{eq-eqb, ne-eqb, eqb-true, eqb-false}
 use lib.Bits.{bitAnd, bitOr, or-disjoint, or-lt, and-le-l}
 use lib.IntN.{ℤ, pos}
 use lib.ListN.{length, set, length-set}
-use lib.Pow.{pow-mono, pow-lt, pow-pos}
+use lib.Pow.{pow-lt, pow-pos}
 use lib.Seq.{getD-set-same, getD-set-other}
 use Rattle.ints.specs.Bits.{digit, bit}
 use Rattle.ints.specs.Lists.{pick}
@@ -21,6 +21,7 @@ use Rattle.ints.proofs.Bools.{clash}
 use Rattle.cyclotomic.proofs.Number.{each}
 use Rattle.exact.proofs.Flips.{bit-own}
 use Rattle.places.specs.Places.{entry, read}
+use Rattle.places.proofs.Placed.{row-le, row-before}
 use Rattle.cyclotomic.specs.Zomega.{Zω}
 use Rattle.rows.specs.Rows.{has, lowRow, sourceRow, exchangeRows}
 use Rattle.rows.proofs.Sweeps.{Swept}
@@ -67,17 +68,6 @@ pub exchanged-to : {l l′ : List ℤ} {p q c d : ℕ} → Exchanged l l′ p q 
 exchanged-to {c = c} {d = d} w a b = let e : c ≡ d = omega arith in rw e at w
 
 -- ---- rows as places
-
-pub dim-le : (n : ℕ) → n ≤ 5 → 2 ^ n ≤ 32
-dim-le n h = pow-mono {i = n} {j = 5} h
-
--- a row lies within the places
-pub row-fits : (n r : ℕ) → n ≤ 5 → r < 2 ^ n → r * 2 ^ n + 2 ^ n ≤ 1024
-row-fits n r h b = omega (arith, mul-le-mul-right (2 ^ n) b, suc-mul r (2 ^ n), mul-le-mul-right (2 ^ n) (dim-le n h), dim-le n h)
-
--- a row ends before a later one begins
-pub row-before : (d r s : ℕ) → r < s → r * d + d ≤ s * d
-row-before d r s h = omega (arith, mul-le-mul-right d h, suc-mul r d)
 
 -- places of two rows differ
 apart : (d s r c t k : ℕ) → c < d → t < 4 → k < 4 * d → (s ≡ r → ⊥) → 4 * (s * d + c) + t ≡ 4 * (r * d) + k → ⊥
@@ -147,7 +137,7 @@ pub pair-fits : (n t r d b : ℕ) → n ≤ 5 → t < n → r < 2 ^ n → d ≡ 
 pair-fits n t r d b hn ht hr ed eb h =
     rw (ed, eb) (
       row-before (2 ^ n) r (bitOr r (2 ^ t)) (omega (arith, partner-is r t (without r t (rw eb at h)), pow-pos t)),
-      row-fits n (bitOr r (2 ^ t)) hn (partner-lt n t r ht hr),
+      row-le n (bitOr r (2 ^ t)) hn (partner-lt n t r ht hr),
     )
 
 -- taking the bit away leaves none of it

@@ -6,7 +6,8 @@ use mathlib.Core.Path.{_≡_, refl, _∙_}
 use mathlib.Core.Bool.{not}
 use mir.Val.{toZ, ofZ}
 use Rattle.cyclotomic.specs.Zomega.{near}
-use Rattle.h_rows.specs.Work.{at, SizesFit, Tells}
+use Rattle.rows.specs.Work.{at}
+use Rattle.h_rows.specs.Work.{SizesFit, Tells}
 use Rattle.h_rows.proofs.HRows.{sizes-none, sizes-more, sizes-to}
 use Rattle.h_rows.proofs.sizes_fit.Statement.{statement}
 use Rattle.h_rows.proofs.sizes_fit.Tie as tie

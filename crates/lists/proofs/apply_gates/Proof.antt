@@ -1,4 +1,5 @@
--- `apply_gates` meets its contract: after each gate the rest of the list says what the whole list does. Assumes nothing.
+-- `apply_gates` meets its contract: after each gate the places hold the product so far, and the rest of the list says whether all of it
+-- fits. Assumes nothing.
 use Prim.Native.Nat.{_-_}
 use native.Mathlib.Omega.{arith}
 use lib.ListN.{length}

@@ -1,1 +1,46 @@
 -- The entries' answers, case by case, as the definition has them. Assumes nothing.
+use mathlib.Core.Path.{_≡_, refl, sym, ap, _∙_}
+use mathlib.Core.Bool.{Bool, true, false, _&&_}
+use mathlib.Core.List.{List}
+use Prim.Native.Nat.{ℕ, _+_, _*_, _^_, _≤_, _<_}
+use borrow.Author.Tests.{eq-eqb, ne-eqb, lt-ltb, le-ltb}
+use lib.IntN.{ℤ, pos, natAbs}
+use lib.Dec.{eqb, ltb}
+use lib.ListN.{length, getD, take}
+use Rattle.exact.specs.Matrix.{allDivisible}
+use Rattle.exact.specs.Lists.{product}
+use Rattle.exact.specs.Fits.{Steps, allFit, unfitAt, steps}
+use Rattle.exact.specs.Fingerprint.{fingerprint}
+use Rattle.places.specs.Places.{read, held}
+use Rattle.matrix.specs.Step.{Holds}
+use Rattle.murm.specs.Entries.{given, refused, byteCount, firstInvalid, lowestByte, coefficients, outcome, listed, fingerprinted}
+use Rattle.murm.proofs.Bytes.{places-are}
+
+module _ (n : ℕ) (codes : List ℕ) (bytes : List ℤ) where
+  pub list-6 : 5 < n → outcome (refused 6 0) bytes ≡ listed n codes bytes
+  unfolding listed
+  list-6 h = rw (lt-ltb 5 n h)
+
+  module _ (h : n ≤ 5) where
+    pub list-9 : (length bytes ≡ byteCount n → ⊥) → outcome (refused 9 0) bytes ≡ listed n codes bytes
+    unfolding listed
+    list-9 p = rw (le-ltb 5 n h, ne-eqb (length bytes) (byteCount n) p)
+
+    module _ (p : length bytes ≡ byteCount n) where
+      pub list-7 : firstInvalid n codes < length codes → outcome (refused 7 (firstInvalid n codes)) bytes ≡ listed n codes bytes
+      unfolding listed
+      list-7 q = rw (le-ltb 5 n h, eq-eqb (length bytes) (byteCount n) p, lt-ltb (firstInvalid n codes) (length codes) q)
+
+      module _ (q : length codes ≤ firstInvalid n codes) where
+        pub list-8 : (i : ℕ) → steps n codes ≡ unfitAt i → outcome (refused 8 i) bytes ≡ listed n codes bytes
+        unfolding listed
+        list-8 i e = rw (le-ltb 5 n h, eq-eqb (length bytes) (byteCount n) p, le-ltb (firstInvalid n codes) (length codes) q, e)
+
+        list-formed : steps n codes ≡ allFit → outcome (given (product n codes .k)) (coefficients n (product n codes)) ≡ listed n codes bytes
+        unfolding listed
+        list-formed e = rw (le-ltb 5 n h, eq-eqb (length bytes) (byteCount n) p, le-ltb (firstInvalid n codes) (length codes) q, e)
+
+        -- the places hold the product, and their first bytes are what was lent
+        pub list-held : (k : ℕ) (l after : List ℤ) → after ≡ take (byteCount n) l → steps n codes ≡ allFit → k ≡ product n codes .k
+            → Holds n (product n codes .k) l (product n codes) → outcome (given k) after ≡ listed n codes bytes
+        list-held k l after c e s w = (λ i. outcome (given (s i)) ((c ∙ places-are n (product n codes .k) l (product n codes) h w) i)) ∙ list-formed e

@@ -1,6 +1,11 @@
 // The public entries: each decides every input. murm.rs of the original: `library_circuit_matrix`; matrix.rs: `unitary_fingerprint`.
 ghost use mathlib.Core.Path.{_≡_};
+ghost use mathlib.Core.Bool.{_&&_};
+ghost use Prim.Native.Nat.{_≤_};
+ghost use lib.Dec.{ltb};
 ghost use lib.ListN.{length};
+ghost use Rattle.exact.specs.Matrix.{allDivisible};
+ghost use Rattle.places.specs.Places.{read};
 ghost use Rattle.murm.specs.Entries.{firstInvalid, outcome, listed, toldListed, fingerprinted, toldFingerprinted};
 ghost use Rattle.murm.specs.Work.{PastLimit, InRange};
 use circuit::LibraryGate;
@@ -8,6 +13,7 @@ use cyclotomic::Coefficient;
 use cyclotomic::LIMIT;
 use cyclotomic::Wide;
 use lists::Walked;
+use matrix::UnitaryMatrix;
 
 // What a list became: its exponent, or why it was refused, with the position where there is one.
 pub enum Listed {
@@ -69,10 +75,11 @@ pub fn library_circuit_matrix(width: u32, codes: &[u32], out: &mut [Coefficient]
     if i < codes.len() {
         return Listed::NotValid(i);
     }
-    let mut m = [0; 4096];
-    match lists::apply_gates(&mut m, n, codes) {
+    let m = UnitaryMatrix::identity(n);
+    let mut data = m.data;
+    match lists::apply_gates(&mut data, n, codes) {
         Walked::Fits(k) => {
-            copy_places(out, &m[0..size]);
+            copy_places(out, &data[0..size]);
             Listed::Matrix(k)
         }
         Walked::UnfitAt(j) => Listed::DoesNotFit(j),
@@ -100,6 +107,17 @@ fn in_range(entries: &[Coefficient]) -> bool
     true
 }
 
+// Whether k > 0 and all entries are divisible.
+fn is_divisible(m: &[Coefficient; 4096], n: usize, k: u16) -> bool
+    requires { ⌜ n ≤ 5 ⌝ }
+    ensures { λ r. ⌜ r ≡ (ltb 0 k && allDivisible n (read n (now (m .entry)))) ⌝ }
+{
+    if k == 0 {
+        return false;
+    }
+    rows::all_divisible(m, n)
+}
+
 // The fingerprint of a matrix given by its bytes, with the checks of a query.
 pub fn library_fingerprint(width: u32, exponent: u16, entries: &[Coefficient]) -> Fingerprinted
     ensures { λ r. ⌜ toldFingerprinted r ≡ fingerprinted width exponent (now (entries .entry)) ⌝ }
@@ -115,12 +133,10 @@ pub fn library_fingerprint(width: u32, exponent: u16, entries: &[Coefficient]) -
     if !in_range(entries) {
         return Fingerprinted::OutOfRange;
     }
-    let mut m = [0; 4096];
-    copy_places(&mut m[0..size], entries);
-    if exponent > 0 {
-        if rows::all_divisible(&m, n) {
-            return Fingerprinted::NotLowest;
-        }
+    let mut data = [0; 4096];
+    copy_places(&mut data[0..size], entries);
+    if is_divisible(&data, n, exponent) {
+        return Fingerprinted::NotLowest;
     }
-    Fingerprinted::Fingerprint(prints::unitary_fingerprint(&m, n, exponent))
+    Fingerprinted::Fingerprint(prints::unitary_fingerprint(&data, n, exponent))
 }

@@ -6,6 +6,8 @@ use native.Mathlib.Omega.{arith}
 use lib.IntN.{ℤ, pos}
 use lib.ListN.{length, getD}
 use borrow.Author.Needs.{needs}
+use mir.Val.{toZ, ofZ}
+use Rattle.cyclotomic.specs.Zomega.{near}
 use Rattle.murm.specs.Work.{PastLimit}
 use Rattle.murm.proofs.Checks.{RangeTo, range-none, range-more, range-past, range-end}
 use Rattle.murm.proofs.in_range.Statement.{statement}
@@ -21,8 +23,9 @@ abbrev μ-loop : tie.MeasureT-loop
 told : (c : tie.After-past-limit Inv-loop μ-loop)
     → PastLimit (getD (c .before .before .before .before .args .entries .now) (c .before .before .before .loop .i) (pos 0)) (c .past-limit .result)
 told c =
-    let same : c .before .«past-limit-arg» .given ≡ c .before .«past-limit-arg» .given = refl in
-    ?
+    let x = getD (c .before .before .before .before .args .entries .now) (c .before .before .before .loop .i) (pos 0) in
+    let same : toZ near (ofZ near x) ≡ x = search needs in
+    subst (λ (z : ℤ). PastLimit z (c .past-limit .result)) same (c .past-limit .ensures)
 
 returns : tie.Need-returns Inv-loop μ-loop
 returns c = range-past (c .before .before .before .before .loop .inv) (c .before .before .before .loop-test .taken) (told (c .before)) (c .if1 .taken)

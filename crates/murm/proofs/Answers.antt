@@ -44,3 +44,27 @@ module _ (n : ℕ) (codes : List ℕ) (bytes : List ℤ) where
         pub list-held : (k : ℕ) (l after : List ℤ) → after ≡ take (byteCount n) l → steps n codes ≡ allFit → k ≡ product n codes .k
             → Holds n (product n codes .k) l (product n codes) → outcome (given k) after ≡ listed n codes bytes
         list-held k l after c e s w = (λ i. outcome (given (s i)) ((c ∙ places-are n (product n codes .k) l (product n codes) h w) i)) ∙ list-formed e
+
+module _ (n k : ℕ) (bytes : List ℤ) where
+  pub print-6 : 5 < n → refused 6 0 ≡ fingerprinted n k bytes
+  unfolding fingerprinted
+  print-6 h = rw (lt-ltb 5 n h)
+
+  module _ (h : n ≤ 5) where
+    pub print-9 : (length bytes ≡ byteCount n → ⊥) → refused 9 0 ≡ fingerprinted n k bytes
+    unfolding fingerprinted
+    print-9 p = rw (le-ltb 5 n h, ne-eqb (length bytes) (byteCount n) p)
+
+    module _ (p : length bytes ≡ byteCount n) where
+      pub print-10 : lowestByte bytes ≡ true → refused 10 0 ≡ fingerprinted n k bytes
+      unfolding fingerprinted
+      print-10 e = rw (le-ltb 5 n h, eq-eqb (length bytes) (byteCount n) p, e)
+
+      module _ (q : lowestByte bytes ≡ false) where
+        pub print-11 : (ltb 0 k && allDivisible n (read n bytes)) ≡ true → refused 11 0 ≡ fingerprinted n k bytes
+        unfolding fingerprinted
+        print-11 e = rw (le-ltb 5 n h, eq-eqb (length bytes) (byteCount n) p, q, e)
+
+        pub print-given : (ltb 0 k && allDivisible n (read n bytes)) ≡ false → given (fingerprint n (held n k bytes)) ≡ fingerprinted n k bytes
+        unfolding fingerprinted
+        print-given e = rw (le-ltb 5 n h, eq-eqb (length bytes) (byteCount n) p, q, e)

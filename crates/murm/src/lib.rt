@@ -5,9 +5,9 @@ ghost use Prim.Native.Nat.{_≤_};
 ghost use lib.Dec.{ltb};
 ghost use lib.ListN.{length};
 ghost use Rattle.exact.specs.Matrix.{allDivisible};
-ghost use Rattle.places.specs.Places.{read};
+ghost use Rattle.places.specs.Places.{places, read};
 ghost use Rattle.murm.specs.Entries.{firstInvalid, outcome, listed, toldListed, fingerprinted, toldFingerprinted};
-ghost use Rattle.murm.specs.Work.{PastLimit, InRange};
+ghost use Rattle.murm.specs.Work.{PastLimit, InRange, Loaded};
 use circuit::LibraryGate;
 use cyclotomic::Coefficient;
 use cyclotomic::LIMIT;
@@ -107,6 +107,21 @@ fn in_range(entries: &[Coefficient]) -> bool
     true
 }
 
+// The matrix that the bytes give.
+fn load(n: usize, k: u16, entries: &[Coefficient]) -> UnitaryMatrix
+    requires { ⌜ length (now entries) ≤ places ⌝ }
+    ensures { λ r. ⌜ Loaded n k (now (entries .entry)) r ⌝ }
+{
+    let mut data: [Coefficient; 4096] = [0; 4096];
+    let size = entries.len();
+    copy_places(&mut data[0..size], entries);
+    UnitaryMatrix {
+        num_qubits: n,
+        denominator_exponent: k,
+        data,
+    }
+}
+
 // Whether k > 0 and all entries are divisible.
 fn is_divisible(m: &[Coefficient; 4096], n: usize, k: u16) -> bool
     requires { ⌜ n ≤ 5 ⌝ }
@@ -133,8 +148,8 @@ pub fn library_fingerprint(width: u32, exponent: u16, entries: &[Coefficient]) -
     if !in_range(entries) {
         return Fingerprinted::OutOfRange;
     }
-    let mut data = [0; 4096];
-    copy_places(&mut data[0..size], entries);
+    let m = load(n, exponent, entries);
+    let data = m.data;
     if is_divisible(&data, n, exponent) {
         return Fingerprinted::NotLowest;
     }

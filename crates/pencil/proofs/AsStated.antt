@@ -12,8 +12,9 @@ use Rattle.exact.specs.Matrix.{allDivisible, lower}
 use Rattle.exact.specs.Rows.{flip, column, gateOf}
 use Rattle.exact.specs.Lists.{product}
 use Rattle.exact.specs.Phase.{pivot, phaseOf}
+use Rattle.murm.specs.Entries.{listed}
 use Rattle.pencil.specs.Cases.{Case, cases}
 
 pub as-stated : map (λ (c : Case). c .computed) cases ≡ map (λ (c : Case). c .stated) cases
-unfolding bit range each all elem distinct addω subω turn divisible overSqrt2 less leastUpTo fits checked kindAt arity sorted isKind placed rises valid validFor kept generators zeroω oneω sqrt2 isZero allDivisible lower flip column gateOf product pivot phaseOf
+unfolding listed bit range each all elem distinct addω subω turn divisible overSqrt2 less leastUpTo fits checked kindAt arity sorted isKind placed rises valid validFor kept generators zeroω oneω sqrt2 isZero allDivisible lower flip column gateOf product pivot phaseOf
 as-stated = refl

@@ -4,7 +4,7 @@ use mathlib.Core.Bool.{Bool, true, false}
 use mathlib.Core.List.{List, [], _∷_}
 use Prim.Native.Nat.{ℕ, zero, suc, _*_, _^_}
 use lib.IntN.{ℤ, pos, negsuc}
-use lib.ListN.{length}
+use lib.ListN.{length, replicate}
 use Rattle.cyclotomic.specs.Zomega.{Zω, mk, addω, subω, turn, divisible, overSqrt2, phase}
 use Rattle.cyclotomic.specs.Told.{Told, entry, refused, checked}
 use Rattle.circuit.specs.Sets.{supported}
@@ -13,13 +13,17 @@ use Rattle.generators.specs.Generators.{generators}
 use Rattle.exact.specs.Matrix.{Exact}
 use Rattle.exact.specs.Lists.{product}
 use Rattle.exact.specs.Phase.{flat, phaseOf}
+use Rattle.murm.specs.Entries.{Answer, byteCount, listed}
+use Rattle.murm.specs.Entries as e
 
--- what a row speaks of: an element, a test, a number, an answer with its refusal's number, or a matrix: its exponent and its entries
+-- what a row speaks of: an element, a test, a number, a sum with its refusal's number, an entry's answer with its refusal's number and
+-- position, or a matrix: its exponent and its entries
 pub data Value : Type 0 where
   element : Zω → Value
   test : Bool → Value
   number : ℕ → Value
-  answer : Told → Value
+  sum : Told → Value
+  answer : Answer → Value
   matrix : ℕ → List Zω → Value
 
 -- a row: what is computed, what is stated
@@ -59,18 +63,18 @@ cases =
     ∷ (element (overSqrt2 (int (pos 2))) is element (mk (pos 0) (pos 1) (pos 0) (negsuc 0)))
     ∷ (test (divisible (int (pos 1))) is test false)
     -- 127 + 0 fits, 127 + 1 and -127 - 1 don't
-    ∷ (answer (checked (addω (int (pos 127)) (int (pos 0)))) is answer (entry (int (pos 127))))
-    ∷ (answer (checked (addω (int (pos 127)) (int (pos 1)))) is answer (refused 8))
-    ∷ (answer (checked (subω (int (negsuc 126)) (int (pos 1)))) is answer (refused 8))
+    ∷ (sum (checked (addω (int (pos 127)) (int (pos 0)))) is sum (entry (int (pos 127))))
+    ∷ (sum (checked (addω (int (pos 127)) (int (pos 1)))) is sum (refused 8))
+    ∷ (sum (checked (subω (int (negsuc 126)) (int (pos 1)))) is sum (refused 8))
     -- width 1, list 0 (H): k 1, entries 1, 1, 1, -1. List 0 0: identity, k 0
     ∷ (shown 1 (product 1 (0 ∷ [])) is matrix 1 (row (pos 1) (pos 1) (pos 1) (negsuc 0) []))
     ∷ (shown 1 (product 1 (0 ∷ 0 ∷ [])) is matrix 0 (row (pos 1) (pos 0) (pos 0) (pos 1) []))
     -- 32784 at width 2 exchanges rows 2 and 3
     ∷ (shown 2 (product 2 (32784 ∷ []))
     is matrix 0 (row (pos 1) (pos 0) (pos 0) (pos 0) (row (pos 0) (pos 1) (pos 0) (pos 0) (row (pos 0) (pos 0) (pos 0) (pos 1) (row (pos 0) (pos 0) (pos 1) (pos 0) [])))))
-    -- 36880 is valid at width 2, 37120 is not
+    -- 36880 is valid at width 2, 37120 is refused by 7
     ∷ (test (valid 2 36880) is test true)
-    ∷ (test (valid 2 37120) is test false)
+    ∷ (answer (listed 2 (37120 ∷ []) (replicate (byteCount 2) (pos 0)) .answer) is answer (e.refused 7 0))
     -- pivot (1,0,0,0) has phase 4
     ∷ (number (phase (int (pos 1))) is number 4)
     ∷ (number (phaseOf 1 (product 1 [])) is number 4)

@@ -10,7 +10,7 @@ use borrow.Author.Needs.{needs}
 use Rattle.places.proofs.Placed.{area-le}
 use Rattle.lists.specs.Walk.{Ended}
 use Rattle.lists.specs.declared.Walked.{Walked}
-use Rattle.murm.specs.Entries.{byteCount, firstInvalid}
+use Rattle.murm.specs.Entries.{byteCount, firstInvalid, refused, outcome}
 use Rattle.murm.proofs.Bytes.{byte-count, places-are}
 use Rattle.murm.proofs.Checks.{all-valid}
 use Rattle.murm.proofs.Answers.{list-6, list-9, list-7, list-8, list-held}
@@ -40,7 +40,7 @@ returns-3 : tie.Need-returns-3
 returns-3 c =
     let s = c .before .before .before .before .before .before .args in
     let i = c .before .first-invalid .ensures in
-    rw i (list-7 (s .width) (s .codes .now) (s .out .now) (sized (c .before .before .before) .0) (exact (c .before .before)) (rw i at (c .if3 .taken)))
+    ap (λ (j : ℕ). outcome (refused 7 j) (s .out .now)) i ∙ list-7 (s .width) (s .codes .now) (s .out .now) (sized (c .before .before .before) .0) (exact (c .before .before)) (rw i at (c .if3 .taken))
 
 -- all codes are valid
 codes-valid : (c : tie.Else3) → let s = c .before .before .before .before .before .before .args in length (s .codes .now) ≤ firstInvalid (s .width) (s .codes .now)

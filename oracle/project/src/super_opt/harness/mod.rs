@@ -1,6 +1,8 @@
 //! What is asked of the original. The first argument is a mode; a mode has a
 //! file of its own here and a line in `MODES`.
 
+#[cfg(feature = "bench")]
+mod bench;
 mod codes;
 mod edges;
 mod gates;
@@ -15,6 +17,8 @@ use std::process::ExitCode;
 type Mode = fn(&[String], &mut dyn Write) -> io::Result<()>;
 
 const MODES: &[(&str, Mode)] = &[
+    #[cfg(feature = "bench")]
+    ("bench", bench::run),
     ("gates", gates::run),
     ("inputs", inputs::run),
     ("list", lists::run),

@@ -31,10 +31,13 @@ fn least_power(z: Cyclotomic) -> u8
     ensures { λ r. ⌜ r ≡ phase z ⌝ }
 {
     let mut least: u8 = 0;
+    let mut best = z;
     let mut power: u8 = 1;
     while power < 8 {
-        if z.times_omega(power).less_than(z.times_omega(least)) {
+        let turned = z.times_omega(power);
+        if turned.less_than(best) {
             least = power;
+            best = turned;
         }
         power += 1;
     }

@@ -2,7 +2,7 @@
 // Only that driver calls them; it meets what they require.
 ghost use mathlib.Core.Path.{_≡_};
 ghost use mathlib.Core.Bool.{true};
-ghost use Prim.Native.Nat.{_<_, _≤_};
+ghost use Prim.Native.Nat.{_*_, _^_, _<_, _≤_};
 ghost use lib.ListN.{length};
 ghost use Rattle.ints.specs.Lists.{all};
 ghost use Rattle.circuit.specs.Codes.{valid};
@@ -50,8 +50,9 @@ pub extern "C" fn bench_gate(m: &mut [Coefficient; 4096], n: usize, code: u32, k
 
 // The fingerprint.
 #[no_mangle]
-pub extern "C" fn bench_fingerprint(m: &[Coefficient; 4096], n: usize, k: u16) -> u64
+pub extern "C" fn bench_fingerprint(m: &[Coefficient], n: usize, k: u16) -> u64
     requires { ⌜ n ≤ 5 ⌝ }
+    requires { ⌜ 4 * (2 ^ n * 2 ^ n) ≤ length (now m) ⌝ }
     requires { ⌜ AllSmall n (read n (now m)) ⌝ }
 {
     prints::unitary_fingerprint(m, n, k)

@@ -30,8 +30,7 @@ test c = rw (c .less-than .ensures, c .before .times-omega .ensures, c .before .
 loop-again : tie.Need-loop-again Inv-loop μ-loop
 loop-again c =
     let l = c .before .before .before .before .loop in
-    let m = least-more _ (l .power) (l .least) _ (l .inv .0) (test (c .before)) (l .inv .2) in
-    (
+    let m = least-more _ (l .power) (l .least) _ (l .inv .0) (test (c .before)) (l .inv .2) in (
       omega arith,
       omega arith,
       ⊎-elim (λ w. w .1 ∙ rw (w .0 .taken) at m) (λ w. w .1 ∙ rw (w .0 .left) at m) (c .if1 .came),

@@ -36,7 +36,7 @@ mod port {
     #[link(name = "bench", kind = "static")]
     unsafe extern "C" {
         fn bench_list(m: &mut Places, n: usize, codes: *const u32, count: usize) -> usize;
-        fn bench_fingerprint(m: &Places, n: usize, k: u16) -> u64;
+        fn bench_fingerprint(m: *const i8, places: usize, n: usize, k: u16) -> u64;
         fn bench_identity(m: &mut Places, n: usize);
         fn bench_gate(m: &mut Places, n: usize, code: u32, k: u16) -> usize;
         fn bench_h(m: &mut Places, n: usize, t: usize) -> bool;
@@ -51,7 +51,8 @@ mod port {
     }
 
     pub(super) fn fingerprint(width: usize, exponent: u16, places: &Places) -> u64 {
-        unsafe { bench_fingerprint(places, width, exponent) }
+        let used = 4 << (2 * width);
+        unsafe { bench_fingerprint(places.as_ptr(), used, width, exponent) }
     }
 
     pub(super) fn identity(width: usize, places: &mut Places) {

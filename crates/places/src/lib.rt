@@ -1,6 +1,7 @@
 // How 4,096 signed places hold a matrix of width up to 5: four for each entry, row-major. Reading and storing an entry.
 ghost use mathlib.Core.Path.{_≡_};
-ghost use Prim.Native.Nat.{_*_, _^_, _<_, _≤_};
+ghost use Prim.Native.Nat.{_+_, _*_, _^_, _<_, _≤_};
+ghost use lib.ListN.{length};
 ghost use Rattle.places.specs.Places.{entry, put};
 use cyclotomic::Coefficient;
 use cyclotomic::Cyclotomic;
@@ -25,6 +26,20 @@ pub fn area(n: usize) -> usize
 // The entry at a place, counted in entries.
 pub fn get(m: &[Coefficient; 4096], e: usize) -> Cyclotomic
     requires { ⌜ e < 1024 ⌝ }
+    ensures { λ r. ⌜ r ≡ entry (now (m .entry)) e ⌝ }
+{
+    let i = 4 * e;
+    Cyclotomic {
+        a: m[i],
+        b: m[i + 1],
+        c: m[i + 2],
+        d: m[i + 3],
+    }
+}
+
+// The same of a slice, which need not be of 4,096 places.
+pub fn get_in(m: &[Coefficient], e: usize) -> Cyclotomic
+    requires { ⌜ 4 * e + 3 < length (now m) ⌝ }
     ensures { λ r. ⌜ r ≡ entry (now (m .entry)) e ⌝ }
 {
     let i = 4 * e;

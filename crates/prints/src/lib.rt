@@ -1,7 +1,8 @@
 // The phase of a matrix, equality up to phase, and the fingerprint. matrix.rs of the original: `canonical_phase_power`,
 // `equivalent_up_to_global_phase`, `unitary_fingerprint`. Entries are turned one by one on the way, and nothing is copied.
 ghost use mathlib.Core.Path.{_≡_};
-ghost use Prim.Native.Nat.{_^_, _<_, _≤_};
+ghost use Prim.Native.Nat.{_*_, _^_, _<_, _≤_};
+ghost use lib.ListN.{length};
 ghost use Rattle.cyclotomic.specs.Zomega.{phase, Small, turn};
 ghost use Rattle.places.specs.Places.{entry, read, held};
 ghost use Rattle.exact.specs.Fits.{AllSmall};
@@ -12,13 +13,13 @@ use cyclotomic::Coefficient;
 use cyclotomic::Cyclotomic;
 
 // The place of the first of the entries that is not zero; their number if all are.
-fn first_nonzero(m: &[Coefficient; 4096], size: usize) -> usize
-    requires { ⌜ size ≤ 1024 ⌝ }
+fn first_nonzero(m: &[Coefficient], size: usize) -> usize
+    requires { ⌜ 4 * size ≤ length (now m) ⌝ }
     ensures { λ r. ⌜ FirstNonzero (now (m .entry)) size r ⌝ }
 {
     let mut e = 0;
     while e < size {
-        if !places::get(m, e).is_zero() {
+        if !places::get_in(m, e).is_zero() {
             return e;
         }
         e += 1;
@@ -32,10 +33,13 @@ fn least_power(z: Cyclotomic) -> u8
     ensures { λ r. ⌜ r ≡ phase z ⌝ }
 {
     let mut least: u8 = 0;
+    let mut best = z;
     let mut power: u8 = 1;
     while power < 8 {
-        if z.times_omega(power).less_than(z.times_omega(least)) {
+        let turned = z.times_omega(power);
+        if turned.less_than(best) {
             least = power;
+            best = turned;
         }
         power += 1;
     }
@@ -43,8 +47,9 @@ fn least_power(z: Cyclotomic) -> u8
 }
 
 // The phase of a matrix: of its first nonzero entry; 0 for the zero matrix.
-pub fn canonical_phase_power(m: &[Coefficient; 4096], n: usize) -> u8
+pub fn canonical_phase_power(m: &[Coefficient], n: usize) -> u8
     requires { ⌜ n ≤ 5 ⌝ }
+    requires { ⌜ 4 * (2 ^ n * 2 ^ n) ≤ length (now m) ⌝ }
     requires { ⌜ AllSmall n (read n (now m)) ⌝ }
     ensures { λ r. ⌜ r ≡ phaseOf n (held n 0 (now (m .entry))) ⌝ }
 {
@@ -53,18 +58,19 @@ pub fn canonical_phase_power(m: &[Coefficient; 4096], n: usize) -> u8
     if e == size {
         return 0;
     }
-    least_power(places::get(m, e))
+    least_power(places::get_in(m, e))
 }
 
 // Whether two matrices of width n are equal up to phase: same exponent, same entries after each one's own phase.
 pub fn equivalent_up_to_global_phase(
-    left: &[Coefficient; 4096],
-    right: &[Coefficient; 4096],
+    left: &[Coefficient],
+    right: &[Coefficient],
     n: usize,
     j: u16,
     k: u16,
 ) -> bool
     requires { ⌜ n ≤ 5 ⌝ }
+    requires { ⌜ (4 * (2 ^ n * 2 ^ n) ≤ length (now left)) × (4 * (2 ^ n * 2 ^ n) ≤ length (now right)) ⌝ }
     requires { ⌜ AllSmall n (read n (now left)) × AllSmall n (read n (now right)) ⌝ }
     ensures { λ r. ⌜ r ≡ upToPhase n (held n j (now (left .entry))) (held n k (now (right .entry))) ⌝ }
 {
@@ -76,9 +82,9 @@ pub fn equivalent_up_to_global_phase(
     let size = places::area(n);
     let mut e = 0;
     while e < size {
-        if !places::get(left, e)
+        if !places::get_in(left, e)
             .times_omega(p)
-            .equals(places::get(right, e).times_omega(q)) {
+            .equals(places::get_in(right, e).times_omega(q)) {
             return false;
         }
         e += 1;
@@ -125,23 +131,24 @@ impl Streams {
 }
 
 // The entries, each turned by omega^power, are mixed in.
-fn mix_entries(m: &[Coefficient; 4096], size: usize, power: u8, s: Streams) -> Streams
-    requires { ⌜ size ≤ 1024 ⌝ }
+fn mix_entries(m: &[Coefficient], size: usize, power: u8, s: Streams) -> Streams
+    requires { ⌜ 4 * size ≤ length (now m) ⌝ }
     requires { ⌜ SmallTo (now m) size ⌝ }
     ensures { λ r. ⌜ streams r ≡ mixAll (streams s) (wordsOf size (λ i. turn power (entry (now (m .entry)) i))) ⌝ }
 {
     let mut t = s;
     let mut e = 0;
     while e < size {
-        t = t.mix_entry(places::get(m, e).times_omega(power));
+        t = t.mix_entry(places::get_in(m, e).times_omega(power));
         e += 1;
     }
     t
 }
 
 // The fingerprint of the matrix of width n over sqrt(2)^k.
-pub fn unitary_fingerprint(m: &[Coefficient; 4096], n: usize, k: u16) -> u64
+pub fn unitary_fingerprint(m: &[Coefficient], n: usize, k: u16) -> u64
     requires { ⌜ n ≤ 5 ⌝ }
+    requires { ⌜ 4 * (2 ^ n * 2 ^ n) ≤ length (now m) ⌝ }
     requires { ⌜ AllSmall n (read n (now m)) ⌝ }
     ensures { λ r. ⌜ r ≡ fingerprint n (held n k (now (m .entry))) ⌝ }
 {

@@ -4,7 +4,7 @@ use mathlib.Core.Path.{sym, ap, _∙_}
 use Prim.Native.Nat.{_*_, _^_, _<_}
 use native.Mathlib.Omega.{arith}
 use Rattle.cyclotomic.specs.Zomega.{phase}
-use Rattle.places.proofs.Placed.{area-le, small-at}
+use Rattle.places.proofs.Placed.{small-at}
 use Rattle.prints.specs.Prints.{FirstNonzero}
 use Rattle.prints.proofs.Pivots.{phase-at, phase-none}
 use Rattle.prints.proofs.canonical_phase_power.Statement.{statement}
@@ -18,24 +18,24 @@ inside : (c : tie.Else1) → let n = c .before .before .before .args .n in c .be
 inside c = omega (arith, found (c .before) .within, c .before .before .area .ensures)
 
 first-nonzero-requires : tie.Need-first-nonzero-requires
-first-nonzero-requires c κs = rw (c .area .ensures) (area-le (c .before .args .n) (c .before .pre .0))
+first-nonzero-requires c κs = rw (c .area .ensures) (c .before .pre .1 .0)
 
 returns : tie.Need-returns
 returns c = sym (phase-none _ 0 _ _ (found (c .before)) (omega (arith, c .before .before .area .ensures)))
 
-get-requires : tie.Need-get-requires
-get-requires c κs = let s = c .before .before .before in omega (arith, inside c, area-le (s .args .n) (s .pre .0))
+get-in-requires : tie.Need-get-in-requires
+get-in-requires c κs = omega (arith, inside c, c .before .before .before .pre .1 .0)
 
 least-power-requires : tie.Need-least-power-requires
 least-power-requires c κs =
-    rw (c .get .ensures) (small-at _ _ _ (c .before .before .before .before .pre .1) (inside (c .before)))
+    rw (c .get-in .ensures) (small-at _ _ _ (c .before .before .before .before .pre .1 .1) (inside (c .before)))
 
 returns-2 : tie.Need-returns-2
 returns-2 c =
-    c .least-power .ensures ∙ ap phase (c .before .get .ensures)
+    c .least-power .ensures ∙ ap phase (c .before .get-in .ensures)
     ∙ sym (phase-at _ 0 _ _ (found (c .before .before .before)) (inside (c .before .before)))
 
 pub canonical-phase-power-spec : {M : Type 1} → statement M
 canonical-phase-power-spec =
     tie.close
-    (tie.spec (λ c κs. search needs) first-nonzero-requires returns get-requires least-power-requires returns-2)
+    (tie.spec (λ c κs. search needs) first-nonzero-requires returns get-in-requires least-power-requires returns-2)

@@ -3,7 +3,7 @@ use borrow.Author.Needs.{needs}
 use lib.Dec.{lit<}
 use native.Mathlib.Omega.{arith}
 use native.Mathlib.Nat.{lt-of-le-of-lt}
-use Rattle.places.proofs.Placed.{area-le, small-at}
+use Rattle.places.proofs.Placed.{small-at}
 use Rattle.prints.proofs.Mixing.{print-is}
 use Rattle.prints.proofs.unitary_fingerprint.Statement.{statement}
 use Rattle.prints.proofs.unitary_fingerprint.Tie as tie
@@ -11,8 +11,8 @@ use Rattle.prints.proofs.unitary_fingerprint.Tie as tie
 mix-entries-requires : tie.Need-mix-entries-requires
 mix-entries-requires c κs =
     let s = c .before .before .before .before in (
-      rw (c .area .ensures) (area-le (s .args .n) (s .pre .0)),
-      record { small = λ j h. small-at _ _ j (s .pre .1) (rw (c .area .ensures) at h) },
+      rw (c .area .ensures) (s .pre .1 .0),
+      record { small = λ j h. small-at _ _ j (s .pre .1 .1) (rw (c .area .ensures) at h) },
     )
 
 returns : tie.Need-returns

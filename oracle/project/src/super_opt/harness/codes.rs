@@ -62,3 +62,11 @@ pub(super) fn valid_gates(width: usize) -> Vec<Gate> {
         .filter(|gate| gate.is_valid_for(width, SUPPORTED_GATE_SET))
         .collect()
 }
+
+/// The gate of a code, where it is one of the eleven kinds, has 0 for what its
+/// kind does not use, and is valid at the width.
+pub(super) fn valid_gate(code: u32, width: usize) -> Option<Gate> {
+    let kind = kinds().find(|&kind| kind as u32 == code / 4096)?;
+    let gate = gate_of(kind, [8, 4, 0].map(|place| (code >> place & 15) as u8));
+    (code_of(gate) == code && gate.is_valid_for(width, SUPPORTED_GATE_SET)).then_some(gate)
+}

@@ -1,8 +1,14 @@
 //! What is asked of the original. The first argument is a mode; a mode has a
 //! file of its own here and a line in `MODES`.
 
+#[cfg(feature = "bench")]
+mod bench;
 mod codes;
+mod edges;
 mod gates;
+mod inputs;
+mod lists;
+mod random;
 
 use std::io::{self, BufWriter, Write};
 use std::process::ExitCode;
@@ -10,7 +16,13 @@ use std::process::ExitCode;
 /// A mode takes the arguments after its name and writes to standard output.
 type Mode = fn(&[String], &mut dyn Write) -> io::Result<()>;
 
-const MODES: &[(&str, Mode)] = &[("gates", gates::run)];
+const MODES: &[(&str, Mode)] = &[
+    #[cfg(feature = "bench")]
+    ("bench", bench::run),
+    ("gates", gates::run),
+    ("inputs", inputs::run),
+    ("list", lists::run),
+];
 
 /// Runs the mode that the arguments name. Ends with 2 when there is none such,
 /// and with 1 when the output cannot be written.

@@ -1,0 +1,121 @@
+//! Mode `list`: the matrix and the fingerprint of each list that standard
+//! input names.
+
+use std::io::{self, BufRead, Write};
+use std::panic::{AssertUnwindSafe, catch_unwind};
+
+use super::codes::valid_gate;
+use crate::circuit::Qubit;
+use crate::super_opt::matrix::{UnitaryMatrix, unitary_fingerprint};
+use crate::super_opt::murm::{LibraryGate, library_circuit_matrix};
+
+/// The largest width that a list may have. The original has no such limit.
+const MOST_WIDTH: u32 = 5;
+
+/// A line of standard input, `list WIDTH COUNT CODES..`.
+pub(super) struct List {
+    pub(super) width: u32,
+    pub(super) codes: Vec<u32>,
+}
+
+/// Answers each line by one line. A line that is no list ends the run.
+pub(super) fn run(_: &[String], out: &mut dyn Write) -> io::Result<()> {
+    for (number, line) in io::stdin().lock().lines().enumerate() {
+        let Some(list) = List::parse(&line?) else {
+            let line = number + 1;
+            return Err(io::Error::other(format!("line {line} is no list")));
+        };
+        let answer = catch_unwind(AssertUnwindSafe(|| answer(&list)));
+        writeln!(out, "{}", answer.unwrap_or_else(|_| "panicked".to_owned()))?;
+    }
+    Ok(())
+}
+
+impl List {
+    fn parse(line: &str) -> Option<Self> {
+        let numbers = line.strip_prefix("list ")?;
+        let numbers: Option<Vec<u32>> = numbers.split(' ').map(|word| word.parse().ok()).collect();
+        let (&[width, count], codes) = numbers.as_deref()?.split_first_chunk()?;
+        (codes.len() == count as usize).then(|| Self {
+            width,
+            codes: codes.to_vec(),
+        })
+    }
+
+    pub(super) fn line(&self) -> String {
+        let mut line = format!("list {} {}", self.width, self.codes.len());
+        for code in &self.codes {
+            line.push(' ');
+            line.push_str(&code.to_string());
+        }
+        line
+    }
+}
+
+fn answer(list: &List) -> String {
+    if list.width > MOST_WIDTH {
+        return "refused 6 0".to_owned();
+    }
+    let width = list.width as usize;
+    let mut gates = Vec::new();
+    for (position, &code) in list.codes.iter().enumerate() {
+        match valid_gate(code, width) {
+            Some(gate) => gates.push(gate),
+            None => return format!("refused 7 {position}"),
+        }
+    }
+    match library_circuit_matrix(width, &gates).expect("the width is small") {
+        Some(matrix) => told(&matrix),
+        None => format!("refused 8 {}", first_unfit(width, &gates)),
+    }
+}
+
+/// The exponent, the fingerprint and the coefficients, row by row.
+fn told(matrix: &UnitaryMatrix) -> String {
+    let parts = Parts::of(matrix);
+    let fingerprint = unitary_fingerprint(matrix).to_bits();
+    let mut line = format!("{} {fingerprint:016x}", parts.exponent);
+    for coefficient in parts.coefficients {
+        line.push(' ');
+        line.push_str(&coefficient.to_string());
+    }
+    line
+}
+
+/// The position of the gate that does not fit. The original does not tell it,
+/// so its gates are applied one by one.
+fn first_unfit(width: usize, gates: &[LibraryGate]) -> usize {
+    let mut matrix = UnitaryMatrix::identity(width).expect("the width is small");
+    let unfit = |&gate: &LibraryGate| !apply(&mut matrix, gate);
+    gates.iter().position(unfit).expect("a gate does not fit")
+}
+
+/// Applies one gate on the left; whether it fits.
+pub(super) fn apply(matrix: &mut UnitaryMatrix, gate: LibraryGate) -> bool {
+    let support: Vec<Qubit> = (0..matrix.num_qubits() as Qubit).collect();
+    matrix.apply_gate_left(&gate.to_gate(), &support).is_ok()
+}
+
+/// The private parts of a matrix, out of its derived `Debug`.
+pub(super) struct Parts {
+    pub(super) exponent: u16,
+    pub(super) coefficients: Vec<i8>,
+}
+
+impl Parts {
+    pub(super) fn of(matrix: &UnitaryMatrix) -> Self {
+        let text = format!("{matrix:?}");
+        let (_, rest) = text.split_once("denominator_exponent: ").expect("a field");
+        let (exponent, rest) = rest.split_once(", data: ").expect("a field");
+        let coefficients = rest
+            .split("coefficients: [")
+            .skip(1)
+            .flat_map(|entry| entry.split(']').next().expect("an array").split(", "))
+            .map(|word| word.parse().expect("a coefficient"))
+            .collect();
+        Self {
+            exponent: exponent.parse().expect("an exponent"),
+            coefficients,
+        }
+    }
+}

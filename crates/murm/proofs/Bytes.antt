@@ -1,23 +1,21 @@
 -- Lent bytes and the places of a matrix: a copy, place by place, and the coefficients of an exact matrix as the places have them.
 -- Assumes nothing.
-use mathlib.Core.Path.{_≡_, refl, sym, ap, _∙_, subst}
+use mathlib.Core.Path.{_≡_, refl, sym, ap, _∙_}
 use mathlib.Core.List.{List, [], _∷_, _++_}
 use Prim.Native.Nat.{ℕ, zero, suc, _+_, _*_, _^_, _/_, _%_, _≤_, _<_}
 use native.Mathlib.Nat.{pow-suc, mul-mul-mul-comm}
 use native.Mathlib.Numerals.{add-one}
 use native.Mathlib.Omega.{arith}
 use lib.IntN.{ℤ, pos, natAbs}
-use lib.ListN.{length, getD, take, set, List·getD-append}
+use lib.ListN.{length, getD, take, set}
 use lib.Seq.{take-suc, take-suc-set}
-use Rattle.ints.proofs.Bools.{iff}
-use Rattle.cyclotomic.specs.Zomega.{Zω, limit, Small, divisible}
+use Rattle.cyclotomic.specs.Zomega.{Zω, limit}
 use Rattle.cyclotomic.proofs.Number.{each}
-use Rattle.exact.specs.Matrix.{Exact, Equal, allDivisible}
+use Rattle.exact.specs.Matrix.{Exact}
 use Rattle.exact.specs.Fits.{AllSmall}
 use Rattle.exact.specs.Phase.{flat}
-use Rattle.exact.proofs.Phases.{row-lt, col-lt, flat-lt}
-use Rattle.exact.proofs.Values.{divisible-to, divisible-from}
-use Rattle.places.specs.Places.{places, entry, read, held}
+use Rattle.exact.proofs.Phases.{row-lt, col-lt}
+use Rattle.places.specs.Places.{entry, read}
 use Rattle.places.proofs.Placed.{area-le, read-at, at-small}
 use Rattle.matrix.specs.Step.{Holds}
 use Rattle.murm.specs.Entries.{byteCount, bytesOf, coefficients}
@@ -81,30 +79,12 @@ places-are n k l x h w =
     ∙ bytes-same (2 ^ n * 2 ^ n) (entry l) (flat n (x .e))
     (λ i q. sym (read-at n l i) ∙ w .equal .entries (i / 2 ^ n) (i % 2 ^ n) (row-lt n i q) (col-lt n i))
 
--- ---- a matrix given by its bytes, and other places after them
+-- ---- a matrix given by its bytes
 
-module _ (n : ℕ) (bytes rest : List ℤ) (h : length bytes ≡ byteCount n) where
-  entry-before : (e : ℕ) → e < 2 ^ n * 2 ^ n → entry (bytes ++ rest) e ≡ entry bytes e
-  unfolding entry
-  entry-before e q =
-      let size = h ∙ byte-count n in
-      each (List·getD-append bytes rest (pos 0) (4 * e) (omega arith)) (List·getD-append bytes rest (pos 0) (4 * e + 1) (omega arith))
-      (List·getD-append bytes rest (pos 0) (4 * e + 2) (omega arith)) (List·getD-append bytes rest (pos 0) (4 * e + 3) (omega arith))
-
-  pub bytes-equal : (k : ℕ) → Equal n (held n k (bytes ++ rest)) (held n k bytes)
-  bytes-equal k = record { exponent = refl; entries = λ r c p q. entry-before (r * 2 ^ n + c) (flat-lt n r c p q) }
-
-  pub bytes-small : ((i : ℕ) → i < length bytes → natAbs (getD bytes i (pos 0)) ≤ limit) → AllSmall n (read n (bytes ++ rest))
-  unfolding entry
-  bytes-small s =
-      at-small n (bytes ++ rest)
-      (λ e q. let size = h ∙ byte-count n in
-      subst Small (sym (entry-before e q))
-      (record { a-small = s (4 * e) (omega arith); b-small = s (4 * e + 1) (omega arith); c-small = s (4 * e + 2) (omega arith); d-small = s (4 * e + 3) (omega arith) }))
-
--- the test of all entries sees the entries alone
-pub divisible-equal : (n : ℕ) (x y : Exact) → Equal n x y → allDivisible n (x .e) ≡ allDivisible n (y .e)
-divisible-equal n x y w =
-    iff (allDivisible n (x .e)) (allDivisible n (y .e))
-    (λ t. divisible-from n (y .e) (λ r c p q. ap divisible (sym (w .entries r c p q)) ∙ divisible-to n (x .e) t r c p q))
-    (λ t. divisible-from n (x .e) (λ r c p q. ap divisible (w .entries r c p q) ∙ divisible-to n (y .e) t r c p q))
+pub bytes-small : (n : ℕ) (bytes : List ℤ) → length bytes ≡ byteCount n → ((i : ℕ) → i < length bytes → natAbs (getD bytes i (pos 0)) ≤ limit)
+    → AllSmall n (read n bytes)
+unfolding entry
+bytes-small n bytes h s =
+    at-small n bytes
+    (λ e q. let size = h ∙ byte-count n in
+    record { a-small = s (4 * e) (omega arith); b-small = s (4 * e + 1) (omega arith); c-small = s (4 * e + 2) (omega arith); d-small = s (4 * e + 3) (omega arith) })

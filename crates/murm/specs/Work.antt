@@ -1,12 +1,11 @@
--- What the tests of coefficients tell, and what the matrix given by its bytes is. Assumes nothing.
+-- What the tests of coefficients tell. Assumes nothing.
 use mathlib.Core.Path.{_≡_}
 use mathlib.Core.Bool.{Bool, true, false, not}
-use mathlib.Core.List.{List, _++_}
+use mathlib.Core.List.{List}
 use Prim.Native.Nat.{ℕ, _≤_, _<_}
 use lib.IntN.{ℤ, pos, negsuc, natAbs}
 use lib.ListN.{length, getD}
 use Rattle.cyclotomic.specs.Zomega.{limit, eqZ}
-use Rattle.matrix.specs.declared.UnitaryMatrix.{UnitaryMatrix}
 use Rattle.murm.specs.Entries.{lowestByte}
 
 -- whether a coefficient is -128; a byte that is not is within the limit
@@ -18,10 +17,3 @@ pub record PastLimit (x : ℤ) (r : Bool) : Type 0 where
 pub record InRange (l : List ℤ) (r : Bool) : Type 0 where
   pub told : r ≡ not (lowestByte l)
   pub small : r ≡ true → (i : ℕ) → i < length l → natAbs (getD l i (pos 0)) ≤ limit
-
--- the matrix of width n over √2 to the k whose first places are the bytes
-pub record Loaded (n k : ℕ) (bytes : List ℤ) (m : UnitaryMatrix) : Type 0 where
-  pub width : m .«num_qubits» ≡ n
-  pub exponent : m .«denominator_exponent» ≡ k
-  pub rest : List ℤ
-  pub begins : m .data ≡ bytes ++ rest

@@ -1,13 +1,13 @@
 // The public entries: each decides every input. murm.rs of the original: `library_circuit_matrix`; matrix.rs: `unitary_fingerprint`.
 ghost use mathlib.Core.Path.{_≡_};
 ghost use mathlib.Core.Bool.{_&&_};
-ghost use Prim.Native.Nat.{_≤_};
+ghost use Prim.Native.Nat.{_*_, _^_, _≤_};
 ghost use lib.Dec.{ltb};
 ghost use lib.ListN.{length};
 ghost use Rattle.exact.specs.Matrix.{allDivisible};
-ghost use Rattle.places.specs.Places.{places, read};
+ghost use Rattle.places.specs.Places.{read};
 ghost use Rattle.murm.specs.Entries.{firstInvalid, outcome, listed, toldListed, fingerprinted, toldFingerprinted};
-ghost use Rattle.murm.specs.Work.{PastLimit, InRange, Loaded};
+ghost use Rattle.murm.specs.Work.{PastLimit, InRange};
 use circuit::LibraryGate;
 use cyclotomic::Coefficient;
 use cyclotomic::LIMIT;
@@ -107,30 +107,16 @@ fn in_range(entries: &[Coefficient]) -> bool
     true
 }
 
-// The matrix that the bytes give.
-fn load(n: usize, k: u16, entries: &[Coefficient]) -> UnitaryMatrix
-    requires { ⌜ length (now entries) ≤ places ⌝ }
-    ensures { λ r. ⌜ Loaded n k (now (entries .entry)) r ⌝ }
-{
-    let mut data: [Coefficient; 4096] = [0; 4096];
-    let size = entries.len();
-    copy_places(&mut data[0..size], entries);
-    UnitaryMatrix {
-        num_qubits: n,
-        denominator_exponent: k,
-        data,
-    }
-}
-
 // Whether k > 0 and all entries are divisible.
-fn is_divisible(m: &[Coefficient; 4096], n: usize, k: u16) -> bool
+fn is_divisible(entries: &[Coefficient], n: usize, k: u16) -> bool
     requires { ⌜ n ≤ 5 ⌝ }
-    ensures { λ r. ⌜ r ≡ (ltb 0 k && allDivisible n (read n (now (m .entry)))) ⌝ }
+    requires { ⌜ 4 * (2 ^ n * 2 ^ n) ≤ length (now entries) ⌝ }
+    ensures { λ r. ⌜ r ≡ (ltb 0 k && allDivisible n (read n (now (entries .entry)))) ⌝ }
 {
     if k == 0 {
         return false;
     }
-    rows::all_divisible(m, n)
+    rows::all_divisible(entries, n)
 }
 
 // The fingerprint of a matrix given by its bytes, with the checks of a query.
@@ -148,10 +134,8 @@ pub fn library_fingerprint(width: u32, exponent: u16, entries: &[Coefficient]) -
     if !in_range(entries) {
         return Fingerprinted::OutOfRange;
     }
-    let m = load(n, exponent, entries);
-    let data = m.data;
-    if is_divisible(&data, n, exponent) {
+    if is_divisible(entries, n, exponent) {
         return Fingerprinted::NotLowest;
     }
-    Fingerprinted::Fingerprint(prints::unitary_fingerprint(&data, n, exponent))
+    Fingerprinted::Fingerprint(prints::unitary_fingerprint(entries, n, exponent))
 }

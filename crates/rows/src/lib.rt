@@ -115,14 +115,15 @@ pub fn apply_phase_left(m: &mut [Coefficient; 4096], n: usize, mask: usize, powe
 }
 
 // Whether every entry is divisible by sqrt(2).
-pub fn all_divisible(m: &[Coefficient; 4096], n: usize) -> bool
+pub fn all_divisible(m: &[Coefficient], n: usize) -> bool
     requires { ⌜ n ≤ 5 ⌝ }
+    requires { ⌜ 4 * (2 ^ n * 2 ^ n) ≤ length (now m) ⌝ }
     ensures { λ r. ⌜ r ≡ allDivisible n (read n (now (m .entry))) ⌝ }
 {
     let size = places::area(n);
     let mut e = 0;
     while e < size {
-        if !places::get(m, e).divisible_by_sqrt_2() {
+        if !places::get_in(m, e).divisible_by_sqrt_2() {
             return false;
         }
         e += 1;

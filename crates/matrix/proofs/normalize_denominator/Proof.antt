@@ -3,6 +3,7 @@ use mathlib.Core.Path.{sym, _∙_}
 use native.Mathlib.Omega.{arith}
 use borrow.Author.Needs.{needs}
 use borrow.Author.Tests.{not-true, not-false}
+use Rattle.places.proofs.Placed.{area-le}
 use Rattle.matrix.proofs.Lowering.{Lowering, lowering-first, lowering-more, lowering-end}
 use Rattle.matrix.proofs.normalize_denominator.Statement.{statement}
 use Rattle.matrix.proofs.normalize_denominator.Tie as tie
@@ -16,14 +17,19 @@ abbrev μ-loop : tie.MeasureT-loop
 loop-holds : tie.Need-loop-holds Inv-loop μ-loop
 loop-holds c = lowering-first _ _ _ (c .pre .0) (c .pre .1 .1)
 
+all-divisible-requires : tie.Need-all-divisible-requires Inv-loop μ-loop
+all-divisible-requires c κs =
+    let s = c .before .before .before .before in
+    (s .pre .1 .0, omega (arith, c .before .before .before .loop .inv .long, area-le (s .args .n) (s .pre .1 .0)))
+
 returns : tie.Need-returns Inv-loop μ-loop
 returns c =
-    lowering-end _ _ _ (c .before .before .before .before .loop .inv)
+    lowering-end _ _ _ (c .before .before .before .before .before .loop .inv)
     (λ h. sym (c .before .all-divisible .ensures) ∙ not-true _ (c .if1 .taken))
 
 loop-again : tie.Need-loop-again Inv-loop μ-loop
 loop-again c =
-    lowering-more _ _ _ _ (c .before .before .before .before .before .before .loop .inv) (omega arith)
+    lowering-more _ _ _ _ (c .before .before .before .before .before .before .before .loop .inv) (omega arith)
     (sym (c .before .before .before .all-divisible .ensures) ∙ not-false _ (c .before .before .if1 .left))
     (c .divide-all .ensures .0) (c .divide-all .ensures .1)
 
@@ -37,7 +43,7 @@ normalize-denominator-spec =
     Inv-loop
     μ-loop
     loop-holds
-    (λ c κs. search needs)
+    all-divisible-requires
     returns
     (λ c κs. search needs)
     (λ c. search needs)

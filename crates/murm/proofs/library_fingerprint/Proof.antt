@@ -1,23 +1,16 @@
--- `library_fingerprint` meets its contract: each test that was passed decides its row of the definition, and the places, which begin with
--- the bytes lent, hold the matrix that they give.
+-- `library_fingerprint` meets its contract: each test that was passed decides its row of the definition.
 use mathlib.Core.Path.{_≡_, refl, sym, ap, _∙_, subst}
-use mathlib.Core.Bool.{Bool, true, false, _&&_}
-use mathlib.Core.List.{List, _++_}
-use Prim.Native.Nat.{ℕ, _*_, _≤_, _<_}
+use mathlib.Core.Bool.{Bool, true, false}
+use Prim.Native.Nat.{ℕ, _*_, _^_, _≤_}
+use native.Mathlib.Nat.{le-of-eq}
 use native.Mathlib.Omega.{arith}
-use lib.IntN.{ℤ}
-use lib.Dec.{ltb}
 use lib.ListN.{length}
 use borrow.Author.Needs.{needs}
 use borrow.Author.Tests.{not-true, not-false}
-use Rattle.exact.specs.Matrix.{Equal, allDivisible}
-use Rattle.exact.specs.Fits.{AllSmall}
-use Rattle.exact.proofs.Prints.{fingerprint-equal}
-use Rattle.places.specs.Places.{read, held}
 use Rattle.places.proofs.Placed.{area-le}
 use Rattle.murm.specs.Entries.{given, byteCount, lowestByte}
 use Rattle.murm.specs.Work.{InRange}
-use Rattle.murm.proofs.Bytes.{byte-count, bytes-equal, bytes-small, divisible-equal}
+use Rattle.murm.proofs.Bytes.{byte-count, bytes-small}
 use Rattle.murm.proofs.Answers.{print-6, print-9, print-10, print-11, print-given}
 use Rattle.murm.proofs.library_fingerprint.Statement.{statement}
 use Rattle.murm.proofs.library_fingerprint.Tie as tie
@@ -48,53 +41,28 @@ returns-3 c =
 ranged : (c : tie.Else3) → let s = c .before .before .before .before .before .args in InRange (s .entries .now) true
 ranged c = subst (λ (b : Bool). InRange (c .before .before .before .before .before .args .entries .now) b) (not-false _ (c .if3 .left)) (c .before .in-range .ensures)
 
-load-requires : tie.Need-load-requires
-load-requires c κs =
-    let a = c .before .before .before in
-    omega (arith, c .before .before .if2 .left, a .area .ensures, area-le (a .before .before .args .width) (sized a .0))
+none-lowest : (c : tie.Else3) → let s = c .before .before .before .before .before .args in lowestByte (s .entries .now) ≡ false
+none-lowest c = not-true _ (sym (ranged c .told))
 
--- the matrix in the places is the one that the bytes give
-module _ (c : tie.After-load) where
-  abbrev n : ℕ
-  n = c .before .before .before .before .before .before .args .width
-
-  abbrev k : ℕ
-  k = c .before .before .before .before .before .before .args .exponent
-
-  abbrev bytes : List ℤ
-  bytes = c .before .before .before .before .before .before .args .entries .now
-
-  all-lent : length bytes ≡ byteCount n
-  all-lent = exact (c .before .before .before)
-
-  none-lowest : lowestByte bytes ≡ false
-  none-lowest = not-true _ (sym (ranged (c .before) .told))
-
-  equal : Equal n (held n k (c .load .result .data)) (held n k bytes)
-  equal = subst (λ (l : List ℤ). Equal n (held n k l) (held n k bytes)) (sym (c .load .ensures .begins)) (bytes-equal n bytes (c .load .ensures .rest) all-lent k)
-
-  small : AllSmall n (read n (c .load .result .data))
-  small =
-      subst (λ (l : List ℤ). AllSmall n (read n l)) (sym (c .load .ensures .begins))
-      (bytes-small n bytes (c .load .ensures .rest) all-lent (ranged (c .before) .small refl))
-
-  divided : (ltb 0 k && allDivisible n (read n (c .load .result .data))) ≡ (ltb 0 k && allDivisible n (read n bytes))
-  divided = ap (λ (b : Bool). ltb 0 k && b) (divisible-equal n _ _ equal)
+-- the matrix is all there
+whole : (c : tie.Else3) → let s = c .before .before .before .before .before .args in (s .width ≤ 5) × (4 * (2 ^ (s .width) * 2 ^ (s .width)) ≤ length (s .entries .now))
+whole c = (sized (c .before .before .before) .0, le-of-eq (sym (byte-count _) ∙ sym (exact (c .before .before))))
 
 returns-4 : tie.Need-returns-4
 returns-4 c =
-    let m = c .before .before .before .before in
-    print-11 _ _ _ (sized (m .before .before .before .before) .0) (all-lent m) (none-lowest m) (sym (divided m) ∙ sym (c .before .is-divisible .ensures) ∙ c .if4 .taken)
+    let e = c .before .before in
+    print-11 _ _ _ (whole e .0) (exact (e .before .before)) (none-lowest e) (sym (c .before .is-divisible .ensures) ∙ c .if4 .taken)
 
 unitary-fingerprint-requires : tie.Need-unitary-fingerprint-requires
-unitary-fingerprint-requires c κs = (sized (c .before .before .before .before .before .before .before .before .before) .0, small (c .before .before .before .before .before))
+unitary-fingerprint-requires c κs =
+    let e = c .before .before in
+    (whole e .0, (whole e .1, bytes-small _ _ (exact (e .before .before)) (ranged e .small refl)))
 
 returns-5 : tie.Need-returns-5
 returns-5 c =
-    let m = c .before .before .before .before .before .before in
-    ap given (c .unitary-fingerprint .ensures ∙ fingerprint-equal _ (equal m))
-    ∙ print-given _ _ _ (sized (m .before .before .before .before) .0) (all-lent m) (none-lowest m)
-    (sym (divided m) ∙ sym (c .before .before .before .is-divisible .ensures) ∙ c .before .before .if4 .left)
+    let e = c .before .before .before in
+    ap given (c .unitary-fingerprint .ensures)
+    ∙ print-given _ _ _ (whole e .0) (exact (e .before .before)) (none-lowest e) (sym (c .before .before .is-divisible .ensures) ∙ c .before .if4 .left)
 
 pub library-fingerprint-spec : {M : Type 1} → statement M
 library-fingerprint-spec =
@@ -106,8 +74,7 @@ library-fingerprint-spec =
     returns-2
     (λ c κs. search needs)
     returns-3
-    load-requires
-    (λ c κs. search needs)
+    (λ c κs. whole c)
     returns-4
     unitary-fingerprint-requires
     returns-5)

@@ -1,8 +1,9 @@
 -- `all_divisible` meets its contract: the entries so far are divisible. Assumes nothing.
 use mathlib.Core.Path.{_≡_, sym, ap, _∙_}
 use mathlib.Core.Bool.{true}
-use Prim.Native.Nat.{ℕ, _-_, _≤_, _<_}
+use Prim.Native.Nat.{ℕ, _+_, _*_, _-_, _≤_, _<_}
 use native.Mathlib.Omega.{arith}
+use lib.ListN.{length}
 use borrow.Author.Count.{below-more}
 use borrow.Author.Needs.{needs}
 use borrow.Author.Tests.{not-true, not-false}
@@ -21,13 +22,13 @@ abbrev μ-loop : tie.MeasureT-loop
 loop-holds : tie.Need-loop-holds Inv-loop μ-loop
 loop-holds c = (search needs, λ j h. absurd (omega arith))
 
-inside : (c : tie.In-loop Inv-loop μ-loop) → c .before .loop .e < 1024
-inside c = omega (arith, area-le _ (c .before .before .before .pre), c .before .before .area .ensures)
+inside : (c : tie.In-loop Inv-loop μ-loop) → 4 * (c .before .loop .e) + 3 < length (c .before .before .before .args .m .now)
+inside c = omega (arith, c .before .before .before .pre .1, c .before .before .area .ensures, c .loop-test .taken)
 
 -- the test is the entry's
 test-is : (c : tie.After-divisible-by-sqrt-2 Inv-loop μ-loop)
     → divisible (entry (c .before .before .before .before .before .args .m .now) (c .before .before .before .loop .e)) ≡ c .divisible-by-sqrt-2 .result
-test-is c = ap divisible (sym (c .before .get .ensures)) ∙ sym (c .divisible-by-sqrt-2 .ensures)
+test-is c = ap divisible (sym (c .before .get-in .ensures)) ∙ sym (c .divisible-by-sqrt-2 .ensures)
 
 returns : tie.Need-returns Inv-loop μ-loop
 returns c =

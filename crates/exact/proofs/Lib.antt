@@ -10,6 +10,7 @@ pub mod Agree
 pub mod Conj
 pub mod Unitaries
 pub mod Bounds
+pub mod TooLarge
 pub mod Phases
 pub mod Prints
 pub mod Keeps

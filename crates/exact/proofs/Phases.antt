@@ -91,7 +91,7 @@ module _ (n : ℕ) where
   pub col-lt : (i : ℕ) → i % 2 ^ n < 2 ^ n
   col-lt i = mod-lt i (pow-pos n)
 
-  at-flat : (e : ℕ → ℕ → Zω) (r c : ℕ) → c < 2 ^ n → flat n e (r * 2 ^ n + c) ≡ e r c
+  pub at-flat : (e : ℕ → ℕ → Zω) (r c : ℕ) → c < 2 ^ n → flat n e (r * 2 ^ n + c) ≡ e r c
   at-flat e r c h = λ i. e (high r n h i) (low r n h i)
 
   pub flat-lt : (r c : ℕ) → r < 2 ^ n → c < 2 ^ n → r * 2 ^ n + c < 2 ^ n * 2 ^ n

@@ -11,11 +11,11 @@ use lib.ListN.{length, getD, take, set}
 use lib.Seq.{take-suc, take-suc-set}
 use Rattle.cyclotomic.specs.Zomega.{Zω, limit}
 use Rattle.cyclotomic.proofs.Number.{each}
-use Rattle.exact.specs.Matrix.{Exact}
+use Rattle.exact.specs.Matrix.{Exact, Equal}
 use Rattle.exact.specs.Fits.{AllSmall}
 use Rattle.exact.specs.Phase.{flat}
-use Rattle.exact.proofs.Phases.{row-lt, col-lt}
-use Rattle.places.specs.Places.{entry, read}
+use Rattle.exact.proofs.Phases.{row-lt, col-lt, flat-lt, at-flat}
+use Rattle.places.specs.Places.{entry, read, held}
 use Rattle.places.proofs.Placed.{area-le, read-at, at-small}
 use Rattle.matrix.specs.Step.{Holds}
 use Rattle.murm.specs.Entries.{byteCount, bytesOf, coefficients}
@@ -78,6 +78,21 @@ places-are n k l x h w =
     ∙ take-bytes (2 ^ n * 2 ^ n) l (omega (arith, area-le n h, w .long))
     ∙ bytes-same (2 ^ n * 2 ^ n) (entry l) (flat n (x .e))
     (λ i q. sym (read-at n l i) ∙ w .equal .entries (i / 2 ^ n) (i % 2 ^ n) (row-lt n i q) (col-lt n i))
+
+-- and an entry of the coefficients is the matrix's entry
+entry-bytes : (m : ℕ) (e : ℕ → Zω) (i : ℕ) → i < m → entry (bytesOf m e) i ≡ e i
+unfolding entry
+entry-bytes zero e i h = absurd (omega arith)
+entry-bytes (suc m) e zero h = each refl refl refl refl
+entry-bytes (suc m) e (suc i) h =
+    sym (entry-later (e 0 .a) (e 0 .b) (e 0 .c) (e 0 .d) (bytesOf m (λ j. e (suc j))) i) ∙ entry-bytes m (λ j. e (suc j)) i (omega arith)
+
+pub coefficients-held : (n : ℕ) (x : Exact) → Equal n (held n (x .k) (coefficients n x)) x
+unfolding coefficients
+coefficients-held n x = record {
+  exponent = refl;
+  entries = λ r c p q. entry-bytes (2 ^ n * 2 ^ n) (flat n (x .e)) (r * 2 ^ n + c) (flat-lt n r c p q) ∙ at-flat n (x .e) r c q;
+}
 
 -- ---- a matrix given by its bytes
 

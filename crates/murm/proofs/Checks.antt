@@ -1,20 +1,20 @@
 -- The tests of codes and coefficients, one by one. Assumes nothing.
 use mathlib.Core.Path.{_≡_, refl, sym, ap, _∙_}
 use mathlib.Core.Bool.{Bool, true, false, not, _&&_, _||_}
-use mathlib.Core.List.{List, [], _∷_}
+use mathlib.Core.List.{List, [], _∷_, _++_}
 use Prim.Native.Nat.{ℕ, suc, _+_, _-_, _≤_, _<_}
 use native.Mathlib.Numerals.{add-one}
 use native.Mathlib.Omega.{arith}
 use lib.IntN.{ℤ, pos, negsuc, natAbs, negℤ}
 use lib.Signed.{ltZ}
-use lib.ListN.{length, getD, drop, drop-of-length-le}
-use lib.Seq.{drop-cons}
+use lib.ListN.{length, getD, take, drop, drop-of-length-le}
+use lib.Seq.{drop-cons, take-suc, take-all}
 use mir.Val.{SFits}
 use borrow.Author.Count.{below-more}
-use borrow.Author.Tests.{eq-eqb, ne-eqb, ltb-true, ltb-false}
+use borrow.Author.Tests.{eq-eqb, ne-eqb, ltb-true, ltb-false, not-true}
 use lib.Dec.{eqb, ltb}
 use Rattle.ints.specs.Lists.{pick, all}
-use Rattle.ints.proofs.Bools.{clash}
+use Rattle.ints.proofs.Bools.{clash, and-left, and-right}
 use Rattle.ints.proofs.Machine.{range}
 use Rattle.cyclotomic.specs.Zomega.{limit, near, eqZ}
 use Rattle.circuit.specs.Codes.{valid}
@@ -56,6 +56,27 @@ unfolding all
 all-valid n [] h = refl
 all-valid n (g ∷ l) h = one-valid (valid n g) (all (valid n) l) (firstInvalid n l) (length l) (all-valid n l) h
 
+pub valid-first : (n : ℕ) (l : List ℕ) → all (valid n) l ≡ true → length l ≤ firstInvalid n l
+unfolding all
+valid-first n [] h = omega arith
+valid-first n (g ∷ l) h =
+    let rest = valid-first n l (and-right (valid n g) (all (valid n) l) h) in
+    rw (and-left (valid n g) (all (valid n) l) h) (omega arith)
+
+-- ---- tests by "or"
+
+or-false : (s : Bool) → (s || false) ≡ s
+or-false true = refl
+or-false false = refl
+
+or-assoc : (s t u : Bool) → (s || (t || u)) ≡ ((s || t) || u)
+or-assoc true t u = refl
+or-assoc false t u = refl
+
+neither : (s t : Bool) → (s || t) ≡ false → (s ≡ false) × (t ≡ false)
+neither true t h = clash refl h
+neither false t h = (refl, h)
+
 -- ---- coefficients: a byte is -128 or within the limit
 
 pub past-is : (z : ℤ) → SFits near z → ltZ z (negℤ (pos limit)) ≡ eqZ z (negsuc limit)
@@ -72,37 +93,33 @@ pub not-past : (z : ℤ) → SFits near z → ltZ z (negℤ (pos limit)) ≡ fal
 not-past (pos n) f h = omega (arith, f .sfits)
 not-past (negsuc n) f h = omega (arith, ltb-false (limit - 1) n h)
 
--- the first i coefficients are not -128
-pub record RangeTo (l : List ℤ) (i : ℕ) : Type 0 where
+lowest-last : (l : List ℤ) (x : ℤ) → lowestByte (l ++ (x ∷ [])) ≡ (lowestByte l || eqZ x (negsuc limit))
+unfolding lowestByte
+lowest-last [] x = or-false (eqZ x (negsuc limit))
+lowest-last (y ∷ l) x =
+    ap (λ (b : Bool). eqZ y (negsuc limit) || b) (lowest-last l x) ∙ or-assoc (eqZ y (negsuc limit)) (lowestByte l) (eqZ x (negsuc limit))
+
+-- whether one of the first i coefficients is -128
+pub record RangeTo (l : List ℤ) (i : ℕ) (found : Bool) : Type 0 where
   pub within : i ≤ length l
-  pub rest : lowestByte l ≡ lowestByte (drop i l)
-  pub small : (j : ℕ) → j < i → natAbs (getD l j (pos 0)) ≤ limit
+  pub told : found ≡ lowestByte (take i l)
+  pub small : found ≡ false → (j : ℕ) → j < i → natAbs (getD l j (pos 0)) ≤ limit
 
-pub range-none : (l : List ℤ) → RangeTo l 0
-range-none l = record { within = omega arith; rest = refl; small = λ j h. absurd (omega arith) }
+pub range-none : (l : List ℤ) → RangeTo l 0 false
+unfolding lowestByte
+range-none l = record { within = omega arith; told = refl; small = λ e j h. absurd (omega arith) }
 
-module _ {l : List ℤ} {i : ℕ} (w : RangeTo l i) where
-  module _ (h : i < length l) {r : Bool} (p : PastLimit (getD l i (pos 0)) r) where
-    at-place : lowestByte l ≡ (r || lowestByte (drop (suc i) l))
-    unfolding lowestByte
-    at-place = w .rest ∙ ap lowestByte (drop-cons l i (pos 0) h) ∙ ap (λ (b : Bool). b || lowestByte (drop (suc i) l)) (sym (p .told))
+module _ {l : List ℤ} {i : ℕ} {found : Bool} (w : RangeTo l i found) where
+  pub range-more : (r : Bool) → i < length l → PastLimit (getD l i (pos 0)) r → RangeTo l (i + 1) (found || r)
+  range-more r h p = record {
+    within = omega arith;
+    told = (λ k. w .told k || p .told k) ∙ sym (lowest-last (take i l) (getD l i (pos 0))) ∙ ap lowestByte (sym (take-suc l i (pos 0) h))
+        ∙ ap (λ (k : ℕ). lowestByte (take k l)) (sym (add-one i));
+    small = λ e. below-more _ _ (w .small (neither found r e .0)) (p .small (neither found r e .1));
+  }
 
-    pub range-more : r ≡ false → RangeTo l (i + 1)
-    range-more e = record {
-      within = omega arith;
-      rest = at-place ∙ ap (λ (b : Bool). b || lowestByte (drop (suc i) l)) e ∙ rw (add-one i) refl;
-      small = below-more _ _ (w .small) (p .small e);
-    }
-
-    pub range-past : r ≡ true → InRange l false
-    range-past e = record {
-      told = sym (ap not (at-place ∙ ap (λ (b : Bool). b || lowestByte (drop (suc i) l)) e));
-      small = λ q. absurd (clash refl (sym q));
-    }
-
-  pub range-end : length l ≤ i → InRange l true
-  unfolding lowestByte
+  pub range-end : length l ≤ i → InRange l (not found)
   range-end h = record {
-    told = sym (ap not (w .rest ∙ ap lowestByte (drop-of-length-le l {i = i} h)));
-    small = λ q j k. w .small j (omega arith);
+    told = ap not (w .told ∙ ap lowestByte (take-all i l h));
+    small = λ e j k. w .small (not-true found e) j (omega arith);
   }

@@ -59,7 +59,7 @@ pub record Outcome : Type 0 where
 abbrev pub outcome : Answer → List ℤ → Outcome
 outcome a l = record { answer = a; bytes = l }
 
-abbrev formed : ℕ → List ℕ → List ℤ → Steps → Outcome
+abbrev pub formed : ℕ → List ℕ → List ℤ → Steps → Outcome
 formed n codes bytes allFit = outcome (given (product n codes .k)) (coefficients n (product n codes))
 formed n codes bytes (unfitAt i) = outcome (refused 8 i) bytes
 

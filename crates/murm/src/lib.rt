@@ -93,18 +93,17 @@ fn past_limit(x: Coefficient) -> bool
     (x as Wide) < -LIMIT
 }
 
-// Whether no coefficient is below the limit's negative.
+// Whether no coefficient is -128. There is no early return: this loop is many times faster without one.
 fn in_range(entries: &[Coefficient]) -> bool
     ensures { λ r. ⌜ InRange (now (entries .entry)) r ⌝ }
 {
+    let mut found = false;
     let mut i = 0;
     while i < entries.len() {
-        if past_limit(entries[i]) {
-            return false;
-        }
+        found = found | past_limit(entries[i]);
         i += 1;
     }
-    true
+    !found
 }
 
 // Whether k > 0 and all entries are divisible.

@@ -1,0 +1,147 @@
+use Rattle.circuits_text.proofs.Placing.{decimal-small, decimal-length, put-digit, put-last}
+use native.Mathlib.Omega.{arith}
+use mathlib.Core.Path.{_≡_, refl, sym, ap, _∙_}
+use mathlib.Core.List.{List, [], _∷_, _++_}
+use lib.ListN.{length, getD, set, take, drop}
+use borrow.Author.Needs.{needs}
+use Prim.Native.Nat.{ℕ, _<_}
+use borrow.Fn.Kinds.{In}
+use borrow.Fn.PlainCycle.{Measures, is, falls, and}
+use Rattle.circuits_text.proofs.put_digits.Reads as put-digits
+use Rattle.circuits_text.proofs.put_digits.Kinds as put-digits-kinds
+use Rattle.circuits_text.proofs.+put_digits.Lts-put_digits as put-digits-lts
+use Rattle.circuits_text.proofs.glyph.Reads as glyph-reads
+use Rattle.circuits_text.proofs.put_byte.Reads as put-byte-reads
+use Rattle.circuits_text.proofs.+put_digits.{statement}
+use Rattle.circuits_text.proofs.+put_digits.Tie.{close}
+
+abbrev μ-put-digits : Measures 1 put-digits-kinds.ps ℕ
+μ-put-digits κs a = a .1 .1 .0
+
+abbrev put-digits-at : ℕ → In 1 put-digits-kinds.ps
+put-digits-at t =
+    and 1 put-digits-kinds.ps (is 1 put-digits-kinds.ps μ-put-digits t) put-digits.Pre
+
+abbrev put-digits-below : ℕ → In 1 put-digits-kinds.ps
+put-digits-below t =
+    and 1 put-digits-kinds.ps (falls 1 put-digits-kinds.ps _<_ μ-put-digits t) put-digits.Pre
+
+-- src/lib.rt:125:34
+put-digits-glyph-requires : (t : ℕ) → put-digits-lts.Need-glyph-requires (
+  glyph-reads.Asked,
+  glyph-reads.Learnt,
+  put-byte-reads.Asked,
+  put-byte-reads.Learnt,
+  put-digits-below t,
+  put-digits.Post,
+) (put-digits-at t) put-digits.Post
+put-digits-glyph-requires t c κs = search needs
+
+-- src/lib.rt:125:9
+put-digits-put-byte-requires : (t : ℕ) → put-digits-lts.Need-put-byte-requires (
+  glyph-reads.Asked,
+  glyph-reads.Learnt,
+  put-byte-reads.Asked,
+  put-byte-reads.Learnt,
+  put-digits-below t,
+  put-digits.Post,
+) (put-digits-at t) put-digits.Post
+put-digits-put-byte-requires t c κs = omega (arith, ap length (decimal-small (c .before .before .before .before .args .n) (c .before .before .if1 .taken)), c .before .before .before .before .pre .1)
+
+-- src/lib.rt:125:9
+put-digits-same-length : (t : ℕ) → put-digits-lts.Need-same-length (
+  glyph-reads.Asked,
+  glyph-reads.Learnt,
+  put-byte-reads.Asked,
+  put-byte-reads.Learnt,
+  put-digits-below t,
+  put-digits.Post,
+) (put-digits-at t) put-digits.Post
+put-digits-same-length t c = search needs
+
+-- src/lib.rt:125:9
+put-digits-returns : (t : ℕ) → put-digits-lts.Need-returns (
+  glyph-reads.Asked,
+  glyph-reads.Learnt,
+  put-byte-reads.Asked,
+  put-byte-reads.Learnt,
+  put-digits-below t,
+  put-digits.Post,
+) (put-digits-at t) put-digits.Post
+put-digits-returns t c = put-digit (c .before .before .before .before .before .if1 .taken) (c .before .before .before .glyph .ensures) (c .before .before .put-byte .ensures)
+
+-- src/lib.rt:127:9
+put-digits-put-digits-requires : (t : ℕ) → put-digits-lts.Need-put-digits-requires (
+  glyph-reads.Asked,
+  glyph-reads.Learnt,
+  put-byte-reads.Asked,
+  put-byte-reads.Learnt,
+  put-digits-below t,
+  put-digits.Post,
+) (put-digits-at t) put-digits.Post
+put-digits-put-digits-requires t c κs = (omega (arith, c .before .before .before .pre .0, c .before .if1 .left), omega (arith, decimal-length (c .before .before .before .args .n) (c .before .if1 .left), c .before .before .before .pre .1))
+
+-- src/lib.rt:128:25
+put-digits-glyph-requires-2 : (t : ℕ) → put-digits-lts.Need-glyph-requires-2 (
+  glyph-reads.Asked,
+  glyph-reads.Learnt,
+  put-byte-reads.Asked,
+  put-byte-reads.Learnt,
+  put-digits-below t,
+  put-digits.Post,
+) (put-digits-at t) put-digits.Post
+put-digits-glyph-requires-2 t c κs = search needs
+
+-- src/lib.rt:128:5
+put-digits-put-byte-requires-2 : (t : ℕ) → put-digits-lts.Need-put-byte-requires-2 (
+  glyph-reads.Asked,
+  glyph-reads.Learnt,
+  put-byte-reads.Asked,
+  put-byte-reads.Learnt,
+  put-digits-below t,
+  put-digits.Post,
+) (put-digits-at t) put-digits.Post
+put-digits-put-byte-requires-2 t c κs = omega (arith, decimal-length (c .before .before .before .before .before .before .before .before .args .n) (c .before .before .before .before .before .before .if1 .left), c .before .before .before .before .before .before .before .before .pre .1, c .before .before .before .before .put-digits .ensures .after, c .before .before .before .before .put-digits .kept .0)
+
+-- src/lib.rt:120:1
+put-digits-same-length-2 : (t : ℕ) → put-digits-lts.Need-same-length-2 (
+  glyph-reads.Asked,
+  glyph-reads.Learnt,
+  put-byte-reads.Asked,
+  put-byte-reads.Learnt,
+  put-digits-below t,
+  put-digits.Post,
+) (put-digits-at t) put-digits.Post
+put-digits-same-length-2 t c = search needs
+
+-- src/lib.rt:120:1
+put-digits-returns-2 : (t : ℕ) → put-digits-lts.Need-returns-2 (
+  glyph-reads.Asked,
+  glyph-reads.Learnt,
+  put-byte-reads.Asked,
+  put-byte-reads.Learnt,
+  put-digits-below t,
+  put-digits.Post,
+) (put-digits-at t) put-digits.Post
+put-digits-returns-2 t c = put-last (c .before .before .before .before .before .before .before .before .before .if1 .left) (c .before .before .before .glyph2 .ensures) (c .before .before .before .before .before .before .before .put-digits .ensures) (c .before .before .put-byte2 .ensures)
+
+pub +put-digits-spec : {M : Type 1} → statement M
++put-digits-spec = close μ-put-digits λ t. put-digits-lts.spec (
+  glyph-reads.Asked,
+  glyph-reads.Learnt,
+  put-byte-reads.Asked,
+  put-byte-reads.Learnt,
+  put-digits-below t,
+  put-digits.Post,
+)
+    (put-digits-at t)
+    put-digits.Post
+    (put-digits-glyph-requires t)
+    (put-digits-put-byte-requires t)
+    (put-digits-same-length t)
+    (put-digits-returns t)
+    (put-digits-put-digits-requires t)
+    (put-digits-glyph-requires-2 t)
+    (put-digits-put-byte-requires-2 t)
+    (put-digits-same-length-2 t)
+    (put-digits-returns-2 t)

@@ -11,7 +11,7 @@ use borrow.Author.Tests.{lt-ltb, le-ltb, ltb-true, ltb-false}
 use lib.Dec.{ltb}
 use lib.IntN.{ℤ, pos, negsuc, natAbs}
 use lib.ListN.{length, getD, set, take, drop, length-append, length-drop, length-set, take-append-drop}
-use lib.Seq.{length-take-le, take-suc, set-at, set-split, take-at, drop-append-add, drop-drop}
+use lib.Seq.{length-take-le, take-all, take-suc, set-at, set-split, take-at, drop-append-add, drop-drop}
 use lib.Signed.{ltZ}
 use mir.Syntax.{w32}
 use mir.Val.{SFits}
@@ -67,6 +67,30 @@ then-put {at} {p} {q} {l} {m} {xs} {ys} {zs} a b =
       after = omega (arith, a .after, b .after, length-append l m);
       room = omega (arith, b .room, n);
     }
+
+-- what a loop over bytes keeps: i of them are put
+pub record Putting (bytes : List ℕ) (at : ℕ) (old xs : List ℕ) (i : ℕ) : Type 0 where
+  pub within : i ≤ length bytes
+  pub so-far : Put at (take i bytes) (at + i) old xs
+  pub size : length xs ≡ length old
+
+pub putting-none : (bytes : List ℕ) (at : ℕ) (old : List ℕ) → at ≤ length old → Putting bytes at old old 0
+putting-none bytes at old h =
+    record { within = omega arith; so-far = record { is = sym (put-none at old); after = refl; room = omega arith }; size = refl }
+
+module _ {bytes old xs : List ℕ} {at i : ℕ} (p : Putting bytes at old xs i) where
+  pub putting-on : i < length bytes → at + i < length xs → Putting bytes at old (set xs (at + i) (getD bytes i 0)) (i + 1)
+  putting-on h l =
+      let e : take i bytes ++ (getD bytes i 0 ∷ []) ≡ take (i + 1) bytes = rw (add-one, take-suc bytes i 0) in
+      let a : at + i + 1 ≡ at + (i + 1) = omega arith in
+      record {
+        within = omega arith;
+        so-far = rw (e, a) at (then-put (p .so-far) (put-one (at + i) (getD bytes i 0) xs l));
+        size = length-set xs (at + i) (getD bytes i 0) ∙ p .size
+      }
+
+  pub putting-done : length bytes ≤ i → Put at bytes (at + i) old xs
+  putting-done h = rw (take-all i bytes h) at (p .so-far)
 
 -- ---- decimal digits
 pick-else : {A : Type 0} (b : Bool) (x y z : A) → (b ≡ false → y ≡ z) → pick b x y ≡ pick b x z

@@ -6,17 +6,17 @@ use Prim.Native.Nat.{ℕ, zero, suc, _+_, _-_, _*_, _^_, _≤_, _<_}
 use native.Mathlib.Nat.{pow-suc, pow-le-pow-right}
 use native.Mathlib.Numerals.{add-one}
 use native.Mathlib.Omega.{arith}
-use borrow.Author.Tests.{eq-eqb, ne-eqb, le-leb, lt-leb, eqb-true, eqb-false}
+use borrow.Author.Tests.{eq-eqb, ne-eqb, le-leb, lt-leb, leb-true, eqb-true}
 use lib.Dec.{eqb, leb}
 use lib.ListN.{length, getD, set, take, drop, length-append, length-drop, length-set, drop-of-length-le}
 use lib.Seq.{drop-cons, take-at, take-all, set-at, drop-drop}
 use Rattle.ints.specs.Lists.{pick, all}
-use Rattle.ints.proofs.Bools.{both-true}
+use Rattle.ints.proofs.Bools.{clash, both-true, and-left, and-right}
 use Rattle.circuits_text.specs.declared.Word.{Word}
 use Rattle.circuits_text.specs.declared.Word.the-variants.{Number, Other}
 use Rattle.circuits_text.specs.declared.Line.{Line}
 use Rattle.circuits_text.specs.declared.Line.the-variants.{Numbers, Broken}
-use Rattle.circuits_text.specs.Reading.{space, before, longer, words, isDigit, valueFrom, value, isNumber, wordOf, allNumbers, numbers, lineOf, over, ReadInto}
+use Rattle.circuits_text.specs.Reading.{space, before, sameBytes, longer, words, isDigit, valueFrom, value, isNumber, wordOf, allNumbers, numbers, lineOf, over, ReadInto}
 
 -- ---- a byte that is looked for
 -- what a search from at on keeps
@@ -43,6 +43,60 @@ module _ {c : ℕ} {s : List ℕ} {at p : ℕ} (h : Searching c s at p) where
   search-on l e =
       let z : length (before c (drop p s)) ≡ suc (length (before c (drop (p + 1) s))) = rw (add-one, drop-cons s p 0, ne-eqb _ _ e) in
       record { within = omega arith; past = omega arith; same = omega arith }
+
+-- ---- words compared
+-- lists of bytes that are the same, and no others, are told so
+pub same-yes : (a b : List ℕ) → a ≡ b → sameBytes a b ≡ true
+unfolding sameBytes
+same-yes [] [] e = refl
+same-yes [] (y ∷ b) e = let z : _≡_ {A = ℕ} 0 1 = cc in absurd (omega arith)
+same-yes (x ∷ a) [] e = let z : _≡_ {A = ℕ} 0 1 = cc in absurd (omega arith)
+same-yes (x ∷ a) (y ∷ b) e =
+    let h : x ≡ y = cc in
+    let t : a ≡ b = cc in
+    rw (eq-eqb x y h) (same-yes a b t)
+
+pub same-no : (a b : List ℕ) → sameBytes a b ≡ true → a ≡ b
+unfolding sameBytes
+same-no [] [] e = refl
+same-no [] (y ∷ b) e = clash e refl
+same-no (x ∷ a) [] e = clash e refl
+same-no (x ∷ a) (y ∷ b) e =
+    let h : x ≡ y = eqb-true x y (and-left (eqb x y) (sameBytes a b) e) in
+    let t : a ≡ b = same-no a b (and-right (eqb x y) (sameBytes a b) e) in
+    cc
+
+same-length : (a b : List ℕ) → sameBytes a b ≡ true → length a ≡ length b
+same-length a b e = ap length (same-no a b e)
+
+pub same-lengths : (a b : List ℕ) → (length a ≡ length b → ⊥) → sameBytes a b ≡ false
+same-lengths a b h = by (sameBytes a b) refl
+  where
+    by : (t : Bool) → sameBytes a b ≡ t → t ≡ false
+    by true e = absurd (h (same-length a b e))
+    by false e = refl
+
+-- what the loop over two words of one length keeps
+pub record Comparing (a b : List ℕ) (i : ℕ) : Type 0 where
+  pub lengths : length a ≡ length b
+  pub within : i ≤ length a
+  pub same : sameBytes a b ≡ sameBytes (drop i a) (drop i b)
+
+module _ {a b : List ℕ} {i : ℕ} (h : Comparing a b i) where
+  pub same-done : length a ≤ i → true ≡ sameBytes a b
+  unfolding sameBytes
+  same-done l = sym (h .same ∙ rw (drop-of-length-le a {i = i} l, drop-of-length-le b {i = i} (omega (arith, h .lengths))))
+
+  module _ (l : i < length a) where
+    same-at : sameBytes a b ≡ eqb (getD a i 0) (getD b i 0) && sameBytes (drop (i + 1) a) (drop (i + 1) b)
+    unfolding sameBytes
+    same-at = h .same ∙ rw (add-one, drop-cons a i 0, drop-cons b i 0 (omega (arith, h .lengths)))
+
+    pub same-differs : (getD a i 0 ≡ getD b i 0 → ⊥) → false ≡ sameBytes a b
+    same-differs e = sym (same-at ∙ rw (ne-eqb _ _ e))
+
+    pub same-on : getD a i 0 ≡ getD b i 0 → Comparing a b (i + 1)
+    same-on e = record { lengths = h .lengths; within = omega arith; same = same-at ∙ rw (eq-eqb _ _ e) }
 
 -- ---- a number
 more-digits : (k v d : ℕ) → v < 10 ^ k → d ≤ 9 → v * 10 + d < 10 ^ (k + 1)
@@ -254,6 +308,19 @@ line-other n ws h = rw h
 line-long : (n : ℕ) (ws : List (List ℕ)) → n < length ws → lineOf n ws ≡ Broken
 unfolding lineOf
 line-long n ws l = rw (lt-leb (length ws) n l, and-false)
+
+line-fits-for : (n m k : ℕ) (t : Bool) → pick (t && leb m n) (Numbers m) Broken ≡ Numbers k → k ≤ n
+line-fits-for n m k true h = by (leb m n) refl h
+  where
+    by : (s : Bool) → leb m n ≡ s → pick s (Numbers m) Broken ≡ Numbers k → k ≤ n
+    by true e g = let z : m ≡ k = cc in omega (arith, leb-true m n e)
+    by false e g = let z : _≡_ {A = ℕ} 0 1 = cc in absurd (omega arith)
+line-fits-for n m k false h = let z : _≡_ {A = ℕ} 0 1 = cc in absurd (omega arith)
+
+-- as many numbers as were read had places
+pub line-fits : {bytes old now : List ℕ} {r : Line} {k : ℕ} → ReadInto bytes old now r → r ≡ Numbers k → k ≤ length old
+unfolding lineOf
+line-fits {bytes} {old} {now} {r} {k} h e = line-fits-for (length old) (length (words bytes)) k (allNumbers (words bytes)) (sym (h .is) ∙ e)
 
 module _ {bytes old xs : List ℕ} {p k : ℕ} (r : Reading bytes old xs p k) where
   held : length (numbers (r .passed)) ≡ k

@@ -24,6 +24,13 @@ unfoldable pub before : ℕ → List ℕ → List ℕ
 before c [] = []
 before c (b ∷ bs) = pick (eqb b c) [] (b ∷ before c bs)
 
+-- two lists of bytes are the same
+unfoldable pub sameBytes : List ℕ → List ℕ → Bool
+sameBytes [] [] = true
+sameBytes [] (y ∷ ys) = false
+sameBytes (x ∷ xs) [] = false
+sameBytes (x ∷ xs) (y ∷ ys) = eqb x y && sameBytes xs ys
+
 -- a byte more at the start of the first word
 abbrev pub longer : ℕ → List (List ℕ) → List (List ℕ)
 longer b [] = (b ∷ []) ∷ []

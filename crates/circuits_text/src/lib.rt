@@ -6,7 +6,7 @@ ghost use mathlib.Core.Path.{_≡_};
 ghost use Prim.Native.Nat.{_+_, _<_, _≤_};
 ghost use lib.IntN.{natAbs};
 ghost use lib.ListN.{length, drop};
-ghost use Rattle.circuits_text.specs.Reading.{before, wordOf, ReadInto};
+ghost use Rattle.circuits_text.specs.Reading.{before, sameBytes, wordOf, ReadInto};
 ghost use Rattle.circuits_text.specs.Writing.{decimal, signed, hex, Put};
 ghost use Rattle.circuits_text.specs.Writing.{glyph as glyphOf};
 
@@ -40,6 +40,23 @@ pub fn find(s: &[u8], at: usize, c: u8) -> usize
         p += 1;
     }
     p
+}
+
+// Whether two words are the same.
+pub fn same_bytes(a: &[u8], b: &[u8]) -> bool
+    ensures { λ r. ⌜ r ≡ sameBytes (now (a .entry)) (now (b .entry)) ⌝ }
+{
+    if a.len() != b.len() {
+        return false;
+    }
+    let mut i = 0;
+    while i < a.len() {
+        if a[i] != b[i] {
+            return false;
+        }
+        i += 1;
+    }
+    true
 }
 
 // The number that a word writes.
@@ -104,6 +121,19 @@ pub fn put_byte(out: &mut [u8], at: usize, b: u8) -> usize
 {
     out[at] = b;
     at + 1
+}
+
+// Puts bytes from a place on, and answers the place after them.
+pub fn put_bytes(out: &mut [u8], at: usize, bytes: &[u8]) -> usize
+    requires { ⌜ at + length (now bytes) ≤ length (now out) ⌝ }
+    ensures { λ r. ⌜ Put at (now (bytes .entry)) r (now (out .entry)) (now (out .exit)) ⌝ }
+{
+    let mut i = 0;
+    while i < bytes.len() {
+        out[at + i] = bytes[i];
+        i += 1;
+    }
+    at + i
 }
 
 // The byte of a digit.

@@ -86,7 +86,7 @@ module _ {bytes old xs : List ℕ} {at i : ℕ} (p : Putting bytes at old xs i) 
       record {
         within = omega arith;
         so-far = rw (e, a) at (then-put (p .so-far) (put-one (at + i) (getD bytes i 0) xs l));
-        size = length-set xs (at + i) (getD bytes i 0) ∙ p .size
+        size = length-set xs (at + i) (getD bytes i 0) ∙ p .size;
       }
 
   pub putting-done : length bytes ≤ i → Put at bytes (at + i) old xs

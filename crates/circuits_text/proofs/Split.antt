@@ -16,7 +16,8 @@ use Rattle.circuits_text.specs.declared.Word.{Word}
 use Rattle.circuits_text.specs.declared.Word.the-variants.{Number, Other}
 use Rattle.circuits_text.specs.declared.Line.{Line}
 use Rattle.circuits_text.specs.declared.Line.the-variants.{Numbers, Broken}
-use Rattle.circuits_text.specs.Reading.{space, before, sameBytes, longer, words, isDigit, valueFrom, value, isNumber, wordOf, allNumbers, numbers, lineOf, over, ReadInto}
+use Rattle.circuits_text.specs.Reading.{space, before, sameBytes, longer, words, over, ReadInto}
+use Rattle.circuits_text.specs.Reading.{isDigit, valueFrom, value, isNumber, wordOf, allNumbers, numbers, lineOf}
 
 -- ---- a byte that is looked for
 -- what a search from at on keeps

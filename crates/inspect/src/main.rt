@@ -59,7 +59,13 @@ fn put_coefficients(out: &mut [u8], at: usize, entries: &[Coefficient]) -> usize
 }
 
 // A matrix's line: at most 49190 bytes.
-fn put_matrix(out: &mut [u8], at: usize, exponent: u16, fingerprint: u64, entries: &[Coefficient]) -> usize
+fn put_matrix(
+    out: &mut [u8],
+    at: usize,
+    exponent: u16,
+    fingerprint: u64,
+    entries: &[Coefficient],
+) -> usize
     requires { ⌜ (at + 49190 ≤ length (now out)) × (length (now entries) ≤ 4096) ⌝ }
     ensures { λ r. ⌜ r ≤ at + 49190 ⌝ }
 {
@@ -86,7 +92,13 @@ fn places(width: u32) -> usize
 }
 
 // A matrix with its fingerprint.
-fn fingerprinted(out: &mut [u8], at: usize, width: u32, exponent: u16, entries: &[Coefficient]) -> usize
+fn fingerprinted(
+    out: &mut [u8],
+    at: usize,
+    width: u32,
+    exponent: u16,
+    entries: &[Coefficient],
+) -> usize
     requires { ⌜ (at + 49190 ≤ length (now out)) × (length (now entries) ≤ 4096) ⌝ }
     ensures { λ r. ⌜ r ≤ at + 49190 ⌝ }
 {
@@ -100,7 +112,13 @@ fn fingerprinted(out: &mut [u8], at: usize, width: u32, exponent: u16, entries: 
 }
 
 // The list's matrix in the lent places, and its line.
-fn listed(out: &mut [u8], at: usize, width: u32, codes: &[u32], entries: &mut [Coefficient]) -> usize
+fn listed(
+    out: &mut [u8],
+    at: usize,
+    width: u32,
+    codes: &[u32],
+    entries: &mut [Coefficient],
+) -> usize
     requires { ⌜ (at + 49190 ≤ length (now out)) × (length (now entries) ≤ 4096) ⌝ }
     ensures { λ r. ⌜ r ≤ at + 49190 ⌝ }
 {

@@ -1,12 +1,12 @@
-use Rattle.circuits_text.proofs.Placing.{decimal-small, decimal-length, put-digit, put-last}
-use native.Mathlib.Omega.{arith}
-use mathlib.Core.Path.{_≡_, refl, sym, ap, _∙_}
-use mathlib.Core.List.{List, [], _∷_, _++_}
-use lib.ListN.{length, getD, set, take, drop}
-use borrow.Author.Needs.{needs}
+-- `put_digits` meets its contract: the digits of n / 10, then the last; n falls. Assumes nothing.
+use mathlib.Core.Path.{ap}
 use Prim.Native.Nat.{ℕ, _<_}
+use native.Mathlib.Omega.{arith}
+use borrow.Author.Needs.{needs}
 use borrow.Fn.Kinds.{In}
 use borrow.Fn.PlainCycle.{Measures, is, falls, and}
+use lib.ListN.{length}
+use Rattle.circuits_text.proofs.Placing.{decimal-small, decimal-length, put-digit, put-last}
 use Rattle.circuits_text.proofs.put_digits.Reads as put-digits
 use Rattle.circuits_text.proofs.put_digits.Kinds as put-digits-kinds
 use Rattle.circuits_text.proofs.+put_digits.Lts-put_digits as put-digits-lts
@@ -26,18 +26,6 @@ abbrev put-digits-below : ℕ → In 1 put-digits-kinds.ps
 put-digits-below t =
     and 1 put-digits-kinds.ps (falls 1 put-digits-kinds.ps _<_ μ-put-digits t) put-digits.Pre
 
--- src/lib.rt:125:34
-put-digits-glyph-requires : (t : ℕ) → put-digits-lts.Need-glyph-requires (
-  glyph-reads.Asked,
-  glyph-reads.Learnt,
-  put-byte-reads.Asked,
-  put-byte-reads.Learnt,
-  put-digits-below t,
-  put-digits.Post,
-) (put-digits-at t) put-digits.Post
-put-digits-glyph-requires t c κs = search needs
-
--- src/lib.rt:125:9
 put-digits-put-byte-requires : (t : ℕ) → put-digits-lts.Need-put-byte-requires (
   glyph-reads.Asked,
   glyph-reads.Learnt,
@@ -46,20 +34,10 @@ put-digits-put-byte-requires : (t : ℕ) → put-digits-lts.Need-put-byte-requir
   put-digits-below t,
   put-digits.Post,
 ) (put-digits-at t) put-digits.Post
-put-digits-put-byte-requires t c κs = omega (arith, ap length (decimal-small (c .before .before .before .before .args .n) (c .before .before .if1 .taken)), c .before .before .before .before .pre .1)
+put-digits-put-byte-requires t c κs =
+    let s = c .before .before .before .before in
+    omega (arith, ap length (decimal-small (s .args .n) (c .before .before .if1 .taken)), s .pre .1)
 
--- src/lib.rt:125:9
-put-digits-same-length : (t : ℕ) → put-digits-lts.Need-same-length (
-  glyph-reads.Asked,
-  glyph-reads.Learnt,
-  put-byte-reads.Asked,
-  put-byte-reads.Learnt,
-  put-digits-below t,
-  put-digits.Post,
-) (put-digits-at t) put-digits.Post
-put-digits-same-length t c = search needs
-
--- src/lib.rt:125:9
 put-digits-returns : (t : ℕ) → put-digits-lts.Need-returns (
   glyph-reads.Asked,
   glyph-reads.Learnt,
@@ -68,9 +46,9 @@ put-digits-returns : (t : ℕ) → put-digits-lts.Need-returns (
   put-digits-below t,
   put-digits.Post,
 ) (put-digits-at t) put-digits.Post
-put-digits-returns t c = put-digit (c .before .before .before .before .before .if1 .taken) (c .before .before .before .glyph .ensures) (c .before .before .put-byte .ensures)
+put-digits-returns t c =
+    put-digit (c .before .before .before .before .before .if1 .taken) (c .before .before .before .glyph .ensures) (c .before .before .put-byte .ensures)
 
--- src/lib.rt:127:9
 put-digits-put-digits-requires : (t : ℕ) → put-digits-lts.Need-put-digits-requires (
   glyph-reads.Asked,
   glyph-reads.Learnt,
@@ -79,20 +57,10 @@ put-digits-put-digits-requires : (t : ℕ) → put-digits-lts.Need-put-digits-re
   put-digits-below t,
   put-digits.Post,
 ) (put-digits-at t) put-digits.Post
-put-digits-put-digits-requires t c κs = (omega (arith, c .before .before .before .pre .0, c .before .if1 .left), omega (arith, decimal-length (c .before .before .before .args .n) (c .before .if1 .left), c .before .before .before .pre .1))
+put-digits-put-digits-requires t c κs =
+    let s = c .before .before .before in
+    (omega (arith, s .pre .0, c .before .if1 .left), omega (arith, decimal-length (s .args .n) (c .before .if1 .left), s .pre .1))
 
--- src/lib.rt:128:25
-put-digits-glyph-requires-2 : (t : ℕ) → put-digits-lts.Need-glyph-requires-2 (
-  glyph-reads.Asked,
-  glyph-reads.Learnt,
-  put-byte-reads.Asked,
-  put-byte-reads.Learnt,
-  put-digits-below t,
-  put-digits.Post,
-) (put-digits-at t) put-digits.Post
-put-digits-glyph-requires-2 t c κs = search needs
-
--- src/lib.rt:128:5
 put-digits-put-byte-requires-2 : (t : ℕ) → put-digits-lts.Need-put-byte-requires-2 (
   glyph-reads.Asked,
   glyph-reads.Learnt,
@@ -101,20 +69,11 @@ put-digits-put-byte-requires-2 : (t : ℕ) → put-digits-lts.Need-put-byte-requ
   put-digits-below t,
   put-digits.Post,
 ) (put-digits-at t) put-digits.Post
-put-digits-put-byte-requires-2 t c κs = omega (arith, decimal-length (c .before .before .before .before .before .before .before .before .args .n) (c .before .before .before .before .before .before .if1 .left), c .before .before .before .before .before .before .before .before .pre .1, c .before .before .before .before .put-digits .ensures .after, c .before .before .before .before .put-digits .kept .0)
+put-digits-put-byte-requires-2 t c κs =
+    let s = c .before .before .before .before .before .before .before .before in
+    let d = c .before .before .before .before .put-digits in
+    omega (arith, decimal-length (s .args .n) (c .before .before .before .before .before .before .if1 .left), s .pre .1, d .ensures .after, d .kept .0)
 
--- src/lib.rt:120:1
-put-digits-same-length-2 : (t : ℕ) → put-digits-lts.Need-same-length-2 (
-  glyph-reads.Asked,
-  glyph-reads.Learnt,
-  put-byte-reads.Asked,
-  put-byte-reads.Learnt,
-  put-digits-below t,
-  put-digits.Post,
-) (put-digits-at t) put-digits.Post
-put-digits-same-length-2 t c = search needs
-
--- src/lib.rt:120:1
 put-digits-returns-2 : (t : ℕ) → put-digits-lts.Need-returns-2 (
   glyph-reads.Asked,
   glyph-reads.Learnt,
@@ -123,7 +82,12 @@ put-digits-returns-2 : (t : ℕ) → put-digits-lts.Need-returns-2 (
   put-digits-below t,
   put-digits.Post,
 ) (put-digits-at t) put-digits.Post
-put-digits-returns-2 t c = put-last (c .before .before .before .before .before .before .before .before .before .if1 .left) (c .before .before .before .glyph2 .ensures) (c .before .before .before .before .before .before .before .put-digits .ensures) (c .before .before .put-byte2 .ensures)
+put-digits-returns-2 t c =
+    put-last
+    (c .before .before .before .before .before .before .before .before .before .if1 .left)
+    (c .before .before .before .glyph2 .ensures)
+    (c .before .before .before .before .before .before .before .put-digits .ensures)
+    (c .before .before .put-byte2 .ensures)
 
 pub +put-digits-spec : {M : Type 1} → statement M
 +put-digits-spec = close μ-put-digits λ t. put-digits-lts.spec (
@@ -136,12 +100,12 @@ pub +put-digits-spec : {M : Type 1} → statement M
 )
     (put-digits-at t)
     put-digits.Post
-    (put-digits-glyph-requires t)
+    (λ c κs. search needs)
     (put-digits-put-byte-requires t)
-    (put-digits-same-length t)
+    (λ c. search needs)
     (put-digits-returns t)
     (put-digits-put-digits-requires t)
-    (put-digits-glyph-requires-2 t)
+    (λ c κs. search needs)
     (put-digits-put-byte-requires-2 t)
-    (put-digits-same-length-2 t)
+    (λ c. search needs)
     (put-digits-returns-2 t)

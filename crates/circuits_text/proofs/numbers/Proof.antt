@@ -1,16 +1,11 @@
-use Rattle.circuits_text.proofs.Split.{Reading, read-none, read-last, read-on, read-other, read-full}
-use Prim.Native.Nat.{ℕ, zero, suc, _≤_, _<_, _-_, _+_, _*_}
-use native.Mathlib.Omega.{arith}
-use mathlib.Core.Path.{_≡_, refl, sym, ap, _∙_}
-use mathlib.Core.List.{List, [], _∷_, _++_}
-use lib.ListN.{length, getD, set, take, drop}
+-- `numbers` meets its contract: the words passed are numbers and stand in the list. Assumes nothing.
+use mathlib.Core.Path.{sym, _∙_}
+use Prim.Native.Nat.{_-_}
 use borrow.Author.Needs.{needs}
+use lib.ListN.{length}
+use Rattle.circuits_text.proofs.Split.{Reading, read-none, read-last, read-on, read-other, read-full}
 use Rattle.circuits_text.proofs.numbers.Statement.{statement}
 use Rattle.circuits_text.proofs.numbers.Tie as tie
-use Rattle.circuits_text.proofs.numbers.Reads as reads
-use Rattle.circuits_text.proofs.numbers.Lts as lts
-use Rattle.circuits_text.proofs.find.Reads as find-reads
-use Rattle.circuits_text.proofs.number.Reads as number-reads
 
 abbrev Inv-loop : tie.InvT-loop
 Inv-loop line list₀ p₀ k₀ list p k = Reading line list₀ list p k
@@ -18,83 +13,31 @@ Inv-loop line list₀ p₀ k₀ list p k = Reading line list₀ list p k
 abbrev μ-loop : tie.MeasureT-loop
 μ-loop line list₀ p₀ k₀ list p k = length list₀ - k
 
--- src/lib.rt:80:5
 loop-holds : tie.Need-loop-holds Inv-loop μ-loop
 loop-holds c = read-none _ _
 
--- src/lib.rt:81:13
-find-requires : tie.Need-find-requires Inv-loop μ-loop
-find-requires c κs = search needs
-
--- src/lib.rt:82:22
-sub-number : tie.Need-sub-number Inv-loop μ-loop
-sub-number c = search needs
-
--- src/lib.rt:82:22
-part-number-start : tie.Need-part-number-start Inv-loop μ-loop
-part-number-start c = search needs
-
--- src/lib.rt:82:22
-part-number-end : tie.Need-part-number-end Inv-loop μ-loop
-part-number-end c = search needs
-
--- src/lib.rt:82:15
-number-requires : tie.Need-number-requires Inv-loop μ-loop
-number-requires c κs = search needs
-
--- src/lib.rt:83:26
-enum-known-v : tie.Need-enum-known-v Inv-loop μ-loop
-enum-known-v c = search needs
-
--- src/lib.rt:84:17
-mul-list : tie.Need-mul-list Inv-loop μ-loop
-mul-list c = search needs
-
--- src/lib.rt:84:17
-slice-write-list : tie.Need-slice-write-list Inv-loop μ-loop
-slice-write-list c = search needs
-
--- src/lib.rt:85:17
-add-k : tie.Need-add-k Inv-loop μ-loop
-add-k c = search needs
-
--- src/lib.rt:87:21
-same-length : tie.Need-same-length Inv-loop μ-loop
-same-length c = search needs
-
--- src/lib.rt:87:21
 returns : tie.Need-returns Inv-loop μ-loop
-returns c = read-last (c .before .before .before .before .before .before .before .before .loop .inv) (c .before .before .before .before .before .before .find .result) (c .before .before .before .before .before .before .find .ensures .0) _ (c .before .before .before .before .before .before .before .loop-test .taken) (sym (c .before .before .before .before .number .ensures) ∙ c .before .before .v .given .1) (c .if1 .taken)
+returns c =
+    let n = c .before .before .before .before in
+    let f = n .before .before .find in
+    let is = sym (n .number .ensures) ∙ c .before .before .v .given .1 in
+    read-last (c .before .before .before .before .before .before .before .before .loop .inv) (f .result) (f .ensures .0) _ (c .before .before .before .before .before .before .before .loop-test .taken) is (c .if1 .taken)
 
--- src/lib.rt:89:21
-add-p : tie.Need-add-p Inv-loop μ-loop
-add-p c = search needs
-
--- src/lib.rt:80:5
-loop-less : tie.Need-loop-less Inv-loop μ-loop
-loop-less c = search needs
-
--- src/lib.rt:80:5
 loop-again : tie.Need-loop-again Inv-loop μ-loop
-loop-again c = read-on (c .before .before .before .before .before .before .before .before .loop .inv) (c .before .before .before .before .before .before .find .result) (c .before .before .before .before .before .before .find .ensures .0) _ (c .before .before .before .before .before .before .before .loop-test .taken) (sym (c .before .before .before .before .number .ensures) ∙ c .before .before .v .given .1) (c .if1 .left)
+loop-again c =
+    let n = c .before .before .before .before in
+    let f = n .before .before .find in
+    let is = sym (n .number .ensures) ∙ c .before .before .v .given .1 in
+    read-on (c .before .before .before .before .before .before .before .before .loop .inv) (f .result) (f .ensures .0) _ (c .before .before .before .before .before .before .before .loop-test .taken) is (c .if1 .left)
 
--- src/lib.rt:92:17
 enum-told : tie.Need-enum-told Inv-loop μ-loop
 enum-told c = search needs
 
--- src/lib.rt:92:17
-same-length-2 : tie.Need-same-length-2 Inv-loop μ-loop
-same-length-2 c = search needs
-
--- src/lib.rt:92:17
 returns-2 : tie.Need-returns-2 Inv-loop μ-loop
-returns-2 c = read-other (c .before .before .before .before .before .before .loop .inv) (c .before .before .before .before .find .result) (c .before .before .before .before .find .ensures .0) (sym (c .before .before .number .ensures) ∙ c .enum-told .given .1)
+returns-2 c =
+    let f = c .before .before .before .before .find in
+    read-other (c .before .before .before .before .before .before .loop .inv) (f .result) (f .ensures .0) (sym (c .before .before .number .ensures) ∙ c .enum-told .given .1)
 
--- src/lib.rt:75:1
-same-length-3 : tie.Need-same-length-3 Inv-loop μ-loop
-same-length-3 c = search needs
-
--- src/lib.rt:75:1
 returns-3 : tie.Need-returns-3 Inv-loop μ-loop
 returns-3 c = read-full (c .before .loop .inv) (c .loop-test .left)
 
@@ -105,22 +48,22 @@ numbers-spec =
     Inv-loop
     μ-loop
     loop-holds
-    find-requires
-    sub-number
-    part-number-start
-    part-number-end
-    number-requires
-    enum-known-v
-    mul-list
-    slice-write-list
-    add-k
-    same-length
+    (λ c κs. search needs)
+    (λ c. search needs)
+    (λ c. search needs)
+    (λ c. search needs)
+    (λ c κs. search needs)
+    (λ c. search needs)
+    (λ c. search needs)
+    (λ c. search needs)
+    (λ c. search needs)
+    (λ c. search needs)
     returns
-    add-p
-    loop-less
+    (λ c. search needs)
+    (λ c. search needs)
     loop-again
     enum-told
-    same-length-2
+    (λ c. search needs)
     returns-2
-    same-length-3
+    (λ c. search needs)
     returns-3)

@@ -2,7 +2,7 @@
 use mathlib.Core.Bool.{Bool, true, false}
 use mathlib.Core.List.{List, [], _∷_, _++_, append-assoc, append-nil}
 use mathlib.Core.Logic.{_⊎_, inl, inr, ⊎-elim}
-use mathlib.Core.Path.{_≡_, refl, sym, ap, _∙_}
+use mathlib.Core.Path.{_≡_, refl, sym, ap, _∙_, subst}
 use Prim.Native.Nat.{ℕ, zero, suc, _+_, _-_, _/_, _%_, _^_, _≤_, _<_}
 use native.Mathlib.Nat.{add-zero, pow-suc}
 use native.Mathlib.Numerals.{add-one}
@@ -67,6 +67,10 @@ then-put {at} {p} {q} {l} {m} {xs} {ys} {zs} a b =
       after = omega (arith, a .after, b .after, length-append l m);
       room = omega (arith, b .room, n);
     }
+
+-- the same bytes under another name
+pub put-as : {at p : ℕ} {l m xs ys : List ℕ} → l ≡ m → Put at l p xs ys → Put at m p xs ys
+put-as {at} {p} {l} {m} {xs} {ys} e d = subst (λ (u : List ℕ). Put at u p xs ys) e d
 
 -- what a loop over bytes keeps: i of them are put
 pub record Putting (bytes : List ℕ) (at : ℕ) (old xs : List ℕ) (i : ℕ) : Type 0 where

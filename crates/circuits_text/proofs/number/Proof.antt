@@ -15,10 +15,10 @@ abbrev μ-loop : tie.MeasureT-loop
 μ-loop word v₀ i₀ v i = length word - i
 
 returns : tie.Need-returns Inv-loop μ-loop
-returns c = sym (word-short _ (c .if1 .taken))
+returns c = sym (word-short _ (omega arith))
 
 returns-2 : tie.Need-returns-2 Inv-loop μ-loop
-returns-2 c = sym (word-long _ (c .before .if1 .left) (c .if2 .taken))
+returns-2 c = sym (word-long _ (omega arith) (omega arith))
 
 loop-holds : tie.Need-loop-holds Inv-loop μ-loop
 loop-holds c = record { some = search needs; few = search needs; within = search needs; small = search needs; same = refl; digits = refl }
@@ -26,12 +26,12 @@ loop-holds c = record { some = search needs; few = search needs; within = search
 returns-3 : tie.Need-returns-3 Inv-loop μ-loop
 returns-3 c =
     let l = c .before .before .before .loop in
-    sym (word-other (l .inv) (digit-low _ (l .v) (l .i) (c .before .before .loop-test .taken) (c .if3 .taken)))
+    sym (word-other (l .inv) (digit-low _ (l .v) (l .i) (c .before .before .loop-test .taken) (omega arith)))
 
 returns-4 : tie.Need-returns-4 Inv-loop μ-loop
 returns-4 c =
     let l = c .before .before .before .before .loop in
-    sym (word-other (l .inv) (digit-high _ (l .v) (l .i) (c .before .before .before .loop-test .taken) (c .before .if3 .left) (c .if4 .taken)))
+    sym (word-other (l .inv) (digit-high _ (l .v) (l .i) (c .before .before .before .loop-test .taken) (omega arith) (omega arith)))
 
 mul-v : tie.Need-mul-v Inv-loop μ-loop
 mul-v c = omega (arith, power (c .before .before .before .before .loop .i) 9 (omega arith), c .before .before .before .before .loop .inv .small)
@@ -41,13 +41,13 @@ add-v c = omega (arith, power (c .before .before .before .before .loop .i) 9 (om
 
 loop-again : tie.Need-loop-again Inv-loop μ-loop
 loop-again c =
-    number-on (c .before .before .before .before .loop .inv) (c .before .before .before .loop-test .taken) (c .before .if3 .left) (c .if4 .left)
+    number-on (c .before .before .before .before .loop .inv) (c .before .before .before .loop-test .taken) (omega arith) (omega arith)
 
 returns-5 : tie.Need-returns-5 Inv-loop μ-loop
-returns-5 c = sym (word-large (c .before .before .loop .inv) (c .before .loop-test .left) (c .if5 .taken))
+returns-5 c = sym (word-large (c .before .before .loop .inv) (c .before .loop-test .left) (omega arith))
 
 returns-6 : tie.Need-returns-6 Inv-loop μ-loop
-returns-6 c = sym (word-number (c .before .before .loop .inv) (c .before .loop-test .left) (c .if5 .left))
+returns-6 c = sym (word-number (c .before .before .loop .inv) (c .before .loop-test .left) (omega arith))
 
 pub number-spec : {M : Type 1} → statement M
 number-spec =

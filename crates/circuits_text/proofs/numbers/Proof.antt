@@ -1,6 +1,7 @@
 -- `numbers` meets its contract: the words passed are numbers and stand in the list. Assumes nothing.
 use mathlib.Core.Path.{sym, _∙_}
 use Prim.Native.Nat.{_-_}
+use native.Mathlib.Omega.{arith}
 use borrow.Author.Needs.{needs}
 use lib.ListN.{length}
 use Rattle.circuits_text.proofs.Split.{Reading, read-none, read-last, read-on, read-other, read-full}
@@ -19,24 +20,22 @@ loop-holds c = read-none _ _
 returns : tie.Need-returns Inv-loop μ-loop
 returns c =
     let n = c .before .before .before .before in
-    let f = n .before .before .find in
+    let f = n .before .before in
     let is = sym (n .number .ensures) ∙ c .before .before .v .given .1 in
-    read-last (c .before .before .before .before .before .before .before .before .loop .inv) (f .result) (f .ensures .0) _ (c .before .before .before .before .before .before .before .loop-test .taken) is (c .if1 .taken)
+    read-last (f .before .before .loop .inv) (f .find .result) (f .find .ensures .0) _ (f .before .loop-test .taken) is (omega arith)
 
 loop-again : tie.Need-loop-again Inv-loop μ-loop
 loop-again c =
     let n = c .before .before .before .before in
-    let f = n .before .before .find in
+    let f = n .before .before in
     let is = sym (n .number .ensures) ∙ c .before .before .v .given .1 in
-    read-on (c .before .before .before .before .before .before .before .before .loop .inv) (f .result) (f .ensures .0) _ (c .before .before .before .before .before .before .before .loop-test .taken) is (c .if1 .left)
-
-enum-told : tie.Need-enum-told Inv-loop μ-loop
-enum-told c = search needs
+    read-on (f .before .before .loop .inv) (f .find .result) (f .find .ensures .0) _ (f .before .loop-test .taken) is (omega arith)
 
 returns-2 : tie.Need-returns-2 Inv-loop μ-loop
 returns-2 c =
-    let f = c .before .before .before .before .find in
-    read-other (c .before .before .before .before .before .before .loop .inv) (f .result) (f .ensures .0) (sym (c .before .before .number .ensures) ∙ c .enum-told .given .1)
+    let f = c .before .before .before .before in
+    let is = sym (c .before .before .number .ensures) ∙ c .enum-told .given .1 in
+    read-other (f .before .before .loop .inv) (f .find .result) (f .find .ensures .0) is
 
 returns-3 : tie.Need-returns-3 Inv-loop μ-loop
 returns-3 c = read-full (c .before .loop .inv) (c .loop-test .left)
@@ -62,7 +61,7 @@ numbers-spec =
     (λ c. search needs)
     (λ c. search needs)
     loop-again
-    enum-told
+    (λ c. search needs)
     (λ c. search needs)
     returns-2
     (λ c. search needs)

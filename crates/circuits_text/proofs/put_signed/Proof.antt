@@ -8,7 +8,7 @@ use lib.IntN.{natAbs}
 use lib.ListN.{length}
 use mir.Facts.{toZ-ofZ}
 use Rattle.circuits_text.specs.Writing.{decimal, signed}
-use Rattle.circuits_text.proofs.Placing.{signed-below, signed-else, size-short, then-put}
+use Rattle.circuits_text.proofs.Placing.{signed-below, signed-else, size-short, then-put, put-as}
 use Rattle.circuits_text.proofs.put_signed.Statement.{statement}
 use Rattle.circuits_text.proofs.put_signed.Tie as tie
 
@@ -49,7 +49,7 @@ returns : tie.Need-returns
 returns c =
     let p = c .before .before .before .before .before .before .before .put-byte .ensures in
     let d = c .before .before .put-digits .ensures in
-    (rw (is-signed (c .before .before .before)) at (then-put p d), omega (arith, short (c .before .before .before), p .after, d .after))
+    (put-as (is-signed (c .before .before .before)) (then-put p d), omega (arith, short (c .before .before .before), p .after, d .after))
 
 put-digits-requires-2 : tie.Need-put-digits-requires-2
 put-digits-requires-2 c κs = omega (arith, short-else c, c .before .before .before .before .pre)
@@ -57,7 +57,7 @@ put-digits-requires-2 c κs = omega (arith, short-else c, c .before .before .bef
 returns-2 : tie.Need-returns-2
 returns-2 c =
     let d = c .before .before .put-digits2 .ensures in
-    (rw (is-signed-else (c .before .before .before)) at d, omega (arith, short-else (c .before .before .before), d .after))
+    (put-as (is-signed-else (c .before .before .before)) d, omega (arith, short-else (c .before .before .before), d .after))
 
 pub put-signed-spec : {M : Type 1} → statement M
 put-signed-spec =

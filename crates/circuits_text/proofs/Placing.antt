@@ -138,7 +138,9 @@ decimal-short (suc k) n h =
 pub put-digit : {at n b p : ℕ} {xs ys : List ℕ} → n < 10 → b ≡ glyph n → Put at (b ∷ []) p xs ys → Put at (decimal n) p xs ys
 put-digit {at} {n} {b} h e d = rw (decimal-small n h, ← e) d
 
-pub put-last : {at n b p q : ℕ} {xs ys zs : List ℕ} → 10 ≤ n → b ≡ glyph (n % 10) → Put at (decimal (n / 10)) p xs ys → Put p (b ∷ []) q ys zs → Put at (decimal n) q xs zs
+pub put-last :
+    {at n b p q : ℕ} {xs ys zs : List ℕ} →
+    10 ≤ n → b ≡ glyph (n % 10) → Put at (decimal (n / 10)) p xs ys → Put p (b ∷ []) q ys zs → Put at (decimal n) q xs zs
 put-last {at} {n} {b} h e d l = rw (decimal-more n h, ← e) (then-put d l)
 
 -- ---- signed numbers

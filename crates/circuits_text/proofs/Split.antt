@@ -2,7 +2,7 @@
 use mathlib.Core.Bool.{Bool, true, false, _&&_, and-false}
 use mathlib.Core.List.{List, [], _∷_, _++_, append-assoc, append-nil}
 use mathlib.Core.Path.{_≡_, refl, sym, ap, _∙_}
-use Prim.Native.Nat.{ℕ, zero, suc, _+_, _-_, _*_, _^_, _≤_, _<_}
+use Prim.Native.Nat.{ℕ, suc, _+_, _-_, _*_, _^_, _≤_, _<_}
 use native.Mathlib.Nat.{pow-suc, pow-le-pow-right}
 use native.Mathlib.Numerals.{add-one}
 use native.Mathlib.Omega.{arith}
@@ -12,7 +12,6 @@ use lib.ListN.{length, getD, set, take, drop, length-append, length-drop, length
 use lib.Seq.{drop-cons, take-at, take-all, set-at, drop-drop}
 use Rattle.ints.specs.Lists.{pick, all}
 use Rattle.ints.proofs.Bools.{clash, both-true, and-left, and-right}
-use Rattle.circuits_text.specs.declared.Word.{Word}
 use Rattle.circuits_text.specs.declared.Word.the-variants.{Number, Other}
 use Rattle.circuits_text.specs.declared.Line.{Line}
 use Rattle.circuits_text.specs.declared.Line.the-variants.{Numbers, Broken}
@@ -179,7 +178,9 @@ unfolding before
 before-take c [] = refl
 before-take c (b ∷ bs) = by (eqb b c) (before-take c bs)
   where
-    by : (t : Bool) → take (length (before c bs)) bs ≡ before c bs → take (length (pick t [] (b ∷ before c bs))) (b ∷ bs) ≡ pick t [] (b ∷ before c bs)
+    by :
+        (t : Bool) → take (length (before c bs)) bs ≡ before c bs →
+        take (length (pick t [] (b ∷ before c bs))) (b ∷ bs) ≡ pick t [] (b ∷ before c bs)
     by true rest = refl
     by false rest = ap (λ (l : List ℕ). b ∷ l) rest
 
@@ -189,7 +190,8 @@ words-last [] h = refl
 words-last (b ∷ bs) h = by (eqb b space) (λ g. words-last bs g) h
   where
     by :
-        (t : Bool) → (length bs ≤ length (before space bs) → words bs ≡ before space bs ∷ []) → length (b ∷ bs) ≤ length (pick t [] (b ∷ before space bs)) →
+        (t : Bool) → (length bs ≤ length (before space bs) → words bs ≡ before space bs ∷ []) →
+        length (b ∷ bs) ≤ length (pick t [] (b ∷ before space bs)) →
         pick t ([] ∷ words bs) (longer b (words bs)) ≡ pick t [] (b ∷ before space bs) ∷ []
     by true rest g = absurd (omega arith)
     by false rest g = ap (longer b) (rest (omega arith))
@@ -331,7 +333,8 @@ module _ {bytes old xs : List ℕ} {p k : ℕ} (r : Reading bytes old xs p k) wh
   pub read-full : length xs ≤ k → ReadInto bytes old xs Broken
   read-full h =
       let s = words-some (drop p bytes) in
-      let n : length (words bytes) ≡ length (r .passed) + length (words (drop p bytes)) = ap length (r .splits) ∙ length-append (r .passed) (words (drop p bytes)) in
+      let n : length (words bytes) ≡ length (r .passed) + length (words (drop p bytes)) =
+      ap length (r .splits) ∙ length-append (r .passed) (words (drop p bytes)) in
       let l : length old < length (words bytes) = omega (arith, r .count, r .size) in
       let e : length (numbers (r .passed)) ≡ length old = omega (arith, held, r .room, r .size) in
       record {
@@ -340,7 +343,8 @@ module _ {bytes old xs : List ℕ} {p k : ℕ} (r : Reading bytes old xs p k) wh
             r .holds
             ∙ ap (λ (m : List ℕ). over m old)
             (sym (ap (λ (ws : List (List ℕ)). take (length old) (numbers ws)) (r .splits)
-            ∙ (ap (take (length old)) (numbers-append (r .passed) (words (drop p bytes)) (r .good)) ∙ take-at (numbers (r .passed)) (numbers (words (drop p bytes))) (length old) e)));
+            ∙ (ap (take (length old)) (numbers-append (r .passed) (words (drop p bytes)) (r .good))
+            ∙ take-at (numbers (r .passed)) (numbers (words (drop p bytes))) (length old) e)));
       }
 
   module _ (e : ℕ) (ends : e ≡ p + length (before space (drop p bytes))) where
@@ -365,7 +369,9 @@ module _ {bytes old xs : List ℕ} {p k : ℕ} (r : Reading bytes old xs p k) wh
         record {
           is = sym (line-other (length old) (words bytes) a);
           holds =
-              r .holds ∙ ap (λ (l : List ℕ). over l old) (sym (ap (take (length old)) m ∙ take-all (length old) (numbers (r .passed)) (omega (arith, held, r .room))));
+              r .holds
+              ∙ ap (λ (l : List ℕ). over l old)
+              (sym (ap (take (length old)) m ∙ take-all (length old) (numbers (r .passed)) (omega (arith, held, r .room))));
         }
 
     module _ (v : ℕ) (free : k < length xs) (is : wordOf (take (e - p) (drop p bytes)) ≡ Number v) where

@@ -1,5 +1,4 @@
 -- Numbers as bytes: decimal, signed decimal, hexadecimal, and what bytes put into places leave there. Assumes nothing.
-use mathlib.Core.Bool.{Bool, true, false}
 use mathlib.Core.List.{List, [], _∷_, _++_}
 use mathlib.Core.Path.{_≡_}
 use Prim.Native.Nat.{ℕ, zero, suc, _+_, _/_, _%_, _≤_}

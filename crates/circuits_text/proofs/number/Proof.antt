@@ -4,7 +4,8 @@ use Prim.Native.Nat.{_-_}
 use native.Mathlib.Omega.{arith}
 use borrow.Author.Needs.{needs}
 use lib.ListN.{length}
-use Rattle.circuits_text.proofs.Split.{Numbering, power, digit-low, digit-high, number-on, word-short, word-long, word-other, word-large, word-number}
+use Rattle.circuits_text.proofs.Split.{Numbering, number-on, power, digit-low, digit-high}
+use Rattle.circuits_text.proofs.Split.{word-short, word-long, word-other, word-large, word-number}
 use Rattle.circuits_text.proofs.number.Statement.{statement}
 use Rattle.circuits_text.proofs.number.Tie as tie
 

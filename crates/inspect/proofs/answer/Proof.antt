@@ -7,7 +7,8 @@ use Rattle.inspect.proofs.answer.Statement.{statement}
 use Rattle.inspect.proofs.answer.Tie as tie
 
 slice-aggregate-same-bytes : tie.Need-slice-aggregate-same-bytes
-slice-aggregate-same-bytes c = sym (length-take-le (c .before .before .find .result) (c .before .before .before .before .before .args .line .now) (omega arith))
+slice-aggregate-same-bytes c =
+    sym (length-take-le (c .before .before .find .result) (c .before .before .before .before .before .args .line .now) (omega arith))
 
 pub answer-spec : {M : Type 1} → statement M
 answer-spec =

@@ -20,7 +20,8 @@ next-low :
     c .before .before .next .given .0 .0 + 49190 ≤ length (c .before .before .before .before .before .before .before .loop .out)
 next-low c =
     let l = c .before .before .before .before .before .before .before in
-    omega (arith, rw (c .before .before .next .given .1) at (c .before .before .before .before .make-room .ensures), l .loop .inv, l .before .before .before .pre)
+    let low = rw (c .before .before .next .given .1) at (c .before .before .before .before .make-room .ensures) in
+    omega (arith, low, l .loop .inv, l .before .before .before .pre)
 
 answer-line-requires : tie.Need-answer-line-requires Inv-loop μ-loop
 answer-line-requires c κs = (next-low (c .before), search needs)

@@ -10,7 +10,10 @@ slice-aggregate-listed : tie.Need-slice-aggregate-listed
 slice-aggregate-listed c = sym (length-take-le (c .before .before .places .result) (c .before .before .before .entry-space .result) (omega arith))
 
 listed-requires : tie.Need-listed-requires
-listed-requires c κs = (search needs, omega (arith, length-take-le (c .before .before .places .result) (c .before .before .before .entry-space .result) (omega arith)))
+listed-requires c κs = (
+  search needs,
+  omega (arith, length-take-le (c .before .before .places .result) (c .before .before .before .entry-space .result) (omega arith)),
+)
 
 pub list-spec : {M : Type 1} → statement M
 list-spec =

@@ -6,7 +6,9 @@ use Rattle.inspect.proofs.make_room.Statement.{statement}
 use Rattle.inspect.proofs.make_room.Tie as tie
 
 slice-aggregate-write-all : tie.Need-slice-aggregate-write-all
-slice-aggregate-write-all c = sym (length-take-le (c .before .before .before .args .filled) (c .before .before .before .args .out .now) (c .before .before .before .pre))
+slice-aggregate-write-all c =
+    let s = c .before .before .before in
+    sym (length-take-le (s .args .filled) (s .args .out .now) (s .pre))
 
 pub make-room-spec : {M : Type 1} → statement M
 make-room-spec =

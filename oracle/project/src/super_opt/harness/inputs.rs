@@ -1,6 +1,7 @@
 //! Mode `inputs`: the lists that port and original are compared on, as lines
 //! for the mode `list`. `inputs all` has every group whole; `inputs sample` has
-//! some of each. The same lines come out in every run.
+//! some of each; both end in damaged lines. The same lines come out in every
+//! run.
 
 use std::io::{self, Write};
 
@@ -21,6 +22,14 @@ const TRAP: [u32; 52] = [
     24576, 0, 24576, 0, 20480, 0, 24576, 0, 20480, 0, 20480, 0, 24576, 0, 20480, 0, 24576, 0,
     24576, 0, 20480, 0, 24576, 0, 24576, 0, 24576, 0, 24576, 0, 20480, 0, 0,
 ];
+
+/// Lines that are no lists; the last has no newline.
+const DAMAGED: &str = concat!(
+    "\nlist\nlist \nlist 1\nlist 1 1\nlist 1 2 0\nlist 1 1 0 0\nlist 1 1 0 \n list 1 1 0\n",
+    "list  1 1 0\nlist 1  1 0\nlist 1 1 0\r\nlist\t1 1 0\nlists 1 1 0\nmaps 1 0 1\n",
+    "list 4294967296 0\nlist 9999999999 0\nlist 00000000001 0\nlist 0000000001 0\n",
+    "list -1 0\nlist +1 0\nlist 1 1 1a\nlist 1 1 0",
+);
 
 /// Lists of one sort, and how many of them the sample takes.
 type Group = (fn() -> Vec<List>, usize);
@@ -51,7 +60,8 @@ pub(super) fn run(arguments: &[String], out: &mut dyn Write) -> io::Result<()> {
             writeln!(out, "{}", list.line())?;
         }
     }
-    Ok(())
+    writeln!(out, "list 1 257{}", " 0".repeat(257))?;
+    write!(out, "{DAMAGED}")
 }
 
 /// So many of the lists, evenly spread, or all of them. Of long ones only every

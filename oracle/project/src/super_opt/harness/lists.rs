@@ -1,10 +1,11 @@
 //! Mode `list`: the matrix and the fingerprint of each list that standard
 //! input names.
 
-use std::io::{self, BufRead, Write};
+use std::io::{self, Read, Write};
 use std::panic::{AssertUnwindSafe, catch_unwind};
 
 use super::codes::valid_gate;
+use super::inputs::MOST_GATES;
 use crate::circuit::Qubit;
 use crate::super_opt::matrix::{UnitaryMatrix, unitary_fingerprint};
 use crate::super_opt::murm::{LibraryGate, library_circuit_matrix};
@@ -18,25 +19,29 @@ pub(super) struct List {
     pub(super) codes: Vec<u32>,
 }
 
-/// Answers each line by one line. A line that is no list ends the run.
+/// Answers each line by one line. What is no list, or has no newline after it,
+/// is refused by 14, as document 01 has it of a line of numbers.
 pub(super) fn run(_: &[String], out: &mut dyn Write) -> io::Result<()> {
-    for (number, line) in io::stdin().lock().lines().enumerate() {
-        let Some(list) = List::parse(&line?) else {
-            let line = number + 1;
-            return Err(io::Error::other(format!("line {line} is no list")));
+    let mut input = Vec::new();
+    io::stdin().lock().read_to_end(&mut input)?;
+    for line in input.split_inclusive(|&byte| byte == b'\n') {
+        let list = str::from_utf8(line).ok().and_then(List::parse);
+        let answer = match list {
+            Some(list) => catch_unwind(AssertUnwindSafe(|| answer(&list)))
+                .unwrap_or_else(|_| "panicked".to_owned()),
+            None => "refused 14 0".to_owned(),
         };
-        let answer = catch_unwind(AssertUnwindSafe(|| answer(&list)));
-        writeln!(out, "{}", answer.unwrap_or_else(|_| "panicked".to_owned()))?;
+        writeln!(out, "{answer}")?;
     }
     Ok(())
 }
 
 impl List {
     fn parse(line: &str) -> Option<Self> {
-        let numbers = line.strip_prefix("list ")?;
-        let numbers: Option<Vec<u32>> = numbers.split(' ').map(|word| word.parse().ok()).collect();
+        let numbers = line.strip_suffix('\n')?.strip_prefix("list ")?;
+        let numbers: Option<Vec<u32>> = numbers.split(' ').map(number).collect();
         let (&[width, count], codes) = numbers.as_deref()?.split_first_chunk()?;
-        (codes.len() == count as usize).then(|| Self {
+        (count as usize <= MOST_GATES && codes.len() == count as usize).then(|| Self {
             width,
             codes: codes.to_vec(),
         })
@@ -50,6 +55,12 @@ impl List {
         }
         line
     }
+}
+
+/// A number of at most ten digits.
+fn number(word: &str) -> Option<u32> {
+    let digits = word.len() <= 10 && word.bytes().all(|byte| byte.is_ascii_digit());
+    digits.then(|| word.parse().ok()).flatten()
 }
 
 fn answer(list: &List) -> String {

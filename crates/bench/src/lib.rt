@@ -1,84 +1,52 @@
-// C functions over the code that is timed, and nothing else. `oracle/bench` links them beside the original and times both in one process.
-// Only that driver calls them; it meets what they require.
+// C functions over the code that is timed, and nothing else: `oracle/bench` links them beside the original and times both in one process.
 ghost use mathlib.Core.Path.{_≡_};
-ghost use mathlib.Core.Bool.{true};
-ghost use Prim.Native.Nat.{_*_, _^_, _<_, _≤_};
+ghost use Prim.Native.Nat.{_*_, _^_, _≤_};
 ghost use lib.ListN.{length};
-ghost use Rattle.ints.specs.Lists.{all};
-ghost use Rattle.circuit.specs.Codes.{valid};
-ghost use Rattle.places.specs.Places.{places, read, AllSmall};
-ghost use Rattle.matrix.specs.Step.{Ready};
-use circuit::LibraryGate;
+ghost use Rattle.exact.specs.Fits.{AllSmall};
+ghost use Rattle.exact.specs.Fingerprint.{fingerprint};
+ghost use Rattle.places.specs.Places.{read, held};
+ghost use Rattle.murm.specs.Entries.{listed, fingerprinted};
+ghost use Rattle.bench.specs.Numbers.{orElse};
 use cyclotomic::Coefficient;
-use lists::Walked;
-use matrix::Applied;
+use murm::Fingerprinted;
+use murm::Listed;
 
-// The matrix of a list of valid codes: its exponent, or 65536 and the position of the gate that does not fit.
+// The entry for lists: the exponent, or 65536 for every refusal.
 #[no_mangle]
-pub extern "C" fn bench_list(m: &mut [Coefficient; 4096], n: usize, codes: &[u32]) -> usize
-    requires { ⌜ length (now m) ≡ places ⌝ }
-    requires { ⌜ n ≤ 5 ⌝ }
-    requires { ⌜ all (valid n) (now codes) ≡ true ⌝ }
+pub extern "C" fn bench_list(width: u32, codes: &[u32], out: &mut [Coefficient]) -> u64
+    ensures { λ r. ⌜ r ≡ orElse 65536 (listed width (now (codes .entry)) (now (out .entry)) .answer) ⌝ }
+    ensures { λ _. ⌜ now (out .exit) ≡ listed width (now (codes .entry)) (now (out .entry)) .bytes ⌝ }
 {
-    match lists::apply_gates(m, n, codes) {
-        Walked::Fits(k) => k as usize,
-        Walked::UnfitAt(_) => 65536,
+    match murm::library_circuit_matrix(width, codes, out) {
+        Listed::Matrix(k) => k as u64,
+        Listed::WidthTooLarge => 65536,
+        Listed::LengthNotExact => 65536,
+        Listed::NotValid(_) => 65536,
+        Listed::DoesNotFit(_) => 65536,
     }
 }
 
-// The identity alone.
+// The entry for fingerprints: the fingerprint, or 0 for every refusal.
 #[no_mangle]
-pub extern "C" fn bench_identity(m: &mut [Coefficient; 4096], n: usize)
-    requires { ⌜ length (now m) ≡ places ⌝ }
-    requires { ⌜ n ≤ 5 ⌝ }
+pub extern "C" fn bench_query(width: u32, exponent: u16, entries: &[Coefficient]) -> u64
+    ensures { λ r. ⌜ r ≡ orElse 0 (fingerprinted width exponent (now (entries .entry))) ⌝ }
 {
-    matrix::set_identity(m, n);
-}
-
-// One gate: the exponent, or 65536.
-#[no_mangle]
-pub extern "C" fn bench_gate(m: &mut [Coefficient; 4096], n: usize, code: u32, k: u16) -> usize
-    requires { ⌜ n ≤ 5 ⌝ }
-    requires { ⌜ valid n code ≡ true ⌝ }
-    requires { ⌜ Ready n k (now m) ⌝ }
-{
-    match matrix::apply_gate_left(m, n, LibraryGate(code), k) {
-        Applied::Done(j) => j as usize,
-        Applied::DoesNotFit => 65536,
+    match murm::library_fingerprint(width, exponent, entries) {
+        Fingerprinted::Fingerprint(p) => p,
+        Fingerprinted::WidthTooLarge => 0,
+        Fingerprinted::LengthNotExact => 0,
+        Fingerprinted::OutOfRange => 0,
+        Fingerprinted::NotLowest => 0,
     }
 }
 
-// The fingerprint.
+// The fingerprint below the entry, which tests nothing.
 #[no_mangle]
 pub extern "C" fn bench_fingerprint(m: &[Coefficient], n: usize, k: u16) -> u64
     requires { ⌜ n ≤ 5 ⌝ }
     requires { ⌜ 4 * (2 ^ n * 2 ^ n) ≤ length (now m) ⌝ }
     requires { ⌜ AllSmall n (read n (now m)) ⌝ }
+    ensures { λ r. ⌜ r ≡ fingerprint n (held n k (now (m .entry))) ⌝ }
 {
     prints::unitary_fingerprint(m, n, k)
-}
-
-// Parts, to find what is slow.
-#[no_mangle]
-pub extern "C" fn bench_divisible(m: &[Coefficient; 4096], n: usize) -> bool
-    requires { ⌜ n ≤ 5 ⌝ }
-{
-    rows::all_divisible(m, n)
-}
-
-#[no_mangle]
-pub extern "C" fn bench_divide(m: &mut [Coefficient; 4096], n: usize)
-    requires { ⌜ length (now m) ≡ places ⌝ }
-    requires { ⌜ n ≤ 5 ⌝ }
-    requires { ⌜ AllSmall n (read n (now m)) ⌝ }
-{
-    rows::divide_all(m, n);
-}
-
-#[no_mangle]
-pub extern "C" fn bench_h(m: &mut [Coefficient; 4096], n: usize, t: usize) -> bool
-    requires { ⌜ length (now m) ≡ places ⌝ }
-    requires { ⌜ (n ≤ 5) × (t < n) ⌝ }
-{
-    h_rows::apply_h_left(m, n, t)
 }

@@ -42,12 +42,12 @@ pub fn get_in(m: &[Coefficient], e: usize) -> Cyclotomic
     requires { ⌜ 4 * e + 3 < length (now m) ⌝ }
     ensures { λ r. ⌜ r ≡ entry (now (m .entry)) e ⌝ }
 {
-    let i = 4 * e;
+    let at = 4 * e;
     Cyclotomic {
-        a: m[i],
-        b: m[i + 1],
-        c: m[i + 2],
-        d: m[i + 3],
+        a: m[at],
+        b: m[at + 1],
+        c: m[at + 2],
+        d: m[at + 3],
     }
 }
 

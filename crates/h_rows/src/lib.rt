@@ -5,7 +5,7 @@ ghost use mathlib.Core.Path.{_≡_};
 ghost use Prim.Native.Nat.{_+_, _*_, _^_, _<_, _≤_};
 ghost use lib.ListN.{length};
 ghost use Rattle.exact.specs.Fits.{AllSmall};
-ghost use Rattle.places.specs.Places.{places, entry, read, Same};
+ghost use Rattle.places.specs.Places.{places, read, Same, Kept};
 ghost use Rattle.rows.specs.Rows.{hRows};
 ghost use Rattle.h_rows.specs.Work.{Summed, SizesFit, SumsFit, PairFits, PairSummed, Tells, HDone};
 use cyclotomic::Coefficient;
@@ -95,6 +95,7 @@ fn h_rows(m: &mut [Coefficient; 4096], n: usize, t: usize)
     requires { ⌜ AllSmall n (hRows (2 ^ t) (read n (now m))) ⌝ }
     ensures { λ _. ⌜ length (now (m .exit)) ≡ places ⌝ }
     ensures { λ _. ⌜ Same n (read n (now (m .exit))) (hRows (2 ^ t) (read n (now (m .entry)))) ⌝ }
+    ensures { λ _. ⌜ Kept n (now (m .entry)) (now (m .exit)) ⌝ }
 {
     let d = places::dim(n);
     let bit = places::dim(t);

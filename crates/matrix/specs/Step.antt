@@ -9,7 +9,7 @@ use Rattle.exact.specs.Matrix.{Exact, Equal, Lowest}
 use Rattle.circuit.specs.Pairs.{maskOf}
 use Rattle.exact.specs.Rows.{Gate, phase, exchange, act, Proper}
 use Rattle.exact.specs.Fits.{stepFits, AllSmall}
-use Rattle.places.specs.Places.{places, read, held}
+use Rattle.places.specs.Places.{places, read, held, Kept}
 use Rattle.matrix.specs.declared.UnitaryMatrix.{UnitaryMatrix}
 use Rattle.matrix.specs.declared.Applied.{Applied}
 use Rattle.matrix.specs.declared.Applied.the-variants.{Done, DoesNotFit}
@@ -38,8 +38,10 @@ abbrev pub Left : (n k : ℕ) → Gate → List ℤ → List ℤ → Applied →
 Left n k g l l′ (Done j) = (stepFits n g (held n k l) ≡ true) × Holds n j l′ (act n g (held n k l))
 Left n k g l l′ DoesNotFit = (stepFits n g (held n k l) ≡ false) × (l′ ≡ l)
 
+-- and the places past the matrix hold what they held
 pub record Stepped (n k : ℕ) (g : Gate) (l l′ : List ℤ) (r : Applied) : Type 0 where
   pub left : Left n k g l l′ r
+  pub kept : Kept n l l′
 
 -- the same for a turn and for an exchange, whose bits are given as a mask
 pub record Turned (n k mask p : ℕ) (l l′ : List ℤ) (r : Applied) : Type 0 where

@@ -10,7 +10,7 @@ ghost use Rattle.circuit.specs.Codes.{valid};
 ghost use Rattle.exact.specs.Matrix.{lower, identity};
 ghost use Rattle.exact.specs.Rows.{had, Proper, bitOf, gate, gateOf};
 ghost use Rattle.exact.specs.Fits.{AllSmall};
-ghost use Rattle.places.specs.Places.{places, read, held};
+ghost use Rattle.places.specs.Places.{places, read, held, Kept, Blank};
 ghost use Rattle.matrix.specs.Step.{IsMatrix, Holds, Ready, Stepped, Turned, Exchanged};
 use circuit::LibraryGate;
 use cyclotomic::Coefficient;
@@ -34,6 +34,7 @@ impl UnitaryMatrix {
     pub fn identity(n: usize) -> UnitaryMatrix
         requires { ⌜ n ≤ 5 ⌝ }
         ensures { λ r. ⌜ IsMatrix n 0 r identity ⌝ }
+        ensures { λ r. ⌜ Blank n (r .data) ⌝ }
     {
         let mut data: [Coefficient; 4096] = [0; 4096];
         let d = places::dim(n);
@@ -56,6 +57,7 @@ pub fn normalize_denominator(m: &mut [Coefficient; 4096], n: usize, k: u16) -> u
     requires { ⌜ n ≤ 5 ⌝ }
     requires { ⌜ AllSmall n (read n (now m)) ⌝ }
     ensures { λ r. ⌜ Holds n r (now (m .exit)) (lower n (held n k (now (m .entry)))) ⌝ }
+    ensures { λ _. ⌜ Kept n (now (m .entry)) (now (m .exit)) ⌝ }
 {
     let mut j = k;
     while j > 0 {

@@ -6,7 +6,7 @@ use borrow.Author.Needs.{needs}
 use Rattle.cyclotomic.specs.Zomega.{overSqrt2}
 use Rattle.places.specs.Places.{entry}
 use Rattle.rows.specs.Work.{Divided}
-use Rattle.places.proofs.Placed.{area-le, small-at}
+use Rattle.places.proofs.Placed.{area-le, small-at, kept-entries}
 use Rattle.exact.proofs.Phases.{flat-lt}
 use Rattle.rows.proofs.Runs.{divided-none, divided-more}
 use Rattle.rows.proofs.divide_all.Statement.{statement}
@@ -51,7 +51,10 @@ returns : tie.Need-returns Inv-loop μ-loop
 returns c =
     let w = c .before .loop .inv .1 in (
       w .long ∙ c .before .before .before .pre .0,
-      record { at = λ r k p q. w .divided _ (omega (arith, flat-lt (c .before .before .before .args .n) r k p q, c .before .before .area .ensures)) },
+      (
+        record { at = λ r k p q. w .divided _ (omega (arith, flat-lt (c .before .before .before .args .n) r k p q, c .before .before .area .ensures)) },
+        kept-entries _ (λ k h. w .other k (omega (arith, c .before .loop .inv .0, c .before .before .area .ensures))),
+      ),
     )
 
 pub divide-all-spec : {M : Type 1} → statement M

@@ -53,7 +53,8 @@ returns-3 : tie.Need-returns-3
 returns-3 c =
     let d = c .before .before .dim2 .ensures in
     let b = c .before .before .before .before .dim .ensures in
-    pair-exchanged _ _ _ _ (c .before .before .before .before .before .if1 .left) (rw b at (c .before .before .before .if2 .left)) (rw (d, b) at (c .exchange-places .ensures))
+    let p = c .before .before .before .before .before .before .pre .1 in
+    pair-exchanged _ _ _ _ (p .0 .1) (p .1 .1) (c .before .before .before .before .before .if1 .left) (rw b at (c .before .before .before .if2 .left)) (rw (d, b) at (c .exchange-places .ensures))
 
 pub exchange-row-spec : {M : Type 1} → statement M
 exchange-row-spec =

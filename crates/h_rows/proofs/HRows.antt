@@ -158,8 +158,8 @@ module _ (t : ℕ) where
   or-sum s h = omega (arith, or-add-and s (2 ^ t), none s h)
 
   -- a row with the bit is the partner of one that lacks it
-  pub low-partner : (s : ℕ) → has s (2 ^ t) ≡ true → (has (s - 2 ^ t) (2 ^ t) ≡ false) × (bitOr (s - 2 ^ t) (2 ^ t) ≡ s)
-  low-partner s h = (lacks, or-sum (s - 2 ^ t) lacks ∙ omega (arith, and-le-l s (2 ^ t), eqb-true (bitAnd s (2 ^ t)) (2 ^ t) h))
+  pub is-partner : (s : ℕ) → has s (2 ^ t) ≡ true → (has (s - 2 ^ t) (2 ^ t) ≡ false) × (bitOr (s - 2 ^ t) (2 ^ t) ≡ s)
+  is-partner s h = (lacks, or-sum (s - 2 ^ t) lacks ∙ omega (arith, and-le-l s (2 ^ t), eqb-true (bitAnd s (2 ^ t)) (2 ^ t) h))
     where
       odd : (d : ℕ) → d < 2 → bitAnd s (2 ^ t) ≡ d * 2 ^ t → d ≡ 1
       odd zero b e = absurd (omega (arith, eqb-true (bitAnd s (2 ^ t)) (2 ^ t) h, pow-pos t))
@@ -182,7 +182,7 @@ pub by-pairs : (n t : ℕ) (P : ℕ → Type 0) → ((s : ℕ) → s < 2 ^ n →
 by-pairs n t P f s b = by (has s (2 ^ t)) refl
   where
     by : (q : Bool) → has s (2 ^ t) ≡ q → P s
-    by true h = let p = low-partner t s h in subst P (p .1) (f (s - 2 ^ t) (omega arith) (p .0) .1)
+    by true h = let p = is-partner t s h in subst P (p .1) (f (s - 2 ^ t) (omega arith) (p .0) .1)
     by false h = f s b h .0
 
 -- ---- what H makes of a pair

@@ -16,6 +16,9 @@ use circuit::LibraryGate;
 use cyclotomic::Coefficient;
 use cyclotomic::Cyclotomic;
 
+// The largest exponent, `mostK` of the definitions: "or k past 65535, is 'does not fit'".
+const MOST_K: u16 = 65535;
+
 // What a gate left: the exponent, or that a coefficient or the exponent passes its limit.
 pub enum Applied {
     Done(u16),
@@ -97,7 +100,7 @@ fn h_step(m: &mut [Coefficient; 4096], n: usize, t: usize, k: u16) -> Applied
     requires { ⌜ Ready n k (now m) ⌝ }
     ensures { λ r. ⌜ Stepped n k (had t) (now (m .entry)) (now (m .exit)) r ⌝ }
 {
-    if k == 65535 {
+    if k == MOST_K {
         return Applied::DoesNotFit;
     }
     if !h_rows::apply_h_left(m, n, t) {
@@ -136,9 +139,9 @@ fn kind_step(
     let s = row_bit(n, a);
     let t = row_bit(n, b);
     let u = row_bit(n, c);
-    let bit_s = places::dim(s);
-    let bit_t = places::dim(t);
-    let bit_u = places::dim(u);
+    let bit_s = places::mask(s);
+    let bit_t = places::mask(t);
+    let bit_u = places::mask(u);
     match kind {
         0 => h_step(m, n, s, k),
         1 => exchange_step(m, n, 0, s, k),

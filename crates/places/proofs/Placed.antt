@@ -5,8 +5,9 @@ use mathlib.Core.Bool.{true, false}
 use mathlib.Core.Logic.{_≢_}
 use mathlib.Core.List.{List}
 use Prim.Native.Nat.{ℕ, zero, suc, _+_, _*_, _^_, _/_, _%_, _≤_, _<_}
-use native.Mathlib.Nat.{div-add-mod', mul-le-mul, mul-le-mul-right, suc-mul}
+use native.Mathlib.Nat.{one-mul, mod-eq-of-lt, lt-of-le-of-lt, div-add-mod', mul-le-mul, mul-le-mul-right, suc-mul}
 use native.Mathlib.Omega.{arith}
+use lib.Dec.{lit<}
 use lib.IntN.{ℤ, pos}
 use lib.ListN.{length, getD, set, length-set}
 use lib.Seq.{getD-set-same, getD-set-other}
@@ -24,6 +25,10 @@ use Rattle.places.specs.Places.{entry, put, read, Kept}
 
 pub dim-le : (n : ℕ) → n ≤ 5 → 2 ^ n ≤ 32
 dim-le n h = pow-mono {i = n} {j = 5} h
+
+-- a shift of 1 by n
+pub shift-one : (n : ℕ) → n ≤ 5 → 1 * 2 ^ n % 18446744073709551616 ≡ 2 ^ n
+shift-one n h = simp one-mul (mod-eq-of-lt (lt-of-le-of-lt (dim-le n h) (lit< tt)))
 
 pub area-le : (n : ℕ) → n ≤ 5 → 2 ^ n * 2 ^ n ≤ 1024
 area-le n h = mul-le-mul (dim-le n h) (dim-le n h)

@@ -4,8 +4,8 @@ use mathlib.Core.List.{List}
 use Prim.Native.Nat.{ℕ, _+_, _^_, _≤_, _<_}
 use lib.IntN.{ℤ, pos}
 use lib.ListN.{length, getD}
-use Rattle.cyclotomic.specs.Zomega.{Zω, limit, turn, overSqrt2, Small}
-use Rattle.places.specs.Places.{places, entry, read, Kept}
+use Rattle.cyclotomic.specs.Zomega.{Zω, turn, overSqrt2, Small}
+use Rattle.places.specs.Places.{entry, read, Kept}
 
 -- the place j
 abbrev pub at : List ℤ → ℕ → ℤ

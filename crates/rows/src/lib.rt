@@ -39,7 +39,7 @@ fn exchange_row(m: &mut [Coefficient; 4096], n: usize, r: usize, control: usize,
     if r & control != control {
         return;
     }
-    let bit = places::dim(t);
+    let bit = places::mask(t);
     if r & bit == bit {
         return;
     }
@@ -126,7 +126,7 @@ pub fn all_divisible(m: &[Coefficient], n: usize) -> bool
     let size = places::area(n);
     let mut e = 0;
     while e < size {
-        if !places::get_in(m, e).divisible_by_sqrt_2() {
+        if !places::get(m, e).divisible_by_sqrt_2() {
             return false;
         }
         e += 1;

@@ -24,8 +24,8 @@ sum-row-pair-requires c κs =
     let p = s .pre .1 in (
       i .inv .1 .long ∙ s .pre .0,
       (
-        (p .0 .0, omega (arith, c .before .before .before .before .dim .ensures), rw (c .before .before .before .dim2 .ensures) (pow-lt (p .0 .1))),
-        rw (c .before .before .before .dim2 .ensures) (half-fits (s .args .t) (i .inv .1) (all-pair (s .args .t) (p .1) (p .0 .1) (omega (arith, c .before .before .before .before .dim .ensures)))),
+        (p .0 .0, omega (arith, c .before .before .before .before .dim .ensures), rw (c .before .before .before .mask .ensures) (pow-lt (p .0 .1))),
+        rw (c .before .before .before .mask .ensures) (half-fits (s .args .t) (i .inv .1) (all-pair (s .args .t) (p .1) (p .0 .1) (omega (arith, c .before .before .before .before .dim .ensures)))),
       ),
     )
 
@@ -34,7 +34,7 @@ loop-again c =
     let s = c .before .before .before .before .before .before in (
       omega arith,
       half-more (s .args .t) (c .before .before .before .loop .inv .1) (s .pre .1 .0 .1) (omega (arith, c .before .before .before .before .before .dim .ensures))
-          (rw (c .before .before .before .before .dim2 .ensures) at (c .sum-row-pair .ensures)),
+          (rw (c .before .before .before .before .mask .ensures) at (c .sum-row-pair .ensures)),
     )
 
 returns : tie.Need-returns Inv-loop μ-loop

@@ -34,6 +34,6 @@ pub record Same (n : ℕ) (x y : ℕ → ℕ → Zω) : Type 0 where
 pub record Kept (n : ℕ) (l l′ : List ℤ) : Type 0 where
   pub past : (j : ℕ) → 4 * (2 ^ n * 2 ^ n) ≤ j → getD l′ j (pos 0) ≡ getD l j (pos 0)
 
--- they are 0
+-- the places past those of a matrix of width n are 0
 pub record Blank (n : ℕ) (l : List ℤ) : Type 0 where
   pub past : (j : ℕ) → 4 * (2 ^ n * 2 ^ n) ≤ j → getD l j (pos 0) ≡ pos 0

@@ -11,6 +11,7 @@ pub mod Conj
 pub mod Unitaries
 pub mod Bounds
 pub mod TooLarge
+pub mod Answered
 pub mod Phases
 pub mod Prints
 pub mod Keeps

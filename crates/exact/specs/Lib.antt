@@ -3,6 +3,7 @@ pub mod Rows
 pub mod Lists
 pub mod Paper
 pub mod Fits
+pub mod Answers
 pub mod Unitary
 pub mod Phase
 pub mod Fingerprint

@@ -18,10 +18,10 @@ use Rattle.ints.proofs.Bools.{clash}
 use Rattle.cyclotomic.specs.Zomega.{Zω, limit, addω, subω, Small, sizesPass}
 use Rattle.cyclotomic.proofs.Sizes.{SizesSmall, sizes-sum, sizes-difference, both-sizes}
 use Rattle.exact.specs.Fits.{AllSmall}
-use Rattle.places.specs.Places.{places, entry, put, read, Same}
+use Rattle.places.specs.Places.{places, entry, put, read, Same, Kept}
 use Rattle.rows.specs.Rows.{has, hRows}
 use Rattle.h_rows.specs.Work.{Summed, SizesFit, SumsFit, PairFits, PairSummed, Tells}
-use Rattle.places.proofs.Placed.{length-put, entry-put-same, entry-put-other, row-le, row-before, rows-apart}
+use Rattle.places.proofs.Placed.{length-put, entry-put-same, entry-put-other, row-inside, row-le, row-before, rows-apart, kept-refl, kept-trans, kept-same, kept-entries}
 use Rattle.rows.specs.Work.{at}
 use Rattle.rows.proofs.ByMask.{and-one}
 
@@ -158,8 +158,8 @@ module _ (t : ℕ) where
   or-sum s h = omega (arith, or-add-and s (2 ^ t), none s h)
 
   -- a row with the bit is the partner of one that lacks it
-  pub lower : (s : ℕ) → has s (2 ^ t) ≡ true → (has (s - 2 ^ t) (2 ^ t) ≡ false) × (bitOr (s - 2 ^ t) (2 ^ t) ≡ s)
-  lower s h = (lacks, or-sum (s - 2 ^ t) lacks ∙ omega (arith, and-le-l s (2 ^ t), eqb-true (bitAnd s (2 ^ t)) (2 ^ t) h))
+  pub is-partner : (s : ℕ) → has s (2 ^ t) ≡ true → (has (s - 2 ^ t) (2 ^ t) ≡ false) × (bitOr (s - 2 ^ t) (2 ^ t) ≡ s)
+  is-partner s h = (lacks, or-sum (s - 2 ^ t) lacks ∙ omega (arith, and-le-l s (2 ^ t), eqb-true (bitAnd s (2 ^ t)) (2 ^ t) h))
     where
       odd : (d : ℕ) → d < 2 → bitAnd s (2 ^ t) ≡ d * 2 ^ t → d ≡ 1
       odd zero b e = absurd (omega (arith, eqb-true (bitAnd s (2 ^ t)) (2 ^ t) h, pow-pos t))
@@ -182,7 +182,7 @@ pub by-pairs : (n t : ℕ) (P : ℕ → Type 0) → ((s : ℕ) → s < 2 ^ n →
 by-pairs n t P f s b = by (has s (2 ^ t)) refl
   where
     by : (q : Bool) → has s (2 ^ t) ≡ q → P s
-    by true h = let p = lower t s h in subst P (p .1) (f (s - 2 ^ t) (omega arith) (p .0) .1)
+    by true h = let p = is-partner t s h in subst P (p .1) (f (s - 2 ^ t) (omega arith) (p .0) .1)
     by false h = f s b h .0
 
 -- ---- what H makes of a pair
@@ -245,25 +245,27 @@ pub record Worked (n bit : ℕ) (l l′ : List ℤ) (s : ℕ) : Type 0 where
   pub low : (c : ℕ) → c < 2 ^ n → read n l′ s c ≡ addω (read n l s c) (read n l (bitOr s bit) c)
   pub high : (c : ℕ) → c < 2 ^ n → read n l′ (bitOr s bit) c ≡ subω (read n l s c) (read n l (bitOr s bit) c)
 
-pub record Kept (n bit : ℕ) (l l′ : List ℤ) (s : ℕ) : Type 0 where
+pub record Still (n bit : ℕ) (l l′ : List ℤ) (s : ℕ) : Type 0 where
   pub low : (c : ℕ) → c < 2 ^ n → read n l′ s c ≡ read n l s c
   pub high : (c : ℕ) → c < 2 ^ n → read n l′ (bitOr s bit) c ≡ read n l (bitOr s bit) c
 
--- the pairs whose lower row is below r are worked, the others are as they were
+-- the pairs whose lower row is below r are worked, the others are as they were, and so are the places past the matrix
 pub record Halfway (n bit : ℕ) (l l′ : List ℤ) (r : ℕ) : Type 0 where
   pub long : length l′ ≡ length l
   pub done : (s : ℕ) → s < r → has s bit ≡ false → Worked n bit l l′ s
-  pub rest : (s : ℕ) → r ≤ s → has s bit ≡ false → Kept n bit l l′ s
+  pub rest : (s : ℕ) → r ≤ s → has s bit ≡ false → Still n bit l l′ s
+  pub kept : Kept n l l′
 
 pub half-start : (n bit : ℕ) (l : List ℤ) → Halfway n bit l l 0
-half-start n bit l = record { long = refl; done = λ s b. absurd (omega arith); rest = λ s b h. record { low = λ c hc. refl; high = λ c hc. refl } }
+half-start n bit l =
+    record { long = refl; done = λ s b. absurd (omega arith); rest = λ s b h. record { low = λ c hc. refl; high = λ c hc. refl }; kept = kept-refl n l }
 
 module _ (t : ℕ) {n : ℕ} {l l1 : List ℤ} {r : ℕ} (w : Halfway n (2 ^ t) l l1 r) where
   -- the pair that comes next fits as it did at the start
   pub half-fits : PairFits n (2 ^ t) l r → PairFits n (2 ^ t) l1 r
   half-fits p = record { pair = λ h. by (p .pair h) (w .rest r (omega arith) h) }
     where
-      by : SumsFit l (r * 2 ^ n) (bitOr r (2 ^ t) * 2 ^ n) (2 ^ n) → Kept n (2 ^ t) l l1 r → SumsFit l1 (r * 2 ^ n) (bitOr r (2 ^ t) * 2 ^ n) (2 ^ n)
+      by : SumsFit l (r * 2 ^ n) (bitOr r (2 ^ t) * 2 ^ n) (2 ^ n) → Still n (2 ^ t) l l1 r → SumsFit l1 (r * 2 ^ n) (bitOr r (2 ^ t) * 2 ^ n) (2 ^ n)
       by s k = record {
         sum-fits = λ c hc. rw (k .low c hc, k .high c hc) (s .sum-fits c hc);
         difference-fits = λ c hc. rw (k .low c hc, k .high c hc) (s .difference-fits c hc);
@@ -271,7 +273,7 @@ module _ (t : ℕ) {n : ℕ} {l l1 : List ℤ} {r : ℕ} (w : Halfway n (2 ^ t) 
 
   -- a pair other than that of row r is kept
   keep : {l2 : List ℤ} → has r (2 ^ t) ≡ false → Summed l1 l2 (r * 2 ^ n) (bitOr r (2 ^ t) * 2 ^ n) (2 ^ n)
-      → (s : ℕ) → (s ≡ r → ⊥) → has s (2 ^ t) ≡ false → Kept n (2 ^ t) l1 l2 s
+      → (s : ℕ) → (s ≡ r → ⊥) → has s (2 ^ t) ≡ false → Still n (2 ^ t) l1 l2 s
   keep {l2} hr p s ne hs =
       record {
         low = same s ne (λ e. clash (ap (λ (x : ℕ). has x (2 ^ t)) e ∙ has-or r (2 ^ t)) hs);
@@ -285,28 +287,35 @@ module _ (t : ℕ) {n : ℕ} {l l1 : List ℤ} {r : ℕ} (w : Halfway n (2 ^ t) 
           p .other (s * 2 ^ n + c) (λ i k q. a (rows-apart n r s c i hc k q)) (λ i k q. b (rows-apart n (bitOr r (2 ^ t)) s c i hc k q))
 
   -- the next row: its pair is worked, or it has the bit and nothing changes
-  pub half-more : {l2 : List ℤ} → PairSummed n (2 ^ t) l1 l2 r → Halfway n (2 ^ t) l l2 (r + 1)
-  half-more {l2} p = by (has r (2 ^ t)) refl
+  pub half-more : {l2 : List ℤ} → t < n → r < 2 ^ n → PairSummed n (2 ^ t) l1 l2 r → Halfway n (2 ^ t) l l2 (r + 1)
+  half-more {l2} ht lt p = by (has r (2 ^ t)) refl
     where
       by : (q : Bool) → has r (2 ^ t) ≡ q → Halfway n (2 ^ t) l l2 (r + 1)
       by true hr = record {
         long = ap length (p .alone hr) ∙ w .long;
         done = below-more _ r (λ s b h. subst (λ (m : List ℤ). Worked n (2 ^ t) l m s) (sym (p .alone hr)) (w .done s b h)) (λ h. clash hr h);
-        rest = λ s b h. subst (λ (m : List ℤ). Kept n (2 ^ t) l m s) (sym (p .alone hr)) (w .rest s (omega arith) h);
+        rest = λ s b h. subst (λ (m : List ℤ). Still n (2 ^ t) l m s) (sym (p .alone hr)) (w .rest s (omega arith) h);
+        kept = kept-trans n (w .kept) (kept-same n (p .alone hr));
       }
       by false hr = record {
         long = p .pair hr .long ∙ w .long;
         done = below-more _ r (λ s b h. worked (keep hr (p .pair hr) s (λ e. omega arith) h) (w .done s b h)) (λ h. new (p .pair hr) (w .rest r (omega arith) h));
-        rest = λ s b h. kept (keep hr (p .pair hr) s (λ e. omega arith) h) (w .rest s (omega arith) h);
+        rest = λ s b h. still (keep hr (p .pair hr) s (λ e. omega arith) h) (w .rest s (omega arith) h);
+        kept = kept-trans n (w .kept) (past (p .pair hr));
       }
         where
-          worked : {s : ℕ} → Kept n (2 ^ t) l1 l2 s → Worked n (2 ^ t) l l1 s → Worked n (2 ^ t) l l2 s
+          worked : {s : ℕ} → Still n (2 ^ t) l1 l2 s → Worked n (2 ^ t) l l1 s → Worked n (2 ^ t) l l2 s
           worked k d = record { low = λ c hc. k .low c hc ∙ d .low c hc; high = λ c hc. k .high c hc ∙ d .high c hc }
 
-          kept : {s : ℕ} → Kept n (2 ^ t) l1 l2 s → Kept n (2 ^ t) l l1 s → Kept n (2 ^ t) l l2 s
-          kept k d = record { low = λ c hc. k .low c hc ∙ d .low c hc; high = λ c hc. k .high c hc ∙ d .high c hc }
+          still : {s : ℕ} → Still n (2 ^ t) l1 l2 s → Still n (2 ^ t) l l1 s → Still n (2 ^ t) l l2 s
+          still k d = record { low = λ c hc. k .low c hc ∙ d .low c hc; high = λ c hc. k .high c hc ∙ d .high c hc }
 
-          new : Summed l1 l2 (r * 2 ^ n) (bitOr r (2 ^ t) * 2 ^ n) (2 ^ n) → Kept n (2 ^ t) l l1 r → Worked n (2 ^ t) l l2 r
+          past : Summed l1 l2 (r * 2 ^ n) (bitOr r (2 ^ t) * 2 ^ n) (2 ^ n) → Kept n l1 l2
+          past s =
+              kept-entries n
+              (λ k h. s .other k (λ i b q. omega (arith, row-inside n r lt)) (λ i b q. omega (arith, row-inside n (bitOr r (2 ^ t)) (or-lt n r (2 ^ t) lt (pow-lt ht)))))
+
+          new : Summed l1 l2 (r * 2 ^ n) (bitOr r (2 ^ t) * 2 ^ n) (2 ^ n) → Still n (2 ^ t) l l1 r → Worked n (2 ^ t) l l2 r
           new s k = record {
             low = λ c hc. s .sums c hc ∙ (λ i. addω (k .low c hc i) (k .high c hc i));
             high = λ c hc. s .differences c hc ∙ (λ i. subω (k .low c hc i) (k .high c hc i));

@@ -8,7 +8,7 @@ use lib.ListN.{length}
 use lib.Bits.{bitOr}
 use Rattle.cyclotomic.specs.Zomega.{Zω, limit, addω, subω, Small}
 use Rattle.exact.specs.Fits.{AllSmall}
-use Rattle.places.specs.Places.{places, entry, Same, read}
+use Rattle.places.specs.Places.{places, entry, Same, read, Kept}
 use Rattle.rows.specs.Rows.{has}
 use Rattle.rows.specs.Work.{at}
 
@@ -42,8 +42,10 @@ pub record Tells (P : Type 0) (ok : Bool) : Type 0 where
   pub holds : ok ≡ true → P
   pub fails : ok ≡ false → P → ⊥
 
--- what H leaves, where its exact result is x: all of x, which fits, or, where x does not fit, all places as they were
+-- what H leaves, where its exact result is x: all of x, which fits, or, where x does not fit, all places as they were; the places past the
+-- matrix in both cases
 pub record HDone (n : ℕ) (x : ℕ → ℕ → Zω) (l l′ : List ℤ) (ok : Bool) : Type 0 where
   pub long : length l′ ≡ places
   pub done : ok ≡ true → Same n (read n l′) x × AllSmall n x
   pub refused : ok ≡ false → (l′ ≡ l) × (AllSmall n x → ⊥)
+  pub kept : Kept n l l′

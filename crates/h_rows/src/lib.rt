@@ -5,11 +5,10 @@ ghost use mathlib.Core.Path.{_≡_};
 ghost use Prim.Native.Nat.{_+_, _*_, _^_, _<_, _≤_};
 ghost use lib.ListN.{length};
 ghost use Rattle.exact.specs.Fits.{AllSmall};
-ghost use Rattle.places.specs.Places.{places, entry, read, Same};
+ghost use Rattle.places.specs.Places.{places, read, Same, Kept};
 ghost use Rattle.rows.specs.Rows.{hRows};
 ghost use Rattle.h_rows.specs.Work.{Summed, SizesFit, SumsFit, PairFits, PairSummed, Tells, HDone};
 use cyclotomic::Coefficient;
-use cyclotomic::Cyclotomic;
 
 // Whether the sizes of the places p.. and q.., added one by one, are within the limit: then so are sums and differences, and only then.
 fn sizes_fit(m: &[Coefficient; 4096], p: usize, q: usize, len: usize) -> bool
@@ -46,7 +45,7 @@ fn h_fits(m: &[Coefficient; 4096], n: usize, t: usize) -> bool
     ensures { λ r. ⌜ Tells (AllSmall n (hRows (2 ^ t) (read n (now (m .entry))))) r ⌝ }
 {
     let d = places::dim(n);
-    let bit = places::dim(t);
+    let bit = places::mask(t);
     let mut r = 0;
     while r < d {
         if !pair_fits(m, n, r, bit) {
@@ -95,9 +94,10 @@ fn h_rows(m: &mut [Coefficient; 4096], n: usize, t: usize)
     requires { ⌜ AllSmall n (hRows (2 ^ t) (read n (now m))) ⌝ }
     ensures { λ _. ⌜ length (now (m .exit)) ≡ places ⌝ }
     ensures { λ _. ⌜ Same n (read n (now (m .exit))) (hRows (2 ^ t) (read n (now (m .entry)))) ⌝ }
+    ensures { λ _. ⌜ Kept n (now (m .entry)) (now (m .exit)) ⌝ }
 {
     let d = places::dim(n);
-    let bit = places::dim(t);
+    let bit = places::mask(t);
     let mut r = 0;
     while r < d {
         sum_row_pair(m, n, r, bit);

@@ -18,6 +18,7 @@ use Rattle.exact.proofs.Values.{equal-sym, equal-trans}
 use Rattle.exact.proofs.Acts.{act-lowest}
 use Rattle.exact.proofs.Listed.{product-snoc}
 use Rattle.exact.proofs.Coded.{proper}
+use Rattle.exact.proofs.Answered.{step-given, step-refused, given-list, refused-list}
 use Rattle.exact.proofs.Keeps.{step-equal, act-equal', equal-lowest}
 use Rattle.places.specs.Places.{held}
 use Rattle.matrix.specs.Step.{Holds, Ready, Stepped}
@@ -85,8 +86,8 @@ module _ (n : ℕ) (codes : List ℕ) where
 
     pub walking-more : {j : ℕ} (l′ : List ℤ) → Stepped n k (gateOf n code) l l′ (Done j) → Walking n codes (i + 1) j l′
     walking-more {j} l′ s =
-        let fit = s .left .0 in
-        let held′ = s .left .1 in
+        let fit = step-given n (gateOf n code) (held n k l) (s .answer) in
+        let held′ = s .left in
         let one : suc i ≡ i + 1 = omega arith in
         subst (λ (z : ℕ). Walking n codes z j l′) one
         (record {
@@ -99,21 +100,20 @@ module _ (n : ℕ) (codes : List ℕ) where
 
     pub walking-unfit : (l′ : List ℤ) → Stepped n k (gateOf n code) l l′ DoesNotFit → Ended n codes l′ (UnfitAt i)
     walking-unfit l′ s = record {
-      end = (
-        ahead-here
-            ∙ ap (λ b. later i (pick b (next (stepsFrom n (act n (gateOf n code) (held n k l)) (drop (suc i) codes))) (unfitAt 0))) (s .left .0)
-            ∙ later-unfit i 0 ∙ ap unfitAt (omega arith),
-        rw (s .left .1) (walked-holds w),
-      );
+      answer =
+          refused-list n codes
+          (ahead-here
+          ∙ ap (λ b. later i (pick b (next (stepsFrom n (act n (gateOf n code) (held n k l)) (drop (suc i) codes))) (unfitAt 0))) (step-refused n (gateOf n code) (held n k l) (s .answer))
+          ∙ later-unfit i 0 ∙ ap unfitAt (omega arith));
+      end = rw (s .left) (walked-holds w);
     }
 
   pub walking-end : {i k : ℕ} {l : List ℤ} → Walking n codes i k l → length codes ≤ i → Ended n codes l (Fits k)
   walking-end {i} {k} {l} w h =
       let all = take-all i codes h in
       record {
-        end = (
-          w .ahead ∙ ap (λ (z : List ℕ). later i (stepsFrom n (held n k l) z)) (drop-of-length-le codes {i = i} h) ∙ later-fit i,
-          w .so-far .exponent ∙ ap (λ (z : List ℕ). product n z .k) all,
-          rw all at (walked-holds w),
-        );
+        answer =
+            given-list n codes (w .ahead ∙ ap (λ (z : List ℕ). later i (stepsFrom n (held n k l) z)) (drop-of-length-le codes {i = i} h) ∙ later-fit i)
+            (w .so-far .exponent ∙ ap (λ (z : List ℕ). product n z .k) all);
+        end = rw all at (walked-holds w);
       }

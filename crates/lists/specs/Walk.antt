@@ -4,8 +4,9 @@ use mathlib.Core.List.{List}
 use Prim.Native.Nat.{ℕ}
 use lib.IntN.{ℤ}
 use lib.ListN.{take}
+use Rattle.cyclotomic.specs.Told.{doesNotFit}
 use Rattle.exact.specs.Lists.{product}
-use Rattle.exact.specs.Fits.{allFit, unfitAt, steps}
+use Rattle.exact.specs.Answers.{Answer, given, refused, listAnswer}
 use Rattle.matrix.specs.Step.{Holds}
 use Rattle.lists.specs.declared.Walked.{Walked}
 use Rattle.lists.specs.declared.Walked.the-variants.{Fits, UnfitAt}
@@ -14,11 +15,17 @@ use Rattle.lists.specs.declared.Walked.the-variants.{Fits, UnfitAt}
 abbrev pub HoldsProduct : ℕ → List ℕ → List ℤ → Type 0
 HoldsProduct n codes l = Holds n (product n codes .k) l (product n codes)
 
--- "does not fit; position of the gate": the list's exact product and its exponent where every step fits; otherwise the position of the first
--- step that does not, and the product of the gates before it
-abbrev pub End : ℕ → List ℕ → List ℤ → Walked → Type 0
-End n codes l (Fits k) = (steps n codes ≡ allFit) × (k ≡ product n codes .k) × HoldsProduct n codes l
-End n codes l (UnfitAt i) = (steps n codes ≡ unfitAt i) × HoldsProduct n (take i codes) l
+-- the number and the values of each case
+abbrev pub toldWalked : Walked → Answer
+toldWalked (Fits k) = given k
+toldWalked (UnfitAt i) = refused doesNotFit i
 
+-- what is left in the places: the list's exact product where every step fits; otherwise the product of the gates before the first that does not
+abbrev pub End : ℕ → List ℕ → List ℤ → Walked → Type 0
+End n codes l (Fits k) = HoldsProduct n codes l
+End n codes l (UnfitAt i) = HoldsProduct n (take i codes) l
+
+-- with the answer that the definition gives
 pub record Ended (n : ℕ) (codes : List ℕ) (l : List ℤ) (r : Walked) : Type 0 where
+  pub answer : toldWalked r ≡ listAnswer n codes
   pub end : End n codes l r

@@ -6,6 +6,7 @@ ghost use Prim.Native.Nat.{_≤_};
 ghost use Rattle.ints.specs.Lists.{all};
 ghost use Rattle.circuit.specs.Codes.{valid};
 ghost use Rattle.exact.specs.Matrix.{identity};
+ghost use Rattle.places.specs.Places.{Kept};
 ghost use Rattle.matrix.specs.Step.{Holds};
 ghost use Rattle.lists.specs.Walk.{Ended};
 use circuit::LibraryGate;
@@ -24,6 +25,7 @@ pub fn apply_gates(m: &mut [Coefficient; 4096], n: usize, codes: &[u32]) -> Walk
     requires { ⌜ all (valid n) (now codes) ≡ true ⌝ }
     requires { ⌜ Holds n 0 (now m) identity ⌝ }
     ensures { λ r. ⌜ Ended n (now (codes .entry)) (now (m .exit)) r ⌝ }
+    ensures { λ _. ⌜ Kept n (now (m .entry)) (now (m .exit)) ⌝ }
 {
     let mut k: u16 = 0;
     let mut i = 0;

@@ -13,15 +13,17 @@ use Rattle.cyclotomic.proofs.Squares.{small-zero, small-one}
 use Rattle.cyclotomic.proofs.Number.{each}
 use Rattle.exact.specs.Matrix.{identity}
 use Rattle.exact.proofs.Values.{pick-ind}
-use Rattle.places.specs.Places.{places, entry, put, read}
-use Rattle.places.proofs.Placed.{entry-put-same, entry-put-other, length-put, place-fits, rows-apart}
+use Rattle.places.specs.Places.{places, entry, put, read, Blank}
+use Rattle.places.proofs.Placed.{entry-put-same, entry-put-other, length-put, place-fits, rows-apart, kept-put}
+use Rattle.exact.proofs.Phases.{flat-lt}
 use Rattle.matrix.specs.Step.{Holds}
 
--- the first i rows are the identity's, the others 0
+-- the first i rows are the identity's, the others 0, and so are the places past the matrix
 pub record Filled (n : ℕ) (l : List ℤ) (i : ℕ) : Type 0 where
   pub long : length l ≡ places
   pub done : (r : ℕ) → r < i → (c : ℕ) → c < 2 ^ n → read n l r c ≡ identity .e r c
   pub ahead : (r : ℕ) → i ≤ r → (c : ℕ) → c < 2 ^ n → read n l r c ≡ zeroω
+  pub blank : Blank n l
 
 -- what is 0 everywhere, read anywhere
 none-at : (m j : ℕ) → getD (replicate m (pos 0)) j (pos 0) ≡ pos 0
@@ -35,7 +37,7 @@ none-entry m e = each (none-at m (4 * e)) (none-at m (4 * e + 1)) (none-at m (4 
 
 module _ (n : ℕ) where
   pub filled-none : Filled n (replicate 4096 (pos 0)) 0
-  filled-none = record { long = refl; done = λ r b. absurd (omega arith); ahead = λ r b c q. none-entry 4096 (r * 2 ^ n + c) }
+  filled-none = record { long = refl; done = λ r b. absurd (omega arith); ahead = λ r b c q. none-entry 4096 (r * 2 ^ n + c); blank = record { past = λ j h. none-at 4096 j } }
 
   -- 1 at the diagonal's place of the next row
   pub filled-more : {l l′ : List ℤ} {z : Zω} (i : ℕ) {e : ℕ} → n ≤ 5 → Filled n l i → i < 2 ^ n → l′ ≡ put l e z → z ≡ oneω → e ≡ i * 2 ^ n + i
@@ -45,6 +47,7 @@ module _ (n : ℕ) where
     done = below-more (λ r. (c : ℕ) → c < 2 ^ n → read n l′ r c ≡ identity .e r c) i
         (λ r g c k. other r c k (λ s. omega arith) ∙ w .done r g c k) next;
     ahead = λ r g c k. other r c k (λ s. omega arith) ∙ w .ahead r (omega arith) c k;
+    blank = record { past = λ j g. rw q (kept-put n l e z (omega (arith, p, flat-lt n i i h h)) .past j g ∙ w .blank .past j g) };
   }
     where
       other : (r c : ℕ) → c < 2 ^ n → (r ≡ i → ⊥) → read n l′ r c ≡ read n l r c

@@ -13,7 +13,8 @@ use Rattle.cyclotomic.proofs.Squares.{small-over}
 use Rattle.exact.specs.Matrix.{sqrt2s, Equal, allDivisible, lower}
 use Rattle.exact.proofs.Values.{sqrt2s-sqrt2, divisible-to, equal-refl, equal-sym, equal-trans, lower-unique, lower-stays}
 use Rattle.exact.specs.Fits.{AllSmall}
-use Rattle.places.specs.Places.{places, read, held, Same}
+use Rattle.places.specs.Places.{places, read, held, Same, Kept}
+use Rattle.places.proofs.Placed.{kept-refl, kept-trans}
 use Rattle.rows.specs.Rows.{dividedAll}
 use Rattle.matrix.specs.Step.{Holds}
 
@@ -36,25 +37,26 @@ pub record Lowering (n k : ℕ) (l₀ : List ℤ) (j : ℕ) (l : List ℤ) : Typ
   pub long : length l ≡ places
   pub small : AllSmall n (read n l)
   pub form : Equal n (lower n (held n j l)) (lower n (held n k l₀))
+  pub kept : Kept n l₀ l
 
 module _ (n k : ℕ) (l₀ : List ℤ) where
   pub lowering-first : length l₀ ≡ places → AllSmall n (read n l₀) → Lowering n k l₀ k l₀
-  lowering-first h s = record { long = h; small = s; form = equal-refl n (lower n (held n k l₀)) }
+  lowering-first h s = record { long = h; small = s; form = equal-refl n (lower n (held n k l₀)); kept = kept-refl n l₀ }
 
   pub lowering-more : {j : ℕ} {l : List ℤ} (l′ : List ℤ) → Lowering n k l₀ j l → 0 < j → allDivisible n (read n l) ≡ true → length l′ ≡ places
-      → Same n (read n l′) (dividedAll (read n l)) → Lowering n k l₀ (j - 1) l′
-  lowering-more {j} {l} l′ w p h long s =
+      → Same n (read n l′) (dividedAll (read n l)) → Kept n l l′ → Lowering n k l₀ (j - 1) l′
+  lowering-more {j} {l} l′ w p h long s t =
       let one : suc (j - 1) ≡ j = omega arith in
       record {
         long = long;
         small = divided-small n l l′ s (w .small);
         form = equal-trans n (equal-sym n (rw one at (divided-lower n l l′ s (j - 1) h))) (w .form);
+        kept = kept-trans n (w .kept) t;
       }
 
   pub lowering-end : {j : ℕ} {l : List ℤ} → Lowering n k l₀ j l → (0 < j → allDivisible n (read n l) ≡ false)
-      → Holds n j l (lower n (held n k l₀))
-  lowering-end w h = record {
-    long = w .long;
-    equal = equal-trans n (equal-sym n (lower-stays n (record { lowest = h }))) (w .form);
-    small = w .small;
-  }
+      → Holds n j l (lower n (held n k l₀)) × Kept n l₀ l
+  lowering-end w h = (
+    record { long = w .long; equal = equal-trans n (equal-sym n (lower-stays n (record { lowest = h }))) (w .form); small = w .small },
+    w .kept,
+  )

@@ -13,8 +13,10 @@ use Rattle.exact.specs.Matrix.{Exact, Equal, allEntries, lower}
 use Rattle.exact.specs.Rows.{Gate, phase, exchange, had, raw, act, Proper}
 use Rattle.exact.specs.Fits.{mostK, AllSmall}
 use Rattle.exact.proofs.Values.{equal-sym, equal-trans, equal-same, lower-unique, entries-to, entries-from}
+use Rattle.exact.proofs.Answered.{given-step, refused-step}
 use Rattle.exact.proofs.Keeps.{phase-act, exchange-act, phase-small, exchange-small, phase-step-fits, exchange-step-fits, had-step, had-step-k}
-use Rattle.places.specs.Places.{places, read, held, Same}
+use Rattle.places.specs.Places.{places, read, held, Same, Kept}
+use Rattle.places.proofs.Placed.{kept-refl, kept-trans}
 use Rattle.rows.specs.Rows.{phaseRows, exchangeRows, hRows}
 use Rattle.rows.proofs.ByMask.{phase-rows, exchange-rows, h-rows}
 use Rattle.h_rows.specs.Work.{HDone}
@@ -32,29 +34,21 @@ module _ (n k : ℕ) (l l′ : List ℤ) (w : Ready n k l) where
     small = record { small = λ r c p q. subst Small (sym (same r c p q)) (s .small r c p q) };
   }
 
-  pub phase-stepped : (mask p : ℕ) → k ≤ mostK → length l′ ≡ places → Same n (read n l′) (phaseRows mask p (read n l))
+  pub phase-stepped : (mask p : ℕ) → k ≤ mostK → length l′ ≡ places → Same n (read n l′) (phaseRows mask p (read n l)) → Kept n l l′
       → (ks : List ℕ) → mask ≡ maskOf ks → Stepped n k (phase ks p) l l′ (Done k)
-  phase-stepped mask p b h s ks e =
-      record {
-        left = (
-          phase-step-fits n ks p (held n k l) (w .small) b,
-          raw-held (phase ks p) h refl
-              (λ r c i j. s .at r c i j ∙ ap (λ (x : ℕ). phaseRows x p (read n l) r c) e ∙ phase-rows ks p (read n l) r c)
-              (phase-small n ks p (held n k l) (w .small)) (phase-act n ks p (w .lowest)),
-        );
-      }
+  phase-stepped mask p b h s q ks e =
+      let done = raw-held (phase ks p) h refl
+      (λ r c i j. s .at r c i j ∙ ap (λ (x : ℕ). phaseRows x p (read n l) r c) e ∙ phase-rows ks p (read n l) r c)
+      (phase-small n ks p (held n k l) (w .small)) (phase-act n ks p (w .lowest)) in
+      record { answer = given-step n (phase ks p) (held n k l) (phase-step-fits n ks p (held n k l) (w .small) b) (done .equal .exponent); left = done; kept = q }
 
-  pub exchange-stepped : (control t : ℕ) → k ≤ mostK → length l′ ≡ places → Same n (read n l′) (exchangeRows control (2 ^ t) (read n l))
+  pub exchange-stepped : (control t : ℕ) → k ≤ mostK → length l′ ≡ places → Same n (read n l′) (exchangeRows control (2 ^ t) (read n l)) → Kept n l l′
       → (ks : List ℕ) → control ≡ maskOf ks → Proper n (exchange ks t) → Stepped n k (exchange ks t) l l′ (Done k)
-  exchange-stepped control t b h s ks e pr =
-      record {
-        left = (
-          exchange-step-fits n ks t (held n k l) pr (w .small) b,
-          raw-held (exchange ks t) h refl
-              (λ r c i j. s .at r c i j ∙ ap (λ (x : ℕ). exchangeRows x (2 ^ t) (read n l) r c) e ∙ exchange-rows ks t (read n l) r c)
-              (exchange-small n ks t (held n k l) pr (w .small)) (exchange-act n ks t pr (w .lowest)),
-        );
-      }
+  exchange-stepped control t b h s q ks e pr =
+      let done = raw-held (exchange ks t) h refl
+      (λ r c i j. s .at r c i j ∙ ap (λ (x : ℕ). exchangeRows x (2 ^ t) (read n l) r c) e ∙ exchange-rows ks t (read n l) r c)
+      (exchange-small n ks t (held n k l) pr (w .small)) (exchange-act n ks t pr (w .lowest)) in
+      record { answer = given-step n (exchange ks t) (held n k l) (exchange-step-fits n ks t (held n k l) pr (w .small) b) (done .equal .exponent); left = done; kept = q }
 
 -- ---- H
 
@@ -77,23 +71,29 @@ module _ (n k t : ℕ) (l : List ℤ) where
       by false e = refl
 
   pub h-refused-k : mostK ≤ k → Stepped n k (had t) l l DoesNotFit
-  h-refused-k h = record { left = (had-step-k n t (held n k l) h, refl) }
+  h-refused-k h = record { answer = refused-step n (had t) (held n k l) (had-step-k n t (held n k l) h); left = refl; kept = kept-refl n l }
 
   pub h-refused : {l′ : List ℤ} {ok : Bool} → k < mostK → HDone n (hRows (2 ^ t) (read n l)) l l′ ok → ok ≡ false → Stepped n k (had t) l l′ DoesNotFit
-  h-refused h d e = record { left = (had-step n t (held n k l) h ∙ tested-false (d .refused e .1), d .refused e .0) }
+  h-refused h d e = record {
+    answer = refused-step n (had t) (held n k l) (had-step n t (held n k l) h ∙ tested-false (d .refused e .1));
+    left = d .refused e .0;
+    kept = d .kept;
+  }
 
   pub h-stepped : {j : ℕ} (l′ : List ℤ) {l″ : List ℤ} {ok : Bool} → k < mostK → HDone n (hRows (2 ^ t) (read n l)) l l′ ok → ok ≡ true
-      → Holds n j l″ (lower n (held n (k + 1) l′)) → Stepped n k (had t) l l″ (Done j)
-  h-stepped l′ h d e w =
+      → Holds n j l″ (lower n (held n (k + 1) l′)) × Kept n l′ l″ → Stepped n k (had t) l l″ (Done j)
+  h-stepped {j} l′ {l″} h d e w =
       record {
-        left = (
-          had-step n t (held n k l) h ∙ tested-true (d .done e .1),
-          record { long = w .long; equal = equal-trans n (w .equal) (lower-unique n (equal-same n one)); small = w .small },
-        );
+        answer = given-step n (had t) (held n k l) (had-step n t (held n k l) h ∙ tested-true (d .done e .1)) (same .exponent);
+        left = record { long = w .0 .long; equal = same; small = w .0 .small };
+        kept = kept-trans n (d .kept) (w .1);
       }
     where
       one : Equal n (held n (k + 1) l′) summed
       one = record { exponent = omega arith; entries = λ r c i j. d .done e .0 .at r c i j ∙ h-rows t (read n l) r c }
+
+      same : Equal n (held n j l″) (lower n summed)
+      same = equal-trans n (w .0 .equal) (lower-unique n (equal-same n one))
 
 module _ (n t : ℕ) (l : List ℤ) where
   -- what is summed and fits is within the limit

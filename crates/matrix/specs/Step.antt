@@ -1,15 +1,16 @@
 -- What the matrix code leaves in the places, in terms of exact matrices. Assumes nothing.
 use mathlib.Core.Path.{_≡_}
-use mathlib.Core.Bool.{true, false}
 use mathlib.Core.List.{List}
 use Prim.Native.Nat.{ℕ}
 use lib.IntN.{ℤ}
 use lib.ListN.{length}
 use Rattle.exact.specs.Matrix.{Exact, Equal, Lowest}
+use Rattle.cyclotomic.specs.Told.{doesNotFit}
 use Rattle.circuit.specs.Pairs.{maskOf}
 use Rattle.exact.specs.Rows.{Gate, phase, exchange, act, Proper}
-use Rattle.exact.specs.Fits.{stepFits, AllSmall}
-use Rattle.places.specs.Places.{places, read, held}
+use Rattle.exact.specs.Fits.{AllSmall}
+use Rattle.exact.specs.Answers.{Answer, given, refused, stepAnswer}
+use Rattle.places.specs.Places.{places, read, held, Kept}
 use Rattle.matrix.specs.declared.UnitaryMatrix.{UnitaryMatrix}
 use Rattle.matrix.specs.declared.Applied.{Applied}
 use Rattle.matrix.specs.declared.Applied.the-variants.{Done, DoesNotFit}
@@ -32,14 +33,21 @@ pub record Ready (n k : ℕ) (l : List ℤ) : Type 0 where
   pub small : AllSmall n (read n l)
   pub lowest : Lowest n (held n k l)
 
--- what a step by the gate g leaves: its exact result, with the exponent told, where the raw row operation fits; where it does not fit, all
--- places as they were
-abbrev pub Left : (n k : ℕ) → Gate → List ℤ → List ℤ → Applied → Type 0
-Left n k g l l′ (Done j) = (stepFits n g (held n k l) ≡ true) × Holds n j l′ (act n g (held n k l))
-Left n k g l l′ DoesNotFit = (stepFits n g (held n k l) ≡ false) × (l′ ≡ l)
+-- the number and the values of each case
+abbrev pub toldApplied : Applied → Answer
+toldApplied (Done k) = given k
+toldApplied DoesNotFit = refused doesNotFit 0
 
+-- what a step by the gate g leaves: its exact result, with the exponent told, or, where it does not fit, all places as they were
+abbrev pub Left : (n k : ℕ) → Gate → List ℤ → List ℤ → Applied → Type 0
+Left n k g l l′ (Done j) = Holds n j l′ (act n g (held n k l))
+Left n k g l l′ DoesNotFit = l′ ≡ l
+
+-- with the answer that the definition gives, and the places past the matrix as they were
 pub record Stepped (n k : ℕ) (g : Gate) (l l′ : List ℤ) (r : Applied) : Type 0 where
+  pub answer : toldApplied r ≡ stepAnswer n g (held n k l)
   pub left : Left n k g l l′ r
+  pub kept : Kept n l l′
 
 -- the same for a turn and for an exchange, whose bits are given as a mask
 pub record Turned (n k mask p : ℕ) (l l′ : List ℤ) (r : Applied) : Type 0 where

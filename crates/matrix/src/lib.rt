@@ -10,11 +10,14 @@ ghost use Rattle.circuit.specs.Codes.{valid};
 ghost use Rattle.exact.specs.Matrix.{lower, identity};
 ghost use Rattle.exact.specs.Rows.{had, Proper, bitOf, gate, gateOf};
 ghost use Rattle.exact.specs.Fits.{AllSmall};
-ghost use Rattle.places.specs.Places.{places, read, held};
+ghost use Rattle.places.specs.Places.{places, read, held, Kept, Blank};
 ghost use Rattle.matrix.specs.Step.{IsMatrix, Holds, Ready, Stepped, Turned, Exchanged};
 use circuit::LibraryGate;
 use cyclotomic::Coefficient;
 use cyclotomic::Cyclotomic;
+
+// The largest exponent, `mostK` of the definitions: "or k past 65535, is 'does not fit'".
+const MOST_K: u16 = 65535;
 
 // What a gate left: the exponent, or that a coefficient or the exponent passes its limit.
 pub enum Applied {
@@ -34,6 +37,7 @@ impl UnitaryMatrix {
     pub fn identity(n: usize) -> UnitaryMatrix
         requires { ⌜ n ≤ 5 ⌝ }
         ensures { λ r. ⌜ IsMatrix n 0 r identity ⌝ }
+        ensures { λ r. ⌜ Blank n (r .data) ⌝ }
     {
         let mut data: [Coefficient; 4096] = [0; 4096];
         let d = places::dim(n);
@@ -56,6 +60,7 @@ pub fn normalize_denominator(m: &mut [Coefficient; 4096], n: usize, k: u16) -> u
     requires { ⌜ n ≤ 5 ⌝ }
     requires { ⌜ AllSmall n (read n (now m)) ⌝ }
     ensures { λ r. ⌜ Holds n r (now (m .exit)) (lower n (held n k (now (m .entry)))) ⌝ }
+    ensures { λ _. ⌜ Kept n (now (m .entry)) (now (m .exit)) ⌝ }
 {
     let mut j = k;
     while j > 0 {
@@ -95,7 +100,7 @@ fn h_step(m: &mut [Coefficient; 4096], n: usize, t: usize, k: u16) -> Applied
     requires { ⌜ Ready n k (now m) ⌝ }
     ensures { λ r. ⌜ Stepped n k (had t) (now (m .entry)) (now (m .exit)) r ⌝ }
 {
-    if k == 65535 {
+    if k == MOST_K {
         return Applied::DoesNotFit;
     }
     if !h_rows::apply_h_left(m, n, t) {
@@ -134,9 +139,9 @@ fn kind_step(
     let s = row_bit(n, a);
     let t = row_bit(n, b);
     let u = row_bit(n, c);
-    let bit_s = places::dim(s);
-    let bit_t = places::dim(t);
-    let bit_u = places::dim(u);
+    let bit_s = places::mask(s);
+    let bit_t = places::mask(t);
+    let bit_u = places::mask(u);
     match kind {
         0 => h_step(m, n, s, k),
         1 => exchange_step(m, n, 0, s, k),

@@ -1,19 +1,19 @@
 -- The entries' answers, case by case, as the definition has them. Assumes nothing.
-use mathlib.Core.Path.{_≡_, refl, sym, ap, _∙_}
-use mathlib.Core.Bool.{Bool, true, false, _&&_}
+use mathlib.Core.Path.{_≡_, sym, ap, _∙_}
+use mathlib.Core.Bool.{true, false, _&&_}
 use mathlib.Core.List.{List}
-use Prim.Native.Nat.{ℕ, _+_, _*_, _^_, _≤_, _<_}
+use Prim.Native.Nat.{ℕ, _≤_, _<_}
 use borrow.Author.Tests.{eq-eqb, ne-eqb, lt-ltb, le-ltb}
-use lib.IntN.{ℤ, pos, natAbs}
+use lib.IntN.{ℤ}
 use lib.Dec.{eqb, ltb}
-use lib.ListN.{length, getD, take}
+use lib.ListN.{length, take}
 use Rattle.exact.specs.Matrix.{allDivisible}
 use Rattle.exact.specs.Lists.{product}
-use Rattle.exact.specs.Fits.{Steps, allFit, unfitAt, steps}
+use Rattle.exact.specs.Answers.{given, refused, listAnswer}
 use Rattle.exact.specs.Fingerprint.{fingerprint}
 use Rattle.places.specs.Places.{read, held}
 use Rattle.matrix.specs.Step.{Holds}
-use Rattle.murm.specs.Entries.{given, refused, byteCount, firstInvalid, lowestByte, coefficients, outcome, listed, fingerprinted}
+use Rattle.murm.specs.Entries.{byteCount, firstInvalid, lowestByte, coefficients, outcome, listed, fingerprinted}
 use Rattle.murm.proofs.Bytes.{places-are}
 
 module _ (n : ℕ) (codes : List ℕ) (bytes : List ℤ) where
@@ -32,18 +32,18 @@ module _ (n : ℕ) (codes : List ℕ) (bytes : List ℤ) where
       list-7 q = rw (le-ltb 5 n h, eq-eqb (length bytes) (byteCount n) p, lt-ltb (firstInvalid n codes) (length codes) q)
 
       module _ (q : length codes ≤ firstInvalid n codes) where
-        pub list-8 : (i : ℕ) → steps n codes ≡ unfitAt i → outcome (refused 8 i) bytes ≡ listed n codes bytes
+        pub list-8 : (i : ℕ) → refused 8 i ≡ listAnswer n codes → outcome (refused 8 i) bytes ≡ listed n codes bytes
         unfolding listed
-        list-8 i e = rw (le-ltb 5 n h, eq-eqb (length bytes) (byteCount n) p, le-ltb (firstInvalid n codes) (length codes) q, e)
+        list-8 i e = rw (le-ltb 5 n h, eq-eqb (length bytes) (byteCount n) p, le-ltb (firstInvalid n codes) (length codes) q, sym e)
 
-        list-formed : steps n codes ≡ allFit → outcome (given (product n codes .k)) (coefficients n (product n codes)) ≡ listed n codes bytes
+        list-formed : (k : ℕ) → given k ≡ listAnswer n codes → outcome (given k) (coefficients n (product n codes)) ≡ listed n codes bytes
         unfolding listed
-        list-formed e = rw (le-ltb 5 n h, eq-eqb (length bytes) (byteCount n) p, le-ltb (firstInvalid n codes) (length codes) q, e)
+        list-formed k e = rw (le-ltb 5 n h, eq-eqb (length bytes) (byteCount n) p, le-ltb (firstInvalid n codes) (length codes) q, sym e)
 
         -- the places hold the product, and their first bytes are what was lent
-        pub list-held : (k : ℕ) (l after : List ℤ) → after ≡ take (byteCount n) l → steps n codes ≡ allFit → k ≡ product n codes .k
+        pub list-held : (k : ℕ) (l after : List ℤ) → after ≡ take (byteCount n) l → given k ≡ listAnswer n codes
             → Holds n (product n codes .k) l (product n codes) → outcome (given k) after ≡ listed n codes bytes
-        list-held k l after c e s w = (λ i. outcome (given (s i)) ((c ∙ places-are n (product n codes .k) l (product n codes) h w) i)) ∙ list-formed e
+        list-held k l after c e w = ap (outcome (given k)) (c ∙ places-are n (product n codes .k) l (product n codes) h w) ∙ list-formed k e
 
 module _ (n k : ℕ) (bytes : List ℤ) where
   pub print-6 : 5 < n → refused 6 0 ≡ fingerprinted n k bytes

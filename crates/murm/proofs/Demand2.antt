@@ -15,27 +15,19 @@ use Rattle.exact.specs.Matrix.{Equal, SameValue, Lowest}
 use Rattle.exact.specs.Paper.{paperProduct}
 use Rattle.exact.specs.Lists.{product}
 use Rattle.exact.specs.Fits.{Steps, allFit, unfitAt, steps, FirstPast}
+use Rattle.exact.specs.Answers.{Answer, given, refused, bySteps, listAnswer}
 use Rattle.exact.proofs.Values.{equal-sym, equal-same, same-trans}
 use Rattle.exact.proofs.Listed.{product-lowest}
 use Rattle.exact.proofs.Papers.{paper-value}
 use Rattle.exact.proofs.Keeps.{equal-lowest}
 use Rattle.exact.proofs.TooLarge.{too-large-exactly}
+use Rattle.exact.proofs.Answered.{isGiven, number, refused-list, list-refused}
 use Rattle.places.specs.Places.{held}
-use Rattle.murm.specs.Entries.{Answer, given, refused, Outcome, outcome, byteCount, firstInvalid, formed, listed}
+use Rattle.murm.specs.Entries.{Outcome, outcome, byteCount, firstInvalid, formed, listed}
 use Rattle.murm.specs.Demands.{Demand2}
 use Rattle.murm.proofs.Bytes.{coefficients-held}
 use Rattle.murm.proofs.Checks.{valid-first}
 use Rattle.murm.proofs.Answers.{list-8}
-
--- ---- an answer is one case alone
-
-abbrev isGiven : Answer → Bool
-isGiven (given k) = true
-isGiven (refused a i) = false
-
-abbrev number : Answer → ℕ
-number (given k) = k
-number (refused a i) = i
 
 -- an answer that is given comes from the last case
 last-case : (p q r : Bool) (a b c d o : Outcome) → isGiven (a .answer) ≡ false → isGiven (b .answer) ≡ false → isGiven (c .answer) ≡ false
@@ -46,40 +38,44 @@ last-case false true false a b c d o x y z g e = e
 last-case false false r a b c d o x y z g e = clash g (sym (ap (λ (t : Outcome). isGiven (t .answer)) e) ∙ z)
 
 module _ (n : ℕ) (codes : List ℕ) (bytes : List ℤ) where
-  accepted-formed : (k : ℕ) (after : List ℤ) → listed n codes bytes ≡ outcome (given k) after → formed n codes bytes (steps n codes) ≡ outcome (given k) after
+  accepted-formed : (k : ℕ) (after : List ℤ) → listed n codes bytes ≡ outcome (given k) after → formed n codes bytes (listAnswer n codes) ≡ outcome (given k) after
   unfolding listed
   accepted-formed k after e =
       last-case (ltb 5 n) (eqb (length bytes) (byteCount n)) (ltb (firstInvalid n codes) (length codes)) (outcome (refused 6 0) bytes)
-      (outcome (refused 7 (firstInvalid n codes)) bytes) (outcome (refused 9 0) bytes) (formed n codes bytes (steps n codes)) (outcome (given k) after) refl refl refl refl e
+      (outcome (refused 7 (firstInvalid n codes)) bytes) (outcome (refused 9 0) bytes) (formed n codes bytes (listAnswer n codes)) (outcome (given k) after) refl refl refl refl e
 
-  accepted-is : (s : Steps) (k : ℕ) (after : List ℤ) → formed n codes bytes s ≡ outcome (given k) after → Equal n (held n k after) (product n codes)
-  accepted-is allFit k after e =
-      subst (λ (o : Outcome). Equal n (held n (number (o .answer)) (o .bytes)) (product n codes)) e (coefficients-held n (product n codes))
-  accepted-is (unfitAt i) k after e = clash (ap (λ (t : Outcome). isGiven (t .answer)) e) refl
+  accepted-is : (k : ℕ) (after : List ℤ) → listed n codes bytes ≡ outcome (given k) after → Equal n (held n k after) (product n codes)
+  unfolding listAnswer
+  accepted-is k after h = by (steps n codes) (accepted-formed k after h)
+    where
+      by : (s : Steps) → formed n codes bytes (bySteps (product n codes .k) s) ≡ outcome (given k) after → Equal n (held n k after) (product n codes)
+      by allFit e =
+          subst (λ (o : Outcome). Equal n (held n (number (o .answer)) (o .bytes)) (product n codes)) e (coefficients-held n (product n codes))
+      by (unfitAt i) e = clash (ap (λ (t : Outcome). isGiven (t .answer)) e) refl
 
   -- "a list's matrix is its exact product": the paper's product, by value
   accepted-value : (k : ℕ) (after : List ℤ) → listed n codes bytes ≡ outcome (given k) after → SameValue n (paperProduct n codes) (held n k after)
   accepted-value k after e =
-      same-trans n {y = product n codes} (paper-value n codes) (equal-same n (equal-sym n (accepted-is (steps n codes) k after (accepted-formed k after e))))
+      same-trans n {y = product n codes} (paper-value n codes) (equal-same n (equal-sym n (accepted-is k after e)))
 
   -- "in lowest denominator"
   accepted-lowest : (k : ℕ) (after : List ℤ) → listed n codes bytes ≡ outcome (given k) after → Lowest n (held n k after)
-  accepted-lowest k after e = equal-lowest n (equal-sym n (accepted-is (steps n codes) k after (accepted-formed k after e))) (product-lowest n codes)
+  accepted-lowest k after e = equal-lowest n (equal-sym n (accepted-is k after e)) (product-lowest n codes)
 
   -- "refused as too large exactly where a step passes 127"
-  module _ (h : n ≤ 5) (p : length bytes ≡ byteCount n) (v : all (valid n) codes ≡ true) where
-    formed-8 : (i : ℕ) (s : Steps) → formed n codes bytes s .answer ≡ refused 8 i → s ≡ unfitAt i
-    formed-8 i allFit e = clash refl (ap isGiven e)
-    formed-8 i (unfitAt j) e = ap unfitAt (ap number e)
+  answer-is : (a : Answer) → formed n codes bytes a .answer ≡ a
+  answer-is (given k) = refl
+  answer-is (refused a i) = refl
 
-    is-formed : listed n codes bytes ≡ formed n codes bytes (steps n codes)
+  module _ (h : n ≤ 5) (p : length bytes ≡ byteCount n) (v : all (valid n) codes ≡ true) where
+    is-formed : listed n codes bytes ≡ formed n codes bytes (listAnswer n codes)
     unfolding listed
     is-formed = rw (le-ltb 5 n h, eq-eqb (length bytes) (byteCount n) p, le-ltb (firstInvalid n codes) (length codes) (valid-first n codes v))
 
     refused-8-exactly : (i : ℕ) → (listed n codes bytes .answer ≡ refused 8 i) ↔ FirstPast n codes i
     refused-8-exactly i = (
-      λ e. too-large-exactly n h codes i .0 (formed-8 i (steps n codes) (sym (ap (λ (o : Outcome). o .answer) is-formed) ∙ e)),
-      λ f. sym (ap (λ (o : Outcome). o .answer) (list-8 n codes bytes h p (valid-first n codes v) i (too-large-exactly n h codes i .1 f))),
+      λ e. too-large-exactly n h codes i .0 (list-refused n codes (sym (answer-is (listAnswer n codes)) ∙ sym (ap (λ (o : Outcome). o .answer) is-formed) ∙ e)),
+      λ f. sym (ap (λ (o : Outcome). o .answer) (list-8 n codes bytes h p (valid-first n codes v) i (refused-list n codes (too-large-exactly n h codes i .1 f)))),
     )
 
   pub demand-2 : Demand2 n codes bytes

@@ -1,6 +1,6 @@
 -- What the public entries answer, for every input: the values, or the refusal's number and position, and what the lent bytes then hold.
 -- Assumes nothing.
-use mathlib.Core.Bool.{Bool, true, false, not, _&&_, _||_}
+use mathlib.Core.Bool.{Bool, false, _&&_, _||_}
 use mathlib.Core.List.{List, [], _∷_}
 use Prim.Native.Nat.{ℕ, zero, suc, _*_, _^_}
 use lib.IntN.{ℤ, negsuc}
@@ -11,7 +11,7 @@ use Rattle.cyclotomic.specs.Zomega.{Zω, limit, eqZ}
 use Rattle.circuit.specs.Codes.{valid}
 use Rattle.exact.specs.Matrix.{Exact, allDivisible}
 use Rattle.exact.specs.Lists.{product}
-use Rattle.exact.specs.Fits.{Steps, allFit, unfitAt, steps}
+use Rattle.exact.specs.Answers.{Answer, given, refused, listAnswer}
 use Rattle.exact.specs.Phase.{flat}
 use Rattle.exact.specs.Fingerprint.{fingerprint}
 use Rattle.places.specs.Places.{read, held}
@@ -19,11 +19,6 @@ use Rattle.murm.specs.declared.Listed.{Listed}
 use Rattle.murm.specs.declared.Listed.the-variants as l
 use Rattle.murm.specs.declared.Fingerprinted.{Fingerprinted}
 use Rattle.murm.specs.declared.Fingerprinted.the-variants as f
-
--- an entry's answer: a number (the exponent, the fingerprint), or "its number and position"
-pub data Answer : Type 0 where
-  given : ℕ → Answer
-  refused : ℕ → ℕ → Answer
 
 -- ---- sizes and tests of document 01's table "Checked, and where"
 
@@ -59,16 +54,17 @@ pub record Outcome : Type 0 where
 abbrev pub outcome : Answer → List ℤ → Outcome
 outcome a l = record { answer = a; bytes = l }
 
-abbrev pub formed : ℕ → List ℕ → List ℤ → Steps → Outcome
-formed n codes bytes allFit = outcome (given (product n codes .k)) (coefficients n (product n codes))
-formed n codes bytes (unfitAt i) = outcome (refused 8 i) bytes
+-- by the answer to the list: the product's coefficients, or the bytes as they were
+abbrev pub formed : ℕ → List ℕ → List ℤ → Answer → Outcome
+formed n codes bytes (given k) = outcome (given k) (coefficients n (product n codes))
+formed n codes bytes (refused a i) = outcome (refused a i) bytes
 
 -- "An accepted list writes the 4 × 4^n signed bytes and returns the exponent." Rows 6, 9, 7, 8 are tried in this order
 unfoldable pub listed : ℕ → List ℕ → List ℤ → Outcome
 listed n codes bytes =
     pick (ltb 5 n) (outcome (refused 6 0) bytes)
     (pick (eqb (length bytes) (byteCount n))
-    (pick (ltb (firstInvalid n codes) (length codes)) (outcome (refused 7 (firstInvalid n codes)) bytes) (formed n codes bytes (steps n codes)))
+    (pick (ltb (firstInvalid n codes) (length codes)) (outcome (refused 7 (firstInvalid n codes)) bytes) (formed n codes bytes (listAnswer n codes)))
     (outcome (refused 9 0) bytes))
 
 -- the number and the values of each case

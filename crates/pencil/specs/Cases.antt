@@ -13,8 +13,9 @@ use Rattle.generators.specs.Generators.{generators}
 use Rattle.exact.specs.Matrix.{Exact}
 use Rattle.exact.specs.Lists.{product}
 use Rattle.exact.specs.Phase.{flat, phaseOf}
-use Rattle.murm.specs.Entries.{Answer, byteCount, listed}
-use Rattle.murm.specs.Entries as e
+use Rattle.exact.specs.Answers.{Answer}
+use Rattle.exact.specs.Answers as e
+use Rattle.murm.specs.Entries.{byteCount, listed}
 
 -- what a row speaks of: an element, a test, a number, a sum with its refusal's number, an entry's answer with its refusal's number and
 -- position, or a matrix: its exponent and its entries

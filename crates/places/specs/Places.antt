@@ -1,7 +1,7 @@
 -- How 4,096 signed places hold a matrix: four for each entry, row-major. Assumes nothing.
 use mathlib.Core.Path.{_≡_}
 use mathlib.Core.List.{List}
-use Prim.Native.Nat.{ℕ, _+_, _*_, _^_, _<_}
+use Prim.Native.Nat.{ℕ, _+_, _*_, _^_, _≤_, _<_}
 use lib.IntN.{ℤ, pos}
 use lib.ListN.{getD, set}
 use Rattle.cyclotomic.specs.Zomega.{Zω, mk}
@@ -29,3 +29,11 @@ held n k l = record { k = k; e = read n l }
 -- two matrices of width n have the same entries
 pub record Same (n : ℕ) (x y : ℕ → ℕ → Zω) : Type 0 where
   pub at : (r c : ℕ) → r < 2 ^ n → c < 2 ^ n → x r c ≡ y r c
+
+-- the places past those of a matrix of width n hold what they held
+pub record Kept (n : ℕ) (l l′ : List ℤ) : Type 0 where
+  pub past : (j : ℕ) → 4 * (2 ^ n * 2 ^ n) ≤ j → getD l′ j (pos 0) ≡ getD l j (pos 0)
+
+-- the places past those of a matrix of width n are 0
+pub record Blank (n : ℕ) (l : List ℤ) : Type 0 where
+  pub past : (j : ℕ) → 4 * (2 ^ n * 2 ^ n) ≤ j → getD l j (pos 0) ≡ pos 0

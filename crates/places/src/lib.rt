@@ -14,6 +14,14 @@ pub fn dim(n: usize) -> usize
     1 << n
 }
 
+// The mask of bit t of a row's number.
+pub fn mask(t: usize) -> usize
+    requires { ⌜ t ≤ 5 ⌝ }
+    ensures { λ r. ⌜ r ≡ 2 ^ t ⌝ }
+{
+    1 << t
+}
+
 // How many entries.
 pub fn area(n: usize) -> usize
     requires { ⌜ n ≤ 5 ⌝ }
@@ -24,21 +32,7 @@ pub fn area(n: usize) -> usize
 }
 
 // The entry at a place, counted in entries.
-pub fn get(m: &[Coefficient; 4096], e: usize) -> Cyclotomic
-    requires { ⌜ e < 1024 ⌝ }
-    ensures { λ r. ⌜ r ≡ entry (now (m .entry)) e ⌝ }
-{
-    let i = 4 * e;
-    Cyclotomic {
-        a: m[i],
-        b: m[i + 1],
-        c: m[i + 2],
-        d: m[i + 3],
-    }
-}
-
-// The same of a slice, which need not be of 4,096 places.
-pub fn get_in(m: &[Coefficient], e: usize) -> Cyclotomic
+pub fn get(m: &[Coefficient], e: usize) -> Cyclotomic
     requires { ⌜ 4 * e + 3 < length (now m) ⌝ }
     ensures { λ r. ⌜ r ≡ entry (now (m .entry)) e ⌝ }
 {

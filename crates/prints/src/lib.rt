@@ -19,7 +19,7 @@ fn first_nonzero(m: &[Coefficient], size: usize) -> usize
 {
     let mut e = 0;
     while e < size {
-        if !places::get_in(m, e).is_zero() {
+        if !places::get(m, e).is_zero() {
             return e;
         }
         e += 1;
@@ -58,7 +58,7 @@ pub fn canonical_phase_power(m: &[Coefficient], n: usize) -> u8
     if e == size {
         return 0;
     }
-    least_power(places::get_in(m, e))
+    least_power(places::get(m, e))
 }
 
 // Whether two matrices of width n are equal up to phase: same exponent, same entries after each one's own phase.
@@ -82,9 +82,9 @@ pub fn equivalent_up_to_global_phase(
     let size = places::area(n);
     let mut e = 0;
     while e < size {
-        if !places::get_in(left, e)
+        if !places::get(left, e)
             .times_omega(p)
-            .equals(places::get_in(right, e).times_omega(q)) {
+            .equals(places::get(right, e).times_omega(q)) {
             return false;
         }
         e += 1;
@@ -139,7 +139,7 @@ fn mix_entries(m: &[Coefficient], size: usize, power: u8, s: Streams) -> Streams
     let mut t = s;
     let mut e = 0;
     while e < size {
-        t = t.mix_entry(places::get_in(m, e).times_omega(power));
+        t = t.mix_entry(places::get(m, e).times_omega(power));
         e += 1;
     }
     t

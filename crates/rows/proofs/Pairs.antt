@@ -20,8 +20,8 @@ use Rattle.ints.proofs.Bits.{digit-lt, below, and-digit, or-digit}
 use Rattle.ints.proofs.Bools.{clash}
 use Rattle.cyclotomic.proofs.Number.{each}
 use Rattle.exact.proofs.Flips.{bit-own}
-use Rattle.places.specs.Places.{entry, read}
-use Rattle.places.proofs.Placed.{row-le, row-before}
+use Rattle.places.specs.Places.{entry, read, Kept}
+use Rattle.places.proofs.Placed.{row-le, row-before, row-inside, kept-refl}
 use Rattle.cyclotomic.specs.Zomega.{Zω}
 use Rattle.rows.specs.Rows.{has, lowRow, sourceRow, exchangeRows}
 use Rattle.rows.proofs.Sweeps.{Swept}
@@ -105,6 +105,11 @@ module _ (n : ℕ) {l l′ : List ℤ} (r q : ℕ) (w : Exchanged l l′ (4 * (r
       same : (t i : ℕ) → t < 4 → i ≡ 4 * (s * 2 ^ n + c) + t → at l′ i ≡ at l i
       same t i ht e =
           w .other i (λ k h f. apart (2 ^ n) s r c t k b ht h nr (sym e ∙ f)) (λ k h f. apart (2 ^ n) s q c t k b ht h nq (sym e ∙ f))
+
+  pub row-kept : r < 2 ^ n → q < 2 ^ n → Kept n l l′
+  row-kept hr hq = record {
+    past = λ j h. w .other j (λ i b e. omega (arith, row-inside n r hr)) (λ i b e. omega (arith, row-inside n q hq));
+  }
 
 -- ---- a row without the bit is the lower row of its pair, and its partner has the bit
 
@@ -213,6 +218,7 @@ module _ (n control t r : ℕ) {l : List ℤ} where
         long = refl;
         worked = λ s c hs hc e. ap (λ (q : ℕ). read n l q c) (sym (source-off control (2 ^ t) s (by-low s t r e (λ f q. rw q h) (λ f q. rw q (λ k. h (or-had r (2 ^ t) control z k))))));
         other = λ s c hs hc ne. refl;
+        kept = kept-refl n l;
       }
 
   -- nor where it has the bit: it is no pair's lower row
@@ -222,21 +228,25 @@ module _ (n control t r : ℕ) {l : List ℤ} where
         long = refl;
         worked = λ s c hs hc e. by-low s t r e (λ f q. absurd (omega (arith, f, h, pow-pos t))) (λ f q. absurd (omega (arith, f, h, pow-pos t)));
         other = λ s c hs hc ne. refl;
+        kept = kept-refl n l;
       }
 
   pub pair-exchanged :
       {l′ : List ℤ}
+      → t < n
+      → r < 2 ^ n
       → bitAnd r control ≡ control
       → (bitAnd r (2 ^ t) ≡ 2 ^ t → ⊥)
       → Exchanged l l′ (4 * (r * 2 ^ n)) (4 * (bitOr r (2 ^ t) * 2 ^ n)) (4 * 2 ^ n)
       → Worked n (lowRow (2 ^ t)) r (exchangeRows control (2 ^ t) (read n l)) l l′
-  pair-exchanged {l′} h g w =
+  pair-exchanged {l′} ht hr h g w =
       record {
         long = w .long;
         worked = λ s c hs hc e. by-low s t r e
             (λ f q. rw q (row-low n r (bitOr r (2 ^ t)) w c hc ∙ ap (λ (x : ℕ). read n l x c) (sym low-source)))
             (λ f q. rw q (row-high n r (bitOr r (2 ^ t)) w c hc ∙ ap (λ (x : ℕ). read n l x c) (sym high-source)));
         other = λ s c hs hc ne. row-other n r (bitOr r (2 ^ t)) w s c hc (λ q. ne (rw q (low-own r t clear))) (λ q. ne (rw q (low-partner r t clear)));
+        kept = row-kept n r (bitOr r (2 ^ t)) w hr (partner-lt n t r ht hr);
       }
     where
       clear : bitAnd r (2 ^ t) ≡ 0
@@ -249,6 +259,6 @@ module _ (n control t r : ℕ) {l : List ℤ} where
       high-source = source-high control (2 ^ t) (bitOr r (2 ^ t)) (or-keeps r (2 ^ t) control h) (partner-has r (2 ^ t)) ∙ omega (arith, partner-is r t clear)
 
 -- rows of the pair at r have not been worked yet
-pub pair-same : (n control t r : ℕ) {x y : ℕ → ℕ → Zω} {l : List ℤ} → t < n → Swept n (lowRow (2 ^ t)) x y l r
-    → (s c : ℕ) → s < 2 ^ n → c < 2 ^ n → lowRow (2 ^ t) s ≡ r → exchangeRows control (2 ^ t) (read n l) s c ≡ exchangeRows control (2 ^ t) x s c
+pub pair-same : (n control t r : ℕ) {l₀ : List ℤ} {y : ℕ → ℕ → Zω} {l : List ℤ} → t < n → Swept n (lowRow (2 ^ t)) l₀ y l r
+    → (s c : ℕ) → s < 2 ^ n → c < 2 ^ n → lowRow (2 ^ t) s ≡ r → exchangeRows control (2 ^ t) (read n l) s c ≡ exchangeRows control (2 ^ t) (read n l₀) s c
 pair-same n control t r h w s c hs hc e = w .rest (sourceRow control (2 ^ t) s) c (source-lt n control t s h hs) hc (omega (arith, source-pair control t s, e))

@@ -11,12 +11,13 @@ use Rattle.exact.specs.Fits.{AllSmall}
 use Rattle.places.specs.Places.{read}
 use Rattle.rows.specs.Rows.{phaseRows}
 use Rattle.rows.specs.Work.{Turned, SmallFrom}
-use Rattle.places.proofs.Placed.{rows-apart}
+use Rattle.places.proofs.Placed.{rows-apart, kept-entries}
+use Rattle.exact.proofs.Phases.{flat-lt}
 use Rattle.rows.proofs.Sweeps.{Swept, swept-more, swept-pass}
 
 -- row s is worked at s
 abbrev pub Phased : ℕ → ℕ → ℕ → List ℤ → List ℤ → ℕ → Type 0
-Phased n mask power l₀ l r = Swept n (λ s. s) (read n l₀) (phaseRows mask power (read n l₀)) l r
+Phased n mask power l₀ l r = Swept n (λ s. s) l₀ (phaseRows mask power (read n l₀)) l r
 
 module _ (n mask power : ℕ) (l₀ : List ℤ) {l : List ℤ} (r : ℕ) (w : Phased n mask power l₀ l r) (lt : r < 2 ^ n) where
   -- the row is still as it was
@@ -31,6 +32,7 @@ module _ (n mask power : ℕ) (l₀ : List ℤ) {l : List ℤ} (r : ℕ) (w : Ph
         long = t .long;
         worked = λ s c p q e. rw (e, eq-eqb _ _ h) (t .turned c q ∙ ap (turn power) (w .rest r c lt q (omega arith)));
         other = λ s c p q f. t .other (s * 2 ^ n + c) (λ i b e. f (rows-apart n r s c i q b e));
+        kept = kept-entries n (λ k g. t .other k (λ i b e. omega (arith, flat-lt n r i lt b)));
       })
       (λ s c p q e. refl)
 

@@ -4,8 +4,8 @@ use mathlib.Core.List.{List}
 use Prim.Native.Nat.{ℕ, _+_, _^_, _≤_, _<_}
 use lib.IntN.{ℤ, pos}
 use lib.ListN.{length, getD}
-use Rattle.cyclotomic.specs.Zomega.{Zω, limit, turn, overSqrt2, Small}
-use Rattle.places.specs.Places.{places, entry, read}
+use Rattle.cyclotomic.specs.Zomega.{Zω, turn, overSqrt2, Small}
+use Rattle.places.specs.Places.{entry, read, Kept}
 
 -- the place j
 abbrev pub at : List ℤ → ℕ → ℤ
@@ -18,11 +18,12 @@ pub record Exchanged (l l′ : List ℤ) (p q c : ℕ) : Type 0 where
   pub high : (i : ℕ) → i < c → at l′ (q + i) ≡ at l (p + i)
   pub other : (j : ℕ) → ((i : ℕ) → i < c → j ≡ p + i → ⊥) → ((i : ℕ) → i < c → j ≡ q + i → ⊥) → at l′ j ≡ at l j
 
--- the rows with key r became those of y; no other row changed
+-- the rows with key r became those of y; no other row changed, and no place past the matrix
 pub record Worked (n : ℕ) (key : ℕ → ℕ) (r : ℕ) (y : ℕ → ℕ → Zω) (l l′ : List ℤ) : Type 0 where
   pub long : length l′ ≡ length l
   pub worked : (s c : ℕ) → s < 2 ^ n → c < 2 ^ n → key s ≡ r → read n l′ s c ≡ y s c
   pub other : (s c : ℕ) → s < 2 ^ n → c < 2 ^ n → (key s ≡ r → ⊥) → read n l′ s c ≡ read n l s c
+  pub kept : Kept n l l′
 
 -- c entries from e on were turned by omega^power; no other entry changed
 pub record Turned (power : ℕ) (l l′ : List ℤ) (e c : ℕ) : Type 0 where

@@ -7,7 +7,7 @@ ghost use lib.ListN.{length};
 ghost use lib.Bits.{bitAnd};
 ghost use Rattle.exact.specs.Matrix.{allDivisible};
 ghost use Rattle.exact.specs.Fits.{AllSmall};
-ghost use Rattle.places.specs.Places.{places, read, Same};
+ghost use Rattle.places.specs.Places.{places, read, Same, Kept};
 ghost use Rattle.rows.specs.Rows.{phaseRows, lowRow, exchangeRows, dividedAll};
 ghost use Rattle.rows.specs.Work.{Worked, Exchanged, Turned, SmallFrom};
 use cyclotomic::Coefficient;
@@ -39,7 +39,7 @@ fn exchange_row(m: &mut [Coefficient; 4096], n: usize, r: usize, control: usize,
     if r & control != control {
         return;
     }
-    let bit = places::dim(t);
+    let bit = places::mask(t);
     if r & bit == bit {
         return;
     }
@@ -54,6 +54,7 @@ pub fn apply_controlled_x_left(m: &mut [Coefficient; 4096], n: usize, control: u
     requires { ⌜ bitAnd control (2 ^ t) ≡ 0 ⌝ }
     ensures { λ _. ⌜ length (now (m .exit)) ≡ places ⌝ }
     ensures { λ _. ⌜ Same n (read n (now (m .exit))) (exchangeRows control (2 ^ t) (read n (now (m .entry)))) ⌝ }
+    ensures { λ _. ⌜ Kept n (now (m .entry)) (now (m .exit)) ⌝ }
 {
     let d = places::dim(n);
     let mut r = 0;
@@ -85,6 +86,7 @@ fn phase_rows(m: &mut [Coefficient; 4096], n: usize, mask: usize, power: u8)
     requires { ⌜ AllSmall n (read n (now m)) ⌝ }
     ensures { λ _. ⌜ length (now (m .exit)) ≡ places ⌝ }
     ensures { λ _. ⌜ Same n (read n (now (m .exit))) (phaseRows mask power (read n (now (m .entry)))) ⌝ }
+    ensures { λ _. ⌜ Kept n (now (m .entry)) (now (m .exit)) ⌝ }
 {
     let d = places::dim(n);
     let mut r = 0;
@@ -103,6 +105,7 @@ pub fn apply_phase_left(m: &mut [Coefficient; 4096], n: usize, mask: usize, powe
     requires { ⌜ AllSmall n (read n (now m)) ⌝ }
     ensures { λ _. ⌜ length (now (m .exit)) ≡ places ⌝ }
     ensures { λ _. ⌜ Same n (read n (now (m .exit))) (phaseRows mask power (read n (now (m .entry)))) ⌝ }
+    ensures { λ _. ⌜ Kept n (now (m .entry)) (now (m .exit)) ⌝ }
 {
     match power {
         1 => phase_rows(m, n, mask, 1),
@@ -123,7 +126,7 @@ pub fn all_divisible(m: &[Coefficient], n: usize) -> bool
     let size = places::area(n);
     let mut e = 0;
     while e < size {
-        if !places::get_in(m, e).divisible_by_sqrt_2() {
+        if !places::get(m, e).divisible_by_sqrt_2() {
             return false;
         }
         e += 1;
@@ -138,6 +141,7 @@ pub fn divide_all(m: &mut [Coefficient; 4096], n: usize)
     requires { ⌜ AllSmall n (read n (now m)) ⌝ }
     ensures { λ _. ⌜ length (now (m .exit)) ≡ places ⌝ }
     ensures { λ _. ⌜ Same n (read n (now (m .exit))) (dividedAll (read n (now (m .entry)))) ⌝ }
+    ensures { λ _. ⌜ Kept n (now (m .entry)) (now (m .exit)) ⌝ }
 {
     let size = places::area(n);
     let mut e = 0;

@@ -3,6 +3,7 @@ use borrow.Author.Needs.{needs}
 use borrow.Author.Tests.{not-true, not-false}
 use mathlib.Core.Path.{refl}
 use Rattle.ints.proofs.Bools.{clash}
+use Rattle.places.proofs.Placed.{kept-refl}
 use Rattle.h_rows.proofs.apply_h_left.Statement.{statement}
 use Rattle.h_rows.proofs.apply_h_left.Tie as tie
 
@@ -11,6 +12,7 @@ returns c = record {
   long = c .before .before .before .pre .0;
   done = λ h. clash h refl;
   refused = λ h. (refl, c .before .h-fits .ensures .fails (not-true _ (c .if1 .taken)));
+  kept = kept-refl _ _;
 }
 
 h-rows-requires : tie.Need-h-rows-requires
@@ -21,8 +23,9 @@ h-rows-requires c κs =
 returns-2 : tie.Need-returns-2
 returns-2 c = record {
   long = c .h-rows .ensures .0;
-  done = λ h. (c .h-rows .ensures .1, c .before .before .before .h-fits .ensures .holds (not-false _ (c .before .before .if1 .left)));
+  done = λ h. (c .h-rows .ensures .1 .0, c .before .before .before .h-fits .ensures .holds (not-false _ (c .before .before .if1 .left)));
   refused = λ h. clash refl h;
+  kept = c .h-rows .ensures .1 .1;
 }
 
 pub apply-h-left-spec : {M : Type 1} → statement M

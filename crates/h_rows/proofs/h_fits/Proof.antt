@@ -22,7 +22,7 @@ loop-holds c = (search needs, fits-none)
 pair-fits-requires : tie.Need-pair-fits-requires Inv-loop μ-loop
 pair-fits-requires c κs =
     let s = c .before .before .before .before in
-    (s .pre .0, omega (arith, c .before .before .before .dim .ensures), rw (c .before .before .dim2 .ensures) (pow-lt (s .pre .1)))
+    (s .pre .0, omega (arith, c .before .before .before .dim .ensures), rw (c .before .before .mask .ensures) (pow-lt (s .pre .1)))
 
 returns : tie.Need-returns Inv-loop μ-loop
 returns c =
@@ -30,13 +30,13 @@ returns c =
     record {
       holds = λ h. clash h refl;
       fails = λ h w. c .before .pair-fits .ensures .fails (not-true _ (c .if1 .taken))
-          (rw (c .before .before .before .before .dim2 .ensures) (all-pair (s .args .t) w (s .pre .1) (omega (arith, c .before .before .before .before .before .dim .ensures))));
+          (rw (c .before .before .before .before .mask .ensures) (all-pair (s .args .t) w (s .pre .1) (omega (arith, c .before .before .before .before .before .dim .ensures))));
     }
 
 loop-again : tie.Need-loop-again Inv-loop μ-loop
 loop-again c = (
   omega arith,
-  fits-more (c .before .before .before .loop .inv .1) (rw (c .before .before .before .before .dim2 .ensures) at (c .before .pair-fits .ensures .holds (not-false _ (c .if1 .left)))),
+  fits-more (c .before .before .before .loop .inv .1) (rw (c .before .before .before .before .mask .ensures) at (c .before .pair-fits .ensures .holds (not-false _ (c .if1 .left)))),
 )
 
 returns-2 : tie.Need-returns-2 Inv-loop μ-loop

@@ -24,20 +24,24 @@ sum-row-pair-requires c κs =
     let p = s .pre .1 in (
       i .inv .1 .long ∙ s .pre .0,
       (
-        (p .0 .0, omega (arith, c .before .before .before .before .dim .ensures), rw (c .before .before .before .dim2 .ensures) (pow-lt (p .0 .1))),
-        rw (c .before .before .before .dim2 .ensures) (half-fits (s .args .t) (i .inv .1) (all-pair (s .args .t) (p .1) (p .0 .1) (omega (arith, c .before .before .before .before .dim .ensures)))),
+        (p .0 .0, omega (arith, c .before .before .before .before .dim .ensures), rw (c .before .before .before .mask .ensures) (pow-lt (p .0 .1))),
+        rw (c .before .before .before .mask .ensures) (half-fits (s .args .t) (i .inv .1) (all-pair (s .args .t) (p .1) (p .0 .1) (omega (arith, c .before .before .before .before .dim .ensures)))),
       ),
     )
 
 loop-again : tie.Need-loop-again Inv-loop μ-loop
 loop-again c =
-    (omega arith, half-more (c .before .before .before .before .before .before .args .t) (c .before .before .before .loop .inv .1) (rw (c .before .before .before .before .dim2 .ensures) at (c .sum-row-pair .ensures)))
+    let s = c .before .before .before .before .before .before in (
+      omega arith,
+      half-more (s .args .t) (c .before .before .before .loop .inv .1) (s .pre .1 .0 .1) (omega (arith, c .before .before .before .before .before .dim .ensures))
+          (rw (c .before .before .before .before .mask .ensures) at (c .sum-row-pair .ensures)),
+    )
 
 returns : tie.Need-returns Inv-loop μ-loop
 returns c =
     let s = c .before .before .before .before in
     let w = c .before .loop .inv .1 in
-    (w .long ∙ s .pre .0, half-end (s .args .t) w (omega (arith, c .before .before .before .dim .ensures)))
+    (w .long ∙ s .pre .0, (half-end (s .args .t) w (omega (arith, c .before .before .before .dim .ensures)), w .kept))
 
 pub h-rows-spec : {M : Type 1} → statement M
 h-rows-spec =

@@ -1,5 +1,5 @@
 -- `sum_row` meets its contract: the entries not passed are as they were, so each pair read is the old one, whose sum and difference fit.
-use Prim.Native.Nat.{_+_, _-_, _≤_}
+use Prim.Native.Nat.{_+_, _-_, _≤_, _<_}
 use native.Mathlib.Omega.{arith}
 use borrow.Author.Needs.{needs}
 use mathlib.Core.Path.{_≡_, refl, _∙_}
@@ -17,29 +17,43 @@ abbrev μ-loop : tie.MeasureT-loop
 
 -- what was read of the pair
 low-is : (c : tie.After-get2 Inv-loop μ-loop)
-    → c .before .before .get .result ≡ entry (c .before .before .before .before .before .before .args .m .now) (c .before .before .before .before .before .before .args .e + c .before .before .before .before .before .loop .i)
-low-is c = c .before .before .get .ensures ∙ summed-low (c .before .before .before .before .before .loop .inv .1) (c .before .before .before .before .before .before .pre .1 .0 .0) (c .before .before .before .before .loop-test .taken)
+    → c .before .before .before .get .result ≡ entry (c .before .before .before .before .before .before .before .before .args .m .now) (c .before .before .before .before .before .before .before .before .args .e + c .before .before .before .before .before .before .before .loop .i)
+low-is c = c .before .before .before .get .ensures ∙ summed-low (c .before .before .before .before .before .before .before .loop .inv .1) (c .before .before .before .before .before .before .before .before .pre .1 .0 .0) (c .before .before .before .before .before .before .loop-test .taken)
 
 high-is : (c : tie.After-get2 Inv-loop μ-loop)
-    → c .get2 .result ≡ entry (c .before .before .before .before .before .before .args .m .now) (c .before .before .before .before .before .before .args .f + c .before .before .before .before .before .loop .i)
-high-is c = c .get2 .ensures ∙ summed-high (c .before .before .before .before .before .loop .inv .1) (c .before .before .before .before .before .before .pre .1 .0 .0) (c .before .before .before .before .loop-test .taken)
+    → c .get2 .result ≡ entry (c .before .before .before .before .before .before .before .before .args .m .now) (c .before .before .before .before .before .before .before .before .args .f + c .before .before .before .before .before .before .before .loop .i)
+high-is c = c .get2 .ensures ∙ summed-high (c .before .before .before .before .before .before .before .loop .inv .1) (c .before .before .before .before .before .before .before .before .pre .1 .0 .0) (c .before .before .before .before .before .before .loop-test .taken)
+
+-- both rows lie in the array
+inside : (c : tie.After-get2 Inv-loop μ-loop) → c .before .before .before .before .before .before .before .before .args .f + c .before .before .before .before .before .before .before .loop .i < 1024
+inside c = omega (arith, c .before .before .before .before .before .before .loop-test .taken, c .before .before .before .before .before .before .before .before .pre .1 .0)
+
+get-requires : tie.Need-get-requires Inv-loop μ-loop
+get-requires c κs =
+    let s = c .before .before .before .before in
+    omega (arith, c .before .before .before .loop .inv .1 .long, s .pre .0, s .pre .1 .0)
+
+get-requires-2 : tie.Need-get-requires-2 Inv-loop μ-loop
+get-requires-2 c κs =
+    let s = c .before .before .before .before .before .before .before in
+    omega (arith, c .before .before .before .before .before .before .loop .inv .1 .long, s .pre .0, s .pre .1 .0)
 
 add-requires : tie.Need-add-requires Inv-loop μ-loop
 add-requires c κs =
     let g = c .before in
-    rw (low-is g, high-is g) (g .before .before .before .before .before .before .pre .1 .1 .sum-fits (g .before .before .before .before .before .loop .i) (g .before .before .before .before .loop-test .taken))
+    rw (low-is g, high-is g) (g .before .before .before .before .before .before .before .before .pre .1 .1 .sum-fits (g .before .before .before .before .before .before .before .loop .i) (g .before .before .before .before .before .before .loop-test .taken))
 
 subtract-requires : tie.Need-subtract-requires Inv-loop μ-loop
 subtract-requires c κs =
     let g = c .before .before .before .before in
-    rw (low-is g, high-is g) (g .before .before .before .before .before .before .pre .1 .1 .difference-fits (g .before .before .before .before .before .loop .i) (g .before .before .before .before .loop-test .taken))
+    rw (low-is g, high-is g) (g .before .before .before .before .before .before .before .before .pre .1 .1 .difference-fits (g .before .before .before .before .before .before .before .loop .i) (g .before .before .before .before .before .before .loop-test .taken))
 
 loop-again : tie.Need-loop-again Inv-loop μ-loop
 loop-again c =
     let g = c .before .before .before .before .before .before in
-    let s = g .before .before .before .before .before .before in (
+    let s = g .before .before .before .before .before .before .before .before in (
       omega arith,
-      summed-more (g .before .before .before .before .before .loop .inv .1) (s .pre .1 .0 .0) (g .before .before .before .before .loop-test .taken) (s .pre .0) (s .pre .1 .0 .1)
+      summed-more (g .before .before .before .before .before .before .before .loop .inv .1) (s .pre .1 .0 .0) (g .before .before .before .before .before .before .loop-test .taken) (s .pre .0) (s .pre .1 .0 .1)
           (c .before .before .before .before .add .ensures ∙ rw (low-is g, high-is g) refl) (c .before .subtract .ensures ∙ rw (low-is g, high-is g) refl)
           (c .before .before .before .put-at .ensures) (c .put-at2 .ensures),
     )
@@ -55,16 +69,16 @@ sum-row-spec =
     μ-loop
     (λ c. (search needs, summed-none _ _ _))
     (λ c. search needs)
-    (λ c κs. search needs)
+    get-requires
     (λ c. search needs)
-    (λ c κs. search needs)
+    get-requires-2
     (λ c. search needs)
     add-requires
     (λ c κs. search needs)
     (λ c. search needs)
     subtract-requires
-    (λ c κs. search needs)
-    (λ c. search needs)
+    (λ c κs. inside (c .before .before .before .before .before))
+    (λ c. omega (arith, inside (c .before .before .before .before .before .before)))
     (λ c. search needs)
     loop-again
     returns)

@@ -6,9 +6,9 @@ use Rattle.matrix.proofs.exchange_step.Statement.{statement}
 use Rattle.matrix.proofs.exchange_step.Tie as tie
 
 returns : tie.Need-returns
-returns c = record {
-  by = exchange-stepped _ _ _ _ (c .before .before .pre .1 .1) _ _ (omega arith) (c .apply-controlled-x-left .ensures .0) (c .apply-controlled-x-left .ensures .1);
-}
+returns c =
+    let w = c .apply-controlled-x-left .ensures in
+    record { by = exchange-stepped _ _ _ _ (c .before .before .pre .1 .1) _ _ (omega arith) (w .0) (w .1 .0) (w .1 .1) }
 
 pub exchange-step-spec : {M : Type 1} → statement M
 exchange-step-spec = tie.close (tie.spec (λ c κs. search needs) returns)

@@ -31,7 +31,7 @@ loop-again : tie.Need-loop-again Inv-loop μ-loop
 loop-again c =
     lowering-more _ _ _ _ (c .before .before .before .before .before .before .before .loop .inv) (omega arith)
     (sym (c .before .before .before .all-divisible .ensures) ∙ not-false _ (c .before .before .if1 .left))
-    (c .divide-all .ensures .0) (c .divide-all .ensures .1)
+    (c .divide-all .ensures .0) (c .divide-all .ensures .1 .0) (c .divide-all .ensures .1 .1)
 
 returns-2 : tie.Need-returns-2 Inv-loop μ-loop
 returns-2 c = lowering-end _ _ _ (c .before .loop .inv) (λ h. absurd (omega arith))

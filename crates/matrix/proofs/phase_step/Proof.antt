@@ -6,7 +6,9 @@ use Rattle.matrix.proofs.phase_step.Statement.{statement}
 use Rattle.matrix.proofs.phase_step.Tie as tie
 
 returns : tie.Need-returns
-returns c = record { by = phase-stepped _ _ _ _ (c .before .before .pre .1) _ _ (omega arith) (c .apply-phase-left .ensures .0) (c .apply-phase-left .ensures .1) }
+returns c =
+    let w = c .apply-phase-left .ensures in
+    record { by = phase-stepped _ _ _ _ (c .before .before .pre .1) _ _ (omega arith) (w .0) (w .1 .0) (w .1 .1) }
 
 pub phase-step-spec : {M : Type 1} → statement M
 phase-step-spec = tie.close (tie.spec (λ c κs. search needs) returns)

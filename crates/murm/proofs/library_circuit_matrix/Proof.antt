@@ -1,17 +1,18 @@
 -- `library_circuit_matrix` meets its contract: each test that was passed decides its row of the definition, and an accepted list's places
 -- are copied out.
-use mathlib.Core.Path.{_≡_, refl, sym, ap, _∙_, subst}
+use mathlib.Core.Path.{_≡_, sym, ap, _∙_, subst}
 use mathlib.Core.List.{List}
 use lib.IntN.{ℤ}
-use Prim.Native.Nat.{ℕ, _*_, _-_, _≤_, _<_}
+use Prim.Native.Nat.{ℕ, _*_, _-_, _≤_}
 use native.Mathlib.Omega.{arith}
 use lib.ListN.{length, take}
 use borrow.Author.Needs.{needs}
 use Rattle.places.proofs.Placed.{area-le}
+use Rattle.exact.specs.Answers.{refused}
 use Rattle.lists.specs.Walk.{Ended}
 use Rattle.lists.specs.declared.Walked.{Walked}
-use Rattle.murm.specs.Entries.{byteCount, firstInvalid, refused, outcome}
-use Rattle.murm.proofs.Bytes.{byte-count, places-are}
+use Rattle.murm.specs.Entries.{byteCount, firstInvalid, outcome}
+use Rattle.murm.proofs.Bytes.{byte-count}
 use Rattle.murm.proofs.Checks.{all-valid}
 use Rattle.murm.proofs.Answers.{list-6, list-9, list-7, list-8, list-held}
 use Rattle.murm.proofs.library_circuit_matrix.Statement.{statement}
@@ -49,7 +50,7 @@ codes-valid c = omega (arith, c .before .first-invalid .ensures, c .if3 .left)
 apply-gates-requires : tie.Need-apply-gates-requires
 apply-gates-requires c κs =
     let e = c .before .before .before in
-    (sized (e .before .before .before) .0, (all-valid _ _ (codes-valid e), c .before .before .identity .ensures .holds))
+    (sized (e .before .before .before) .0, (all-valid _ _ (codes-valid e), c .before .before .identity .ensures .0 .holds))
 
 -- how the list ended, where the answer is known
 ended : {n : ℕ} {codes : List ℕ} {l : List ℤ} {r s : Walked} → r ≡ s → Ended n codes l r → Ended n codes l s
@@ -57,27 +58,27 @@ ended {n} {codes} {l} e w = subst (λ (x : Walked). Ended n codes l x) e w
 
 part-copy-places-end : tie.Need-part-copy-places-end
 part-copy-places-end c =
-    let w = ended (c .before .before .before .k .given .1) (c .before .before .before .before .before .apply-gates .ensures) in
+    let w = ended (c .before .before .before .k .given .1) (c .before .before .before .before .before .apply-gates .ensures .0) in
     let a = c .before .before .before .before .before .before .before .before .before .before .before .before in
-    omega (arith, w .end .2 .long, a .area .ensures, area-le (a .before .before .before .args .width) (sized a .0))
+    omega (arith, w .end .long, a .area .ensures, area-le (a .before .before .before .args .width) (sized a .0))
 
 returns-4 : tie.Need-returns-4
 returns-4 c =
     let e = c .before .before .before .before .before .before .before .before .before .before .before .before in
     let s = e .before .before .before .before .before .before .args in
-    let w = ended (c .before .before .before .before .before .before .k .given .1) (c .before .before .before .before .before .before .before .before .apply-gates .ensures) in
+    let w = ended (c .before .before .before .before .before .before .k .given .1) (c .before .before .before .before .before .before .before .before .apply-gates .ensures .0) in
     let l = c .before .before .before .before .before .before .before .before .apply-gates .last .0 in
     let a = e .before .before .before in
     let size : 4 * (a .area .result) - 0 ≡ byteCount (s .width) = omega (arith, sized a .1) in
     let copied = c .before .copy-places .ensures ∙ ap (λ (k : ℕ). take k l) size in
-    list-held (s .width) (s .codes .now) (s .out .now) (sized a .0) (exact (e .before .before)) (codes-valid e) _ l _ copied (w .end .0) (w .end .1) (w .end .2)
+    list-held (s .width) (s .codes .now) (s .out .now) (sized a .0) (exact (e .before .before)) (codes-valid e) _ l _ copied (w .answer) (w .end)
 
 returns-5 : tie.Need-returns-5
 returns-5 c =
     let s = c .before .before .before .before .before .before .before .before .before .before .before .before .before .args in
-    let w = ended (c .before .j .given .1) (c .before .before .before .apply-gates .ensures) in
+    let w = ended (c .before .j .given .1) (c .before .before .before .apply-gates .ensures .0) in
     let e = c .before .before .before .before .before .before .before in
-    list-8 (s .width) (s .codes .now) (s .out .now) (sized (e .before .before .before) .0) (exact (e .before .before)) (codes-valid e) _ (w .end .0)
+    list-8 (s .width) (s .codes .now) (s .out .now) (sized (e .before .before .before) .0) (exact (e .before .before)) (codes-valid e) _ (w .answer)
 
 pub library-circuit-matrix-spec : {M : Type 1} → statement M
 library-circuit-matrix-spec =

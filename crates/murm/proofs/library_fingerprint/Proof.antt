@@ -8,7 +8,8 @@ use lib.ListN.{length}
 use borrow.Author.Needs.{needs}
 use borrow.Author.Tests.{not-true, not-false}
 use Rattle.places.proofs.Placed.{area-le}
-use Rattle.murm.specs.Entries.{given, byteCount, lowestByte}
+use Rattle.exact.specs.Answers.{given}
+use Rattle.murm.specs.Entries.{byteCount, lowestByte}
 use Rattle.murm.specs.Work.{InRange}
 use Rattle.murm.proofs.Bytes.{byte-count, bytes-small}
 use Rattle.murm.proofs.Answers.{print-6, print-9, print-10, print-11, print-given}

@@ -1,6 +1,5 @@
 -- `past_limit` meets its contract: a byte below the limit's negative is -128. The comparison is made in the wide type.
 use borrow.Author.Needs.{needs}
-use mathlib.Core.Path.{_≡_, _∙_, sym}
 use mir.Facts.{toZ-ofZ, sfits-widen}
 use Rattle.cyclotomic.specs.Zomega.{near, far}
 use Rattle.ints.proofs.Machine.{read-wide}

@@ -23,19 +23,19 @@ first-nonzero-requires c κs = rw (c .area .ensures) (c .before .pre .1 .0)
 returns : tie.Need-returns
 returns c = sym (phase-none _ 0 _ _ (found (c .before)) (omega (arith, c .before .before .area .ensures)))
 
-get-in-requires : tie.Need-get-in-requires
-get-in-requires c κs = omega (arith, inside c, c .before .before .before .pre .1 .0)
+get-requires : tie.Need-get-requires
+get-requires c κs = omega (arith, inside c, c .before .before .before .pre .1 .0)
 
 least-power-requires : tie.Need-least-power-requires
 least-power-requires c κs =
-    rw (c .get-in .ensures) (small-at _ _ _ (c .before .before .before .before .pre .1 .1) (inside (c .before)))
+    rw (c .get .ensures) (small-at _ _ _ (c .before .before .before .before .pre .1 .1) (inside (c .before)))
 
 returns-2 : tie.Need-returns-2
 returns-2 c =
-    c .least-power .ensures ∙ ap phase (c .before .get-in .ensures)
+    c .least-power .ensures ∙ ap phase (c .before .get .ensures)
     ∙ sym (phase-at _ 0 _ _ (found (c .before .before .before)) (inside (c .before .before)))
 
 pub canonical-phase-power-spec : {M : Type 1} → statement M
 canonical-phase-power-spec =
     tie.close
-    (tie.spec (λ c κs. search needs) first-nonzero-requires returns get-in-requires least-power-requires returns-2)
+    (tie.spec (λ c κs. search needs) first-nonzero-requires returns get-requires least-power-requires returns-2)

@@ -35,16 +35,16 @@ test c =
     c .equals .ensures
     ∙ rw (
       c .before .before .before .times-omega .ensures,
-      c .before .before .before .before .get-in .ensures,
+      c .before .before .before .before .get .ensures,
       c .before .times-omega2 .ensures,
-      c .before .before .get-in2 .ensures,
+      c .before .before .get2 .ensures,
     )
 
-get-in-requires : tie.Need-get-in-requires Inv-loop μ-loop
-get-in-requires c κs = let s = c .before .before .before .before .before .before in omega (arith, inside c, s .pre .1 .0 .0)
+get-requires : tie.Need-get-requires Inv-loop μ-loop
+get-requires c κs = let s = c .before .before .before .before .before .before in omega (arith, inside c, s .pre .1 .0 .0)
 
-get-in-requires-2 : tie.Need-get-in-requires-2 Inv-loop μ-loop
-get-in-requires-2 c κs =
+get-requires-2 : tie.Need-get-requires-2 Inv-loop μ-loop
+get-requires-2 c κs =
     let d = c .before .before in
     let s = d .before .before .before .before .before .before in
     omega (arith, inside d, s .pre .1 .0 .1)
@@ -53,11 +53,11 @@ returns : tie.Need-returns Inv-loop μ-loop
 returns c = sym (exponents-differ _ _ _ _ _ (λ q. omega arith))
 
 times-omega-requires : tie.Need-times-omega-requires Inv-loop μ-loop
-times-omega-requires c κs = rw (c .get-in .ensures) (small-at _ _ _ (c .before .before .before .before .before .before .before .pre .1 .1 .0) (inside (c .before)))
+times-omega-requires c κs = rw (c .get .ensures) (small-at _ _ _ (c .before .before .before .before .before .before .before .pre .1 .1 .0) (inside (c .before)))
 
 times-omega-requires-2 : tie.Need-times-omega-requires-2 Inv-loop μ-loop
 times-omega-requires-2 c κs =
-    rw (c .get-in2 .ensures) (small-at _ _ _ (c .before .before .before .before .before .before .before .before .before .pre .1 .1 .1) (inside (c .before .before .before)))
+    rw (c .get2 .ensures) (small-at _ _ _ (c .before .before .before .before .before .before .before .before .before .pre .1 .1 .1) (inside (c .before .before .before)))
 
 returns-2 : tie.Need-returns-2 Inv-loop μ-loop
 returns-2 c =
@@ -91,9 +91,9 @@ equivalent-up-to-global-phase-spec =
     (λ c κs. search needs)
     (λ c κs. search needs)
     (λ c. (omega arith, λ i h. absurd (omega arith)))
-    get-in-requires
+    get-requires
     times-omega-requires
-    get-in-requires-2
+    get-requires-2
     times-omega-requires-2
     (λ c κs. search needs)
     returns-2

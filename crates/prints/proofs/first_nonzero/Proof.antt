@@ -22,14 +22,14 @@ returns : tie.Need-returns Inv-loop μ-loop
 returns c = record {
   within = omega arith;
   before = c .before .before .before .before .loop .inv .1;
-  found = λ h. fails (c .before .is-zero .ensures ∙ ap isZero (c .before .before .get-in .ensures)) (c .if1 .taken);
+  found = λ h. fails (c .before .is-zero .ensures ∙ ap isZero (c .before .before .get .ensures)) (c .if1 .taken);
 }
 
 loop-again : tie.Need-loop-again Inv-loop μ-loop
 loop-again c = (
   omega arith,
   below-more _ _ (c .before .before .before .before .loop .inv .1)
-      (holds (c .before .is-zero .ensures ∙ ap isZero (c .before .before .get-in .ensures)) (c .if1 .left)),
+      (holds (c .before .is-zero .ensures ∙ ap isZero (c .before .before .get .ensures)) (c .if1 .left)),
 )
 
 returns-2 : tie.Need-returns-2 Inv-loop μ-loop

@@ -20,14 +20,14 @@ abbrev μ-loop : tie.MeasureT-loop
 
 times-omega-requires : tie.Need-times-omega-requires Inv-loop μ-loop
 times-omega-requires c κs =
-    rw (c .get-in .ensures) (c .before .before .before .pre .1 .small (c .before .before .loop .e) (c .before .loop-test .taken))
+    rw (c .get .ensures) (c .before .before .before .pre .1 .small (c .before .before .loop .e) (c .before .loop-test .taken))
 
 loop-again : tie.Need-loop-again Inv-loop μ-loop
 loop-again c =
     let l = c .before .before .before .before .loop in (
       omega arith,
       rw (add-one (l .e))
-          (c .mix-entry .ensures ∙ rw (c .before .times-omega .ensures, c .before .before .get-in .ensures, l .inv .1) (sym (words-last (l .e) _ _))),
+          (c .mix-entry .ensures ∙ rw (c .before .times-omega .ensures, c .before .before .get .ensures, l .inv .1) (sym (words-last (l .e) _ _))),
     )
 
 returns : tie.Need-returns Inv-loop μ-loop

@@ -9,7 +9,7 @@ use borrow.Author.Needs.{needs}
 use borrow.Author.Tests.{not-true, not-false}
 use Rattle.cyclotomic.specs.Zomega.{divisible}
 use Rattle.places.specs.Places.{entry}
-use Rattle.places.proofs.Placed.{area-le, divisible-yes, divisible-no}
+use Rattle.places.proofs.Placed.{divisible-yes, divisible-no}
 use Rattle.rows.proofs.all_divisible.Statement.{statement}
 use Rattle.rows.proofs.all_divisible.Tie as tie
 
@@ -28,7 +28,7 @@ inside c = omega (arith, c .before .before .before .pre .1, c .before .before .a
 -- the test is the entry's
 test-is : (c : tie.After-divisible-by-sqrt-2 Inv-loop μ-loop)
     → divisible (entry (c .before .before .before .before .before .args .m .now) (c .before .before .before .loop .e)) ≡ c .divisible-by-sqrt-2 .result
-test-is c = ap divisible (sym (c .before .get-in .ensures)) ∙ sym (c .divisible-by-sqrt-2 .ensures)
+test-is c = ap divisible (sym (c .before .get .ensures)) ∙ sym (c .divisible-by-sqrt-2 .ensures)
 
 returns : tie.Need-returns Inv-loop μ-loop
 returns c =

@@ -10,7 +10,7 @@ use Rattle.rows.proofs.apply_controlled_x_left.Statement.{statement}
 use Rattle.rows.proofs.apply_controlled_x_left.Tie as tie
 
 abbrev Inv-loop : tie.InvT-loop
-Inv-loop m₀ n control t d r₀ m r = Swept n (lowRow (2 ^ t)) (read n m₀) (exchangeRows control (2 ^ t) (read n m₀)) m r
+Inv-loop m₀ n control t d r₀ m r = Swept n (lowRow (2 ^ t)) m₀ (exchangeRows control (2 ^ t) (read n m₀)) m r
 
 abbrev μ-loop : tie.MeasureT-loop
 μ-loop m₀ n control t d r₀ m r = d - r
@@ -39,7 +39,9 @@ loop-again c =
     swept-more _ _ (i .r) (i .inv) (c .exchange-row .ensures) (pair-same _ _ (s .args .t) (i .r) (s .pre .1 .0 .1) (i .inv))
 
 returns : tie.Need-returns Inv-loop μ-loop
-returns c = (c .before .loop .inv .long, swept-end _ _ (c .before .loop .r) (c .before .loop .inv) (λ s h. omega (arith, c .before .before .dim .ensures)))
+returns c =
+    let w = c .before .loop .inv in
+    (w .long, (swept-end _ _ (c .before .loop .r) w (λ s h. omega (arith, c .before .before .dim .ensures)), w .kept))
 
 pub apply-controlled-x-left-spec : {M : Type 1} → statement M
 apply-controlled-x-left-spec =

@@ -4,19 +4,19 @@ use Rattle.rows.proofs.apply_phase_left.Statement.{statement}
 use Rattle.rows.proofs.apply_phase_left.Tie as tie
 
 returns : tie.Need-returns
-returns c = (c .phase-rows .ensures .0, rw (c .before .before .match .keys1) (c .phase-rows .ensures .1))
+returns c = rw (c .before .before .match .keys1) (c .phase-rows .ensures)
 
 returns-2 : tie.Need-returns-2
-returns-2 c = (c .phase-rows2 .ensures .0, rw (c .before .before .match .keys2) (c .phase-rows2 .ensures .1))
+returns-2 c = rw (c .before .before .match .keys2) (c .phase-rows2 .ensures)
 
 returns-3 : tie.Need-returns-3
-returns-3 c = (c .phase-rows3 .ensures .0, rw (c .before .before .match .keys3) (c .phase-rows3 .ensures .1))
+returns-3 c = rw (c .before .before .match .keys3) (c .phase-rows3 .ensures)
 
 returns-4 : tie.Need-returns-4
-returns-4 c = (c .phase-rows4 .ensures .0, rw (c .before .before .match .keys4) (c .phase-rows4 .ensures .1))
+returns-4 c = rw (c .before .before .match .keys4) (c .phase-rows4 .ensures)
 
 returns-5 : tie.Need-returns-5
-returns-5 c = (c .phase-rows5 .ensures .0, rw (c .before .before .match .keys5) (c .phase-rows5 .ensures .1))
+returns-5 c = rw (c .before .before .match .keys5) (c .phase-rows5 .ensures)
 
 pub apply-phase-left-spec : {M : Type 1} → statement M
 apply-phase-left-spec =

@@ -10,26 +10,26 @@ use Rattle.rows.proofs.exchange_row.Tie as tie
 -- where the pair's rows lie
 within :
     (c : tie.After-exchange-places-arg)
-    → (c .before .before .before .before .before .args .r * c .before .dim2 .result + c .before .dim2 .result
-    ≤ bitOr (c .before .before .before .before .before .args .r) (c .before .before .before .dim .result) * c .before .dim2 .result)
-    × (bitOr (c .before .before .before .before .before .args .r) (c .before .before .before .dim .result) * c .before .dim2 .result + c .before .dim2 .result ≤ 1024)
+    → (c .before .before .before .before .before .args .r * c .before .dim .result + c .before .dim .result
+    ≤ bitOr (c .before .before .before .before .before .args .r) (c .before .before .before .mask .result) * c .before .dim .result)
+    × (bitOr (c .before .before .before .before .before .args .r) (c .before .before .before .mask .result) * c .before .dim .result + c .before .dim .result ≤ 1024)
 within c =
     let s = c .before .before .before .before .before in
-    pair-fits _ _ _ _ _ (s .pre .1 .0 .0) (s .pre .1 .0 .1) (s .pre .1 .1 .1) (c .before .dim2 .ensures) (c .before .before .before .dim .ensures) (c .before .before .if2 .left)
+    pair-fits _ _ _ _ _ (s .pre .1 .0 .0) (s .pre .1 .0 .1) (s .pre .1 .1 .1) (c .before .dim .ensures) (c .before .before .before .mask .ensures) (c .before .before .if2 .left)
 
 returns : tie.Need-returns
 returns c = pair-off _ _ _ _ (c .before .pre .1 .1 .0) (c .if1 .taken)
 
-dim-requires : tie.Need-dim-requires
-dim-requires c κs = search needs
+mask-requires : tie.Need-mask-requires
+mask-requires c κs = search needs
 
 returns-2 : tie.Need-returns-2
 returns-2 c =
-    let e = c .before .dim .ensures in
+    let e = c .before .mask .ensures in
     pair-none _ _ _ _ (rw e at (c .if2 .taken))
 
-dim-requires-2 : tie.Need-dim-requires-2
-dim-requires-2 c κs = search needs
+dim-requires : tie.Need-dim-requires
+dim-requires c κs = search needs
 
 mul-exchange-places : tie.Need-mul-exchange-places
 mul-exchange-places c = omega (arith, within c)
@@ -51,18 +51,19 @@ exchange-places-requires c κs = (c .before .before .before .before .before .pre
 
 returns-3 : tie.Need-returns-3
 returns-3 c =
-    let d = c .before .before .dim2 .ensures in
-    let b = c .before .before .before .before .dim .ensures in
-    pair-exchanged _ _ _ _ (c .before .before .before .before .before .if1 .left) (rw b at (c .before .before .before .if2 .left)) (rw (d, b) at (c .exchange-places .ensures))
+    let d = c .before .before .dim .ensures in
+    let b = c .before .before .before .before .mask .ensures in
+    let p = c .before .before .before .before .before .before .pre .1 in
+    pair-exchanged _ _ _ _ (p .0 .1) (p .1 .1) (c .before .before .before .before .before .if1 .left) (rw b at (c .before .before .before .if2 .left)) (rw (d, b) at (c .exchange-places .ensures))
 
 pub exchange-row-spec : {M : Type 1} → statement M
 exchange-row-spec =
     tie.close
     (tie.spec
     returns
-    dim-requires
+    mask-requires
     returns-2
-    dim-requires-2
+    dim-requires
     mul-exchange-places
     mul-exchange-places-2
     mul-exchange-places-3

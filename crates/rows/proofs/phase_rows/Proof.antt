@@ -45,7 +45,7 @@ loop-again c =
 returns : tie.Need-returns Inv-loop μ-loop
 returns c =
     let w = c .before .loop .inv in
-    (w .long, swept-end _ _ _ w (λ s p. omega (arith, c .before .before .dim .ensures)))
+    (w .long, (swept-end _ _ _ w (λ s p. omega (arith, c .before .before .dim .ensures)), w .kept))
 
 pub phase-rows-spec : {M : Type 1} → statement M
 phase-rows-spec =

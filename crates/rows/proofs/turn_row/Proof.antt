@@ -21,18 +21,23 @@ loop-holds c = (search needs, turned-none _ _ _)
 
 -- the entry that was read is the first array's
 read-is : (c : tie.After-get Inv-loop μ-loop)
-    → c .get .result ≡ entry (c .before .before .before .before .args .m .now) (c .before .before .before .before .args .e + c .before .before .before .loop .i)
-read-is c = c .get .ensures ∙ turned-next _ _ _ _ (c .before .before .before .loop .inv .1)
+    → c .get .result ≡ entry (c .before .before .before .before .before .args .m .now) (c .before .before .before .before .before .args .e + c .before .before .before .before .loop .i)
+read-is c = c .get .ensures ∙ turned-next _ _ _ _ (c .before .before .before .before .loop .inv .1)
+
+get-requires : tie.Need-get-requires Inv-loop μ-loop
+get-requires c κs =
+    let s = c .before .before .before .before in
+    omega (arith, c .before .before .before .loop .inv .1 .long, s .pre .0, s .pre .1 .0)
 
 times-omega-requires : tie.Need-times-omega-requires Inv-loop μ-loop
 times-omega-requires c κs =
     rw (read-is (c .before))
-    (c .before .before .before .before .before .pre .1 .1 .small (c .before .before .before .before .loop .i) (c .before .before .before .loop-test .taken))
+    (c .before .before .before .before .before .before .pre .1 .1 .small (c .before .before .before .before .before .loop .i) (c .before .before .before .before .loop-test .taken))
 
 loop-again : tie.Need-loop-again Inv-loop μ-loop
 loop-again c =
-    let s = c .before .before .before .before .before .before .before in
-    let i = c .before .before .before .before .before .before .loop in (
+    let s = c .before .before .before .before .before .before .before .before in
+    let i = c .before .before .before .before .before .before .before .loop in (
       omega arith,
       turned-more _ _ _ (i .i) (i .inv .1) (s .pre .0) (omega (arith, s .pre .1 .0))
           (c .before .times-omega .ensures ∙ ap (turn (s .args .power)) (read-is (c .before .before .before)))
@@ -52,7 +57,7 @@ turn-row-spec =
     μ-loop
     loop-holds
     (λ c. search needs)
-    (λ c κs. search needs)
+    get-requires
     (λ c. search needs)
     times-omega-requires
     (λ c κs. search needs)

@@ -40,11 +40,10 @@ loop-again c =
     (omega (arith, mul-add (c .before .before .before .before .loop .i) (2 ^ c .before .before .before .before .before .before .args .n) 1)))
 
 returns : tie.Need-returns Inv-loop μ-loop
-returns c = record {
-  width = refl;
-  exponent = refl;
-  holds = filled-end _ _ (c .before .loop .inv) (omega (arith, c .before .before .dim .ensures));
-}
+returns c = (
+  record { width = refl; exponent = refl; holds = filled-end _ _ (c .before .loop .inv) (omega (arith, c .before .before .dim .ensures)) },
+  c .before .loop .inv .blank,
+)
 
 pub identity-spec : {M : Type 1} → statement M
 identity-spec =

@@ -12,7 +12,7 @@ use lib.IntN.{ℤ, pos, negsuc, natAbs, negℤ, _+ℤ_, _-ℤ_, _*ℤ_}
 use Rattle.ints.proofs.Int.{Ex, _⊕_, _⊗_, value, int, up, dn, add-is}
 use Rattle.ints.proofs.Machine.{abs-is, abs-neg}
 use Rattle.ints.proofs.Poly.{solve}
-use Rattle.cyclotomic.specs.Zomega.{Zω, limit, zeroω, oneω, addω, subω, turn, sqrt2, divisible, half, overSqrt2, square, squares, Small}
+use Rattle.cyclotomic.specs.Zomega.{Zω, limit, zeroω, oneω, addω, subω, turn, sqrt2, divisible, half, overSqrt2, square, squares, WithinBound, Small}
 use Rattle.cyclotomic.proofs.Four.{Four, at, equal, addE, subE, turnE, sqrt2E, X, Y, of1, of2}
 use Rattle.cyclotomic.proofs.Division.{sqrt2-over}
 
@@ -68,7 +68,7 @@ squares-sum x y =
     (λ i. squares-is (of2 x y) (addE X Y) i +ℤ squares-is (of2 x y) (subE X Y) i)
     (λ i. pos 2 *ℤ squares-is (of2 x y) X i +ℤ pos 2 *ℤ squares-is (of2 x y) Y i) tt
 
--- ---- coefficients within the limit
+-- ---- coefficients within a bound
 
 -- a number whose square is below (k + 1)² is at most k
 pub root : (n k : ℕ) → n * n < suc k * suc k → n ≤ k
@@ -80,13 +80,13 @@ root n k h = by (decLe n k)
         let above : suc k ≤ n = omega arith in
         absurd (omega (arith, mul-le-mul above above))
 
-pub small-of-squares : (x : Zω) → squares x < suc limit * suc limit → Small x
+pub small-of-squares : (b : ℕ) (x : Zω) → squares x < suc b * suc b → WithinBound b x
 unfolding squares
-small-of-squares x h = record {
-  a-small = root (natAbs (x .a)) limit (omega arith);
-  b-small = root (natAbs (x .b)) limit (omega arith);
-  c-small = root (natAbs (x .c)) limit (omega arith);
-  d-small = root (natAbs (x .d)) limit (omega arith);
+small-of-squares b x h = record {
+  a-small = root (natAbs (x .a)) b (omega arith);
+  b-small = root (natAbs (x .b)) b (omega arith);
+  c-small = root (natAbs (x .c)) b (omega arith);
+  d-small = root (natAbs (x .d)) b (omega arith);
 }
 
 pub small-zero : Small zeroω

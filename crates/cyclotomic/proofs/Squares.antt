@@ -1,5 +1,5 @@
--- The sum of the squares of the coefficients: turns keep it, √2 doubles it, and where it is small enough the coefficients are within the
--- limit. Assumes nothing.
+-- The sum of the squares of the coefficients: turns keep it, √2 doubles it, and where it is below a square the coefficients are within
+-- the root. Turns and quotients by √2 keep coefficients within the limit. Assumes nothing.
 use mathlib.Core.Path.{_≡_, refl, sym, ap, _∙_}
 use mathlib.Core.Bool.{true}
 use mathlib.Core.List.{List}
@@ -35,14 +35,6 @@ natural : (ρ : List ℤ) (e f : Ex) {m n : ℕ} → value ρ e ≡ pos m → va
 natural ρ e f p q t = ap up (sym p ∙ solve ρ e f t ∙ q)
 
 -- ---- the ring's operations
-
-pub squares-zero : squares zeroω ≡ 0
-unfolding squares zeroω
-squares-zero = refl
-
-pub squares-one : squares oneω ≡ 1
-unfolding squares oneω
-squares-one = refl
 
 pub squares-turn : (p : ℕ) (x : Zω) → squares (turn p x) ≡ squares x
 unfolding turn

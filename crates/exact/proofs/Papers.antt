@@ -118,7 +118,8 @@ paper-nothing n x = multiply-identity n x
 
 -- ---- the gate of a code
 
-paper-kind : (n : ℕ) (k : Kind) (a b c : ℕ) (x : Exact) → Proper n (gate n k a b c)
+-- each kind's row operation is the product with the paper's matrix, on any operands that are bits of the width, the target no control
+pub paper-kind : (n : ℕ) (k : Kind) (a b c : ℕ) (x : Exact) → Proper n (gate n k a b c)
     → Equal n (multiply n (paperGate n k a b c) x) (raw (gate n k a b c) x)
 paper-kind n H a b c x w = paper-had n (bitOf n a) x w
 paper-kind n X a b c x w = paper-exchange n (bitOf n a) x (w .0) []

@@ -223,3 +223,6 @@ module _ (n : ℕ) where
 
   pub test-of-power : {x y : Exact} → Lowest n x → Lowest n y → PowerOf n x y → upToPhase n x y ≡ true
   test-of-power {x} {y} l m s = power-test (s .power) x y (s .small) (unique n (turned-lowest n (s .power) l) m (s .same))
+
+  pub test-exactly : {x y : Exact} → Lowest n x → Lowest n y → (upToPhase n x y ≡ true) ↔ PowerOf n x y
+  test-exactly {x} {y} l m = (power-of-test x y, test-of-power l m)

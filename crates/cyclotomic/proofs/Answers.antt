@@ -1,14 +1,10 @@
--- What a caller reads off an answer of the ring: a value is exact and small, a refusal is a coefficient past the limit, and the zero test.
--- Assumes nothing.
+-- What the tests of the ring say: coefficients within the limit, two coefficients the same, an element zero. Assumes nothing.
 use mathlib.Core.Path.{_≡_, refl, sym, ap, _∙_}
 use mathlib.Core.Bool.{Bool, true, false, _&&_}
 use Prim.Native.Nat.{ℕ, _*_}
-use native.Mathlib.Omega.{arith}
 use lib.IntN.{ℤ, pos, negsuc, natAbs}
 use borrow.Author.Tests.{leb-true, le-leb, eqb-true, eq-eqb}
-use Rattle.cyclotomic.specs.declared.Checked.the-variants.{Value, TooLarge}
 use Rattle.cyclotomic.specs.Zomega.{Zω, mk, limit, zeroω, turn, eqZ, isZero, within, fits, Small}
-use Rattle.cyclotomic.specs.Told.{entry, refused, doesNotFit, told, checked}
 use Rattle.ints.proofs.Bools.{clash, both-true, iff}
 use Rattle.cyclotomic.proofs.Turns.{turn-back, turn-zero}
 
@@ -39,30 +35,6 @@ small-fits x s =
     let c = le-leb (natAbs (x .c)) limit (s .c-small) in
     let d = le-leb (natAbs (x .d)) limit (s .d-small) in
     λ i. a i && b i && c i && d i
-
-pub checked-fits : (x : Zω) → fits x ≡ true → checked x ≡ entry x
-unfolding checked
-checked-fits x h = rw h
-
-pub checked-not : (x : Zω) → fits x ≡ false → checked x ≡ refused doesNotFit
-unfolding checked
-checked-not x h = rw h
-
--- the answer was a value: it is the exact one, and small
-pub value-is : (x v : Zω) → told (Value v) ≡ checked x → (v ≡ x) × Small x
-value-is x v e = by (fits x) refl
-  where
-    by : (b : Bool) → fits x ≡ b → (v ≡ x) × Small x
-    by true f = let g = checked-fits x f in (cc, fits-small x f)
-    by false f = let g = checked-not x f in let z : _≡_ {A = ℕ} 0 1 = cc in absurd (omega arith)
-
--- the answer was a refusal: some coefficient is past the limit
-pub too-large : (x : Zω) → told TooLarge ≡ checked x → fits x ≡ false
-too-large x e = by (fits x) refl
-  where
-    by : (b : Bool) → fits x ≡ b → fits x ≡ false
-    by true f = let g = checked-fits x f in let z : _≡_ {A = ℕ} 0 1 = cc in absurd (omega arith)
-    by false f = f
 
 pub eqZ-true : (x y : ℤ) → eqZ x y ≡ true → x ≡ y
 eqZ-true (pos a) (pos b) h = ap pos (eqb-true a b h)

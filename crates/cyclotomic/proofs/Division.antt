@@ -19,10 +19,6 @@ pub sqrt2-add : (x y : Zω) → sqrt2 (addω x y) ≡ addω (sqrt2 x) (sqrt2 y)
 unfolding sqrt2 addω
 sqrt2-add x y = same4 (of2 x y) (sqrt2E (addE X Y)) (addE (sqrt2E X) (sqrt2E Y)) tt
 
-pub sqrt2-sub : (x y : Zω) → sqrt2 (subω x y) ≡ subω (sqrt2 x) (sqrt2 y)
-unfolding sqrt2 subω
-sqrt2-sub x y = same4 (of2 x y) (sqrt2E (subE X Y)) (subE (sqrt2E X) (sqrt2E Y)) tt
-
 -- √2 is omega − omega³
 pub sqrt2-is-sub : (x : Zω) → sqrt2 x ≡ subω (turn 1 x) (turn 3 x)
 unfolding sqrt2 subω turn
@@ -114,8 +110,3 @@ turn-divisible p x h =
 pub divisible-turn : (p : ℕ) (x : Zω) → divisible (turn p x) ≡ divisible x
 divisible-turn p x =
     iff (divisible (turn p x)) (divisible x) (λ h. rw turn-back at (turn-divisible (7 * p) (turn p x) h)) (turn-divisible p x)
-
-pub turn-over : (p : ℕ) (x : Zω) → divisible x ≡ true → turn p (overSqrt2 x) ≡ overSqrt2 (turn p x)
-turn-over p x h =
-    sqrt2-cancel (turn p (overSqrt2 x)) (overSqrt2 (turn p x))
-    (sym (turn-sqrt2 p (overSqrt2 x)) ∙ ap (turn p) (sqrt2-over x h) ∙ sym (sqrt2-over (turn p x) (turn-divisible p x h)))

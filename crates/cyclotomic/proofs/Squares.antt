@@ -1,5 +1,5 @@
--- The sum of the squares of the coefficients: turns keep it, √2 doubles it, and where it is small enough the coefficients are within the
--- limit. Assumes nothing.
+-- The sum of the squares of the coefficients: turns keep it, √2 doubles it, and where it is below a square the coefficients are within
+-- the root. Turns and quotients by √2 keep coefficients within the limit. Assumes nothing.
 use mathlib.Core.Path.{_≡_, refl, sym, ap, _∙_}
 use mathlib.Core.Bool.{true}
 use mathlib.Core.List.{List}
@@ -12,7 +12,7 @@ use lib.IntN.{ℤ, pos, negsuc, natAbs, negℤ, _+ℤ_, _-ℤ_, _*ℤ_}
 use Rattle.ints.proofs.Int.{Ex, _⊕_, _⊗_, value, int, up, dn, add-is}
 use Rattle.ints.proofs.Machine.{abs-is, abs-neg}
 use Rattle.ints.proofs.Poly.{solve}
-use Rattle.cyclotomic.specs.Zomega.{Zω, limit, zeroω, oneω, addω, subω, turn, sqrt2, divisible, half, overSqrt2, square, squares, Small}
+use Rattle.cyclotomic.specs.Zomega.{Zω, limit, zeroω, oneω, addω, subω, turn, sqrt2, divisible, half, overSqrt2, square, squares, WithinBound, Small}
 use Rattle.cyclotomic.proofs.Four.{Four, at, equal, addE, subE, turnE, sqrt2E, X, Y, of1, of2}
 use Rattle.cyclotomic.proofs.Division.{sqrt2-over}
 
@@ -35,14 +35,6 @@ natural : (ρ : List ℤ) (e f : Ex) {m n : ℕ} → value ρ e ≡ pos m → va
 natural ρ e f p q t = ap up (sym p ∙ solve ρ e f t ∙ q)
 
 -- ---- the ring's operations
-
-pub squares-zero : squares zeroω ≡ 0
-unfolding squares zeroω
-squares-zero = refl
-
-pub squares-one : squares oneω ≡ 1
-unfolding squares oneω
-squares-one = refl
 
 pub squares-turn : (p : ℕ) (x : Zω) → squares (turn p x) ≡ squares x
 unfolding turn
@@ -68,7 +60,7 @@ squares-sum x y =
     (λ i. squares-is (of2 x y) (addE X Y) i +ℤ squares-is (of2 x y) (subE X Y) i)
     (λ i. pos 2 *ℤ squares-is (of2 x y) X i +ℤ pos 2 *ℤ squares-is (of2 x y) Y i) tt
 
--- ---- coefficients within the limit
+-- ---- coefficients within a bound
 
 -- a number whose square is below (k + 1)² is at most k
 pub root : (n k : ℕ) → n * n < suc k * suc k → n ≤ k
@@ -80,13 +72,13 @@ root n k h = by (decLe n k)
         let above : suc k ≤ n = omega arith in
         absurd (omega (arith, mul-le-mul above above))
 
-pub small-of-squares : (x : Zω) → squares x < suc limit * suc limit → Small x
+pub small-of-squares : (b : ℕ) (x : Zω) → squares x < suc b * suc b → WithinBound b x
 unfolding squares
-small-of-squares x h = record {
-  a-small = root (natAbs (x .a)) limit (omega arith);
-  b-small = root (natAbs (x .b)) limit (omega arith);
-  c-small = root (natAbs (x .c)) limit (omega arith);
-  d-small = root (natAbs (x .d)) limit (omega arith);
+small-of-squares b x h = record {
+  a-small = root (natAbs (x .a)) b (omega arith);
+  b-small = root (natAbs (x .b)) b (omega arith);
+  c-small = root (natAbs (x .c)) b (omega arith);
+  d-small = root (natAbs (x .d)) b (omega arith);
 }
 
 pub small-zero : Small zeroω

@@ -125,12 +125,16 @@ within z = leb (natAbs z) limit
 unfoldable pub fits : Zω → Bool
 fits x = within (x .a) && within (x .b) && within (x .c) && within (x .d)
 
+-- every coefficient is within a bound
+pub record WithinBound (bound : ℕ) (x : Zω) : Type 0 where
+  pub a-small : natAbs (x .a) ≤ bound
+  pub b-small : natAbs (x .b) ≤ bound
+  pub c-small : natAbs (x .c) ≤ bound
+  pub d-small : natAbs (x .d) ≤ bound
+
 -- every coefficient is within the limit
-pub record Small (x : Zω) : Type 0 where
-  pub a-small : natAbs (x .a) ≤ limit
-  pub b-small : natAbs (x .b) ≤ limit
-  pub c-small : natAbs (x .c) ≤ limit
-  pub d-small : natAbs (x .d) ≤ limit
+abbrev pub Small : Zω → Type 0
+Small x = WithinBound limit x
 
 -- the sizes of two coefficients add up past the limit
 abbrev pub sizesPass : ℤ → ℤ → Bool

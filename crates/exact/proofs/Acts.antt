@@ -1,13 +1,13 @@
 -- Steps, a row operation and then lowering: what holds of values holds of them exactly, since the lowest form is unique. "A power of omega
--- times a matrix" is an equivalence that steps keep. Assumes nothing.
+-- times a matrix" is an equivalence that steps and lowering keep. Assumes nothing.
 use mathlib.Core.Path.{ap, sym}
 use Prim.Native.Nat.{ℕ, _+_, _*_, _%_}
 use native.Mathlib.Omega.{arith}
 use native.Mathlib.Nat.{mod-lt}
 use Rattle.cyclotomic.proofs.Turns.{turn-none, turn-turn, turn-mod, turn-back}
-use Rattle.exact.specs.Matrix.{Exact, sqrt2s, SameValue, Equal, Lowest, turned, PowerOf}
+use Rattle.exact.specs.Matrix.{Exact, sqrt2s, SameValue, Equal, Lowest, lower, turned, PowerOf}
 use Rattle.exact.specs.Rows.{Gate, raw, act, Proper, touches, Apart, Undoes}
-use Rattle.exact.proofs.Values.{same-refl, same-sym, same-trans, equal-same, lower-same, lower-lowest, lower-unique, unique, turned-same, turned-lowest}
+use Rattle.exact.proofs.Values.{same-refl, same-sym, same-trans, equal-sym, equal-trans, equal-same, lower-same, lower-lowest, lower-unique, unique, turned-same, turned-lowest, turned-lower}
 use Rattle.exact.proofs.Linear.{raw-same, raw-swap, raw-back, raw-turned}
 
 module _ (n : ℕ) where
@@ -82,6 +82,14 @@ module _ (n : ℕ) where
     power = s .power;
     small = s .small;
     same = same-trans n (same-sym n (act-turned (s .power) g x)) (act-same g p (s .same));
+  }
+
+  -- a power of omega times a matrix, lowered, is that power times the lowered matrix
+  pub lower-power : {x y : Exact} → PowerOf n x y → PowerOf n (lower n x) (lower n y)
+  lower-power {x} s = record {
+    power = s .power;
+    small = s .small;
+    same = equal-same n (equal-trans n (equal-sym n (turned-lower n (s .power) x)) (lower-unique n (s .same)));
   }
 
   -- lowest forms: that power takes each entry to the other's

@@ -1,4 +1,4 @@
--- `agree` says what its comment says: the two rows have the same bits but for bit t. Assumes nothing.
+-- `agree` says what its comment says: the two rows have the same bits, bit t left aside. Assumes nothing.
 use mathlib.Core.Path.{_≡_, refl, sym, ap, _∙_}
 use mathlib.Core.Bool.{Bool, true, false, not, _||_, Bool-discrete}
 use mathlib.Core.Logic.{_↔_}

@@ -1,31 +1,32 @@
 -- What unitarity bounds: each row's coefficient squares sum to 2^k, so that lists of few gates fit at every step, and an exponent past
 -- 65535 is never met. Assumes nothing.
 use mathlib.Core.Path.{_≡_, refl, sym, ap, _∙_}
-use mathlib.Core.Bool.{Bool, true, false, _&&_}
+use mathlib.Core.Bool.{Bool, true, false}
 use mathlib.Core.List.{List, [], _∷_}
 use Prim.Native.Nat.{ℕ, zero, suc, _+_, _*_, _^_, _≤_, _<_}
 use native.Mathlib.Omega.{arith}
 use native.Mathlib.Nat.{le-trans, lt-of-le-of-lt, mul-le-mul}
 use native.Mathlib.Decide.{ℕ-discrete, decLt}
 use lib.Dec.{leb}
-use lib.IntN.{natAbs}
 use lib.ListN.{length}
 use lib.Pow.{pow-pos, pow-mono}
-use borrow.Author.Tests.{leb-true, le-leb}
+use borrow.Author.Tests.{le-leb}
 use Rattle.ints.specs.Lists.{pick}
 use Rattle.ints.proofs.Int.{up}
-use Rattle.ints.proofs.Bools.{and-both, both-true}
-use Rattle.cyclotomic.specs.Zomega.{Zω, limit, mulω, overSqrt2, squares, fits}
-use Rattle.cyclotomic.proofs.Squares.{root, small-over}
-use Rattle.exact.specs.Matrix.{Exact, allEntries, allDivisible, lowered, lower}
+use Rattle.ints.proofs.Bools.{both-true}
+use Rattle.cyclotomic.specs.Zomega.{Zω, limit, mulω, overSqrt2, squares, fits, WithinBound}
+use Rattle.cyclotomic.proofs.Squares.{small-of-squares, small-over}
+use Rattle.cyclotomic.proofs.Answers.{fits-small}
+use Rattle.exact.specs.Matrix.{Exact, allEntries, allDivisible, lowered, lower, identity}
 use Rattle.exact.specs.Rows.{Gate, raw, act, gateOf}
 use Rattle.exact.specs.Lists.{after, product}
-use Rattle.exact.specs.Fits.{mostK, stepFits, Steps, allFit, unfitAt, next, stepsFrom, steps, WithinBound, AllWithin}
+use Rattle.exact.specs.Fits.{mostK, stepFits, Steps, allFit, unfitAt, next, stepsFrom, steps, AllWithin, AllSmall}
 use Rattle.exact.specs.Unitary.{conj, inner, Unitary, total, RowLaw}
 use Rattle.exact.proofs.Linear.{raise-most}
-use Rattle.exact.proofs.Values.{pick-ind, entries-to, entries-from}
+use Rattle.exact.proofs.Values.{pick-ind, entries-to}
 use Rattle.exact.proofs.Coded.{proper}
 use Rattle.exact.proofs.Listed.{act-k, raw-k}
+use Rattle.exact.proofs.Keeps.{step-fits}
 use Rattle.exact.proofs.Conj.{own-first, sum-first}
 use Rattle.exact.proofs.Unitaries.{unitary-identity, unitary-raw, unitary-act, unitary-product, unitary-step}
 
@@ -45,16 +46,6 @@ total-most (suc m) b f h =
     let t = total-most m b f (λ c l. h c (omega arith)) in
     omega (arith, h m (omega arith))
 
--- a square below (b + 1)² is that of a coefficient within b
-pub within-of : (b k : ℕ) (z : Zω) → 2 ^ k < suc b * suc b → squares z ≤ 2 ^ k → WithinBound b z
-unfolding squares
-within-of b k z h s = record {
-  a-in = root (natAbs (z .a)) b (omega arith);
-  b-in = root (natAbs (z .b)) b (omega arith);
-  c-in = root (natAbs (z .c)) b (omega arith);
-  d-in = root (natAbs (z .d)) b (omega arith);
-}
-
 -- ---- the row law
 
 module _ (n : ℕ) where
@@ -69,47 +60,17 @@ module _ (n : ℕ) where
   entry-bound {x} s r c p q = rw (s .sums r p) at (total-least (2 ^ n) (λ c. squares (x .e r c)) c q)
 
   -- every coefficient is within b where the row's sum is below (b + 1)²
-  pub all-within : (b : ℕ) {x : Exact} → Unitary n x → 2 ^ x .k < suc b * suc b → AllWithin n b x
-  all-within b {x} u h = record { within = λ r c p q. within-of b (x .k) (x .e r c) h (entry-bound (row-law u) r c p q) }
+  pub all-within : (b : ℕ) {x : Exact} → Unitary n x → 2 ^ x .k < suc b * suc b → AllWithin n b (x .e)
+  all-within b {x} u h = record {
+    small = λ r c p q. small-of-squares b (x .e r c) (lt-of-le-of-lt (entry-bound (row-law u) r c p q) h);
+  }
 
--- ---- tests
-
-within-fits : (z : Zω) → WithinBound limit z → fits z ≡ true
-unfolding fits
-within-fits z w =
-    rw (
-      le-leb (natAbs (z .a)) limit (w .a-in),
-      le-leb (natAbs (z .b)) limit (w .b-in),
-      le-leb (natAbs (z .c)) limit (w .c-in),
-      le-leb (natAbs (z .d)) limit (w .d-in),
-    )
-
-fits-within : (z : Zω) → fits z ≡ true → WithinBound limit z
-unfolding fits
-fits-within z h =
-    let a = leb (natAbs (z .a)) limit in
-    let b = leb (natAbs (z .b)) limit in
-    let c = leb (natAbs (z .c)) limit in
-    let d = leb (natAbs (z .d)) limit in
-    let abc = both-true (a && b && c) d h in
-    let ab = both-true (a && b) c (abc .0) in
-    let one = both-true a b (ab .0) in
-    record {
-      a-in = leb-true (natAbs (z .a)) limit (one .0);
-      b-in = leb-true (natAbs (z .b)) limit (one .1);
-      c-in = leb-true (natAbs (z .c)) limit (ab .1);
-      d-in = leb-true (natAbs (z .d)) limit (abc .1);
-    }
-
-within-over : (z : Zω) → WithinBound limit z → WithinBound limit (overSqrt2 z)
-within-over z w =
-    let s = small-over z (record { a-small = w .a-in; b-small = w .b-in; c-small = w .c-in; d-small = w .d-in }) in
-    record { a-in = s .a-small; b-in = s .b-small; c-in = s .c-small; d-in = s .d-small }
+-- ---- steps that fit
 
 within-squares : (b : ℕ) (z : Zω) → WithinBound b z → squares z ≤ 4 * (b * b)
 unfolding squares
 within-squares b z w =
-    omega (arith, mul-le-mul (w .a-in) (w .a-in), mul-le-mul (w .b-in) (w .b-in), mul-le-mul (w .c-in) (w .c-in), mul-le-mul (w .d-in) (w .d-in))
+    omega (arith, mul-le-mul (w .a-small) (w .a-small), mul-le-mul (w .b-small) (w .b-small), mul-le-mul (w .c-small) (w .c-small), mul-le-mul (w .d-small) (w .d-small))
 
 both-fit : (b : Bool) (s : Steps) → pick b (next s) (unfitAt 0) ≡ allFit → (b ≡ true) × (s ≡ allFit)
 both-fit true allFit h = (refl, refl)
@@ -117,26 +78,19 @@ both-fit true (unfitAt i) h = let z : _≡_ {A = ℕ} 0 1 = cc in absurd (omega 
 both-fit false s h = let z : _≡_ {A = ℕ} 0 1 = cc in absurd (omega arith)
 
 module _ (n : ℕ) where
-  -- a step fits where its coefficients are within the limit and the exponent is at most 65535
-  pub step-fits : (g : Gate) (x : Exact) → AllWithin n limit (raw g x) → raw g x .k ≤ mostK → stepFits n g x ≡ true
-  unfolding stepFits
-  step-fits g x w h =
-      and-both (leb (raw g x .k) mostK) (allEntries n (λ r c. fits (raw g x .e r c))) (le-leb (raw g x .k) mostK h)
-      (entries-from n (λ r c. fits (raw g x .e r c)) (λ r c p q. within-fits (raw g x .e r c) (w .within r c p q)))
-
-  pub fits-step : (g : Gate) (x : Exact) → stepFits n g x ≡ true → AllWithin n limit (raw g x)
+  pub fits-step : (g : Gate) (x : Exact) → stepFits n g x ≡ true → AllSmall n (raw g x .e)
   unfolding stepFits
   fits-step g x h =
       let t = both-true (leb (raw g x .k) mostK) (allEntries n (λ r c. fits (raw g x .e r c))) h in
-      record { within = λ r c p q. fits-within (raw g x .e r c) (entries-to n (λ r c. fits (raw g x .e r c)) (t .1) r c p q) }
+      record { small = λ r c p q. fits-small (raw g x .e r c) (entries-to n (λ r c. fits (raw g x .e r c)) (t .1) r c p q) }
 
   -- ---- the exponent is small where the coefficients are
-  pub exponent-most : (b : ℕ) {x : Exact} → Unitary n x → AllWithin n b x → 2 ^ x .k ≤ 2 ^ n * (4 * (b * b))
+  pub exponent-most : (b : ℕ) {x : Exact} → Unitary n x → AllWithin n b (x .e) → 2 ^ x .k ≤ 2 ^ n * (4 * (b * b))
   exponent-most b {x} u w =
       rw (row-law n u .sums 0 (pow-pos n)) at (total-most (2 ^ n) (4 * (b * b)) (λ c. squares (x .e 0 c))
-      (λ c q. within-squares b (x .e 0 c) (w .within 0 c (pow-pos n) q)))
+      (λ c q. within-squares b (x .e 0 c) (w .small 0 c (pow-pos n) q)))
 
-  pub exponent-below : (b m : ℕ) {x : Exact} → Unitary n x → AllWithin n b x → 2 ^ n * (4 * (b * b)) < 2 ^ m → x .k < m
+  pub exponent-below : (b m : ℕ) {x : Exact} → Unitary n x → AllWithin n b (x .e) → 2 ^ n * (4 * (b * b)) < 2 ^ m → x .k < m
   exponent-below b m {x} u w h = by (decLt (x .k) m)
     where
       by : Dec (x .k < m) → x .k < m
@@ -144,14 +98,14 @@ module _ (n : ℕ) where
       by (no l) = let t : 2 ^ m ≤ 2 ^ x .k = pow-mono (omega arith) in absurd (omega (arith, exponent-most b u w))
 
   -- 32 · 4 · 127² is below 2^21; the 40 leaves room for a limit of 32767
-  pub k-never : n ≤ 5 → {x : Exact} → Unitary n x → AllWithin n limit x → x .k < mostK
+  pub k-never : n ≤ 5 → {x : Exact} → Unitary n x → AllSmall n (x .e) → x .k < mostK
   k-never h u w =
       let t : 2 ^ n ≤ 2 ^ 5 = pow-mono h in
       let k = exponent-below limit 40 u w (omega arith) in
       omega arith
 
   -- and so the exponent never decides whether a step fits
-  pub coefficients-decide : n ≤ 5 → {x : Exact} → Unitary n x → AllWithin n limit x → (g : Gate)
+  pub coefficients-decide : n ≤ 5 → {x : Exact} → Unitary n x → AllSmall n (x .e) → (g : Gate)
       → stepFits n g x ≡ allEntries n (λ r c. fits (raw g x .e r c))
   unfolding stepFits
   coefficients-decide h {x} u w g =
@@ -160,26 +114,26 @@ module _ (n : ℕ) where
       rw (le-leb (raw g x .k) mostK (omega arith))
 
   -- ---- lowering keeps coefficients within the limit
-  lowered-within : (k : ℕ) (e : ℕ → ℕ → Zω) → AllWithin n limit (record { k = k; e = e }) → AllWithin n limit (lowered n k e)
-  lowered-within zero e w = w
-  lowered-within (suc k) e w =
-      pick-ind (AllWithin n limit) (allDivisible n e)
-      (λ h. lowered-within k (λ r c. overSqrt2 (e r c)) (record { within = λ r c p q. within-over (e r c) (w .within r c p q) })) (λ h. w)
+  lowered-small : (k : ℕ) (e : ℕ → ℕ → Zω) → AllSmall n e → AllSmall n (lowered n k e .e)
+  lowered-small zero e w = w
+  lowered-small (suc k) e w =
+      pick-ind (λ (z : Exact). AllSmall n (z .e)) (allDivisible n e)
+      (λ h. lowered-small k (λ r c. overSqrt2 (e r c)) (record { small = λ r c p q. small-over (e r c) (w .small r c p q) })) (λ h. w)
 
-  pub lower-within : {x : Exact} → AllWithin n limit x → AllWithin n limit (lower n x)
+  pub lower-small : (x : Exact) → AllSmall n (x .e) → AllSmall n (lower n x .e)
   unfolding lower
-  lower-within {x} w = lowered-within (x .k) (x .e) w
+  lower-small x w = lowered-small (x .k) (x .e) w
 
   -- ---- lists that fit at every step
-  after-within : (l : List ℕ) {x : Exact} → AllWithin n limit x → stepsFrom n x l ≡ allFit → AllWithin n limit (after n x l)
-  after-within [] w h = w
-  after-within (g ∷ l) {x} w h =
+  after-small : (l : List ℕ) (x : Exact) → AllSmall n (x .e) → stepsFrom n x l ≡ allFit → AllSmall n (after n x l .e)
+  after-small [] x w h = w
+  after-small (g ∷ l) x w h =
       let t = both-fit (stepFits n (gateOf n g) x) (stepsFrom n (act n (gateOf n g) x) l) h in
-      after-within l (lower-within (fits-step (gateOf n g) x (t .0))) (t .1)
+      after-small l (act n (gateOf n g) x) (lower-small (raw (gateOf n g) x) (fits-step (gateOf n g) x (t .0))) (t .1)
 
-  pub product-within : (l : List ℕ) → steps n l ≡ allFit → AllWithin n limit (product n l)
+  pub product-small : (l : List ℕ) → steps n l ≡ allFit → AllSmall n (product n l .e)
   unfolding steps product
-  product-within l h = after-within l (all-within n limit (unitary-identity n) (omega arith)) h
+  product-small l h = after-small l identity (all-within n limit (unitary-identity n) (omega arith)) h
 
 -- ---- lists of few gates
 
@@ -196,7 +150,7 @@ module _ (n : ℕ) where
 
   -- every raw step of a list of at most G gates
   pub steps-within : (b G : ℕ) → 2 ^ G < suc b * suc b → (g : ℕ) (l : List ℕ) → length l < G
-      → AllWithin n b (raw (gateOf n g) (product n l)) × (raw (gateOf n g) (product n l) .k ≤ G)
+      → AllWithin n b (raw (gateOf n g) (product n l) .e) × (raw (gateOf n g) (product n l) .k ≤ G)
   steps-within b G s g l h =
       let k : raw (gateOf n g) (product n l) .k ≤ G = le-trans (raw-k n (gateOf n g) l) h in
       (all-within n b (unitary-step n g l) (lt-of-le-of-lt (pow-mono k) s), k)
@@ -222,12 +176,12 @@ module _ (n : ℕ) where
   thirteen = steps-fit 13 (below-square limit 13 (omega arith)) (omega arith)
 
   pub twenty-nine : (g : ℕ) (l : List ℕ) → length l < 29
-      → AllWithin n 32767 (raw (gateOf n g) (product n l)) × (raw (gateOf n g) (product n l) .k ≤ 29)
+      → AllWithin n 32767 (raw (gateOf n g) (product n l) .e) × (raw (gateOf n g) (product n l) .k ≤ 29)
   twenty-nine = steps-within 32767 29 (below-square 32767 29 (omega arith))
 
   -- "k past 65535" is never met on lists from the identity
   pub k-never-met : n ≤ 5 → (l : List ℕ) → steps n l ≡ allFit → (g : ℕ) → raw (gateOf n g) (product n l) .k ≤ mostK
   k-never-met h l e g =
-      let k = k-never n h (unitary-product n l) (product-within n l e) in
+      let k = k-never n h (unitary-product n l) (product-small n l e) in
       let r = raise-most (gateOf n g) (product n l .k) in
       omega arith

@@ -5,8 +5,8 @@ use native.Mathlib.Omega.{arith}
 use lib.IntN.{pos, _+ℤ_}
 use Rattle.ints.proofs.Int.{_⊕_, _⊗_, ⊝_}
 use Rattle.ints.proofs.Poly.{solve}
-use Rattle.cyclotomic.specs.Zomega.{Zω, zeroω, oneω, addω, subω, mulω, turn, sqrt2, squares}
-use Rattle.cyclotomic.proofs.Four.{Four, same4, addE, subE, mulE, turnE, sqrt2E, X, Y, Z, W, of1, of2, of4}
+use Rattle.cyclotomic.specs.Zomega.{Zω, zeroω, oneω, addω, mulω, turn, sqrt2, squares}
+use Rattle.cyclotomic.proofs.Four.{Four, same4, addE, mulE, turnE, sqrt2E, X, Y, of1, of2}
 use Rattle.cyclotomic.proofs.Sums.{add-zero, add-four}
 use Rattle.cyclotomic.proofs.Turns.{turn-none, turn-turn, turn-mod, turn-zero, turn-add}
 use Rattle.cyclotomic.proofs.Division.{sqrt2-zero, sqrt2-add}
@@ -18,13 +18,10 @@ use Rattle.exact.specs.Unitary.{conj, total}
 abbrev conjE : Four → Four
 conjE x = record { a = x .a; b = ⊝ (x .d); c = ⊝ (x .c); d = ⊝ (x .b) }
 
+-- the conjugate goes through sums and products, and undoes itself
 pub conj-add : (x y : Zω) → conj (addω x y) ≡ addω (conj x) (conj y)
 unfolding conj addω
 conj-add x y = same4 (of2 x y) (conjE (addE X Y)) (addE (conjE X) (conjE Y)) tt
-
-pub conj-sub : (x y : Zω) → conj (subω x y) ≡ subω (conj x) (conj y)
-unfolding conj subω
-conj-sub x y = same4 (of2 x y) (conjE (subE X Y)) (subE (conjE X) (conjE Y)) tt
 
 pub conj-mul : (x y : Zω) → conj (mulω x y) ≡ mulω (conj x) (conj y)
 unfolding conj mulω
@@ -68,9 +65,6 @@ turn-whole p x =
     let e : (p + 7 * p) % 8 ≡ 0 = omega arith in
     sym (turn-mod (p + 7 * p) x) ∙ rw e (turn-none x)
 
-pub turn-own : (p : ℕ) (x y : Zω) → mulω (turn p x) (conj (turn p y)) ≡ mulω x (conj y)
-turn-own p x y = turn-conj p p x y ∙ turn-whole p (mulω x (conj y))
-
 pub sqrt2-conj : (x y : Zω) → mulω (sqrt2 x) (conj (sqrt2 y)) ≡ sqrt2 (sqrt2 (mulω x (conj y)))
 sqrt2-conj x y =
     sqrt2-mul x (conj (sqrt2 y))
@@ -85,14 +79,6 @@ own-first x =
 
 -- ---- finite sums
 
-sub-four : (x y z w : Zω) → addω (subω x y) (subω z w) ≡ subω (addω x z) (addω y w)
-unfolding addω subω
-sub-four x y z w = same4 (of4 x y z w) (addE (subE X Y) (subE Z W)) (subE (addE X Z) (addE Y W)) tt
-
-zero-zero : zeroω ≡ subω zeroω zeroω
-unfolding zeroω subω
-zero-zero = refl
-
 pub sum-same : (m : ℕ) (f g : ℕ → Zω) → ((c : ℕ) → c < m → f c ≡ g c) → sumω m f ≡ sumω m g
 sum-same zero f g h = refl
 sum-same (suc m) f g h = λ i. addω (sum-same m f g (λ c l. h c (omega arith)) i) (h m (omega arith) i)
@@ -100,10 +86,6 @@ sum-same (suc m) f g h = λ i. addω (sum-same m f g (λ c l. h c (omega arith))
 pub sum-add : (m : ℕ) (f g : ℕ → Zω) → sumω m (λ c. addω (f c) (g c)) ≡ addω (sumω m f) (sumω m g)
 sum-add zero f g = sym (add-zero zeroω)
 sum-add (suc m) f g = ap (λ (z : Zω). addω z (addω (f m) (g m))) (sum-add m f g) ∙ add-four (sumω m f) (sumω m g) (f m) (g m)
-
-pub sum-sub : (m : ℕ) (f g : ℕ → Zω) → sumω m (λ c. subω (f c) (g c)) ≡ subω (sumω m f) (sumω m g)
-sum-sub zero f g = zero-zero
-sum-sub (suc m) f g = ap (λ (z : Zω). addω z (subω (f m) (g m))) (sum-sub m f g) ∙ sub-four (sumω m f) (sumω m g) (f m) (g m)
 
 pub sum-turn : (p m : ℕ) (f : ℕ → Zω) → sumω m (λ c. turn p (f c)) ≡ turn p (sumω m f)
 sum-turn p zero f = sym (turn-zero p)

@@ -1,17 +1,17 @@
 -- The row that differs in one bit: `flip` undoes itself, flips commute, and what each does to the bits. Assumes nothing.
 use mathlib.Core.Path.{_≡_, refl, sym, ap, _∙_}
-use mathlib.Core.Bool.{not, _&&_}
+use mathlib.Core.Bool.{Bool, true, false, not, _&&_}
 use mathlib.Core.List.{List, [], _∷_}
-use Prim.Native.Nat.{ℕ, _+_, _*_, _^_, _/_, _%_, _<_}
-use native.Mathlib.Omega.{arith}
-use native.Mathlib.Nat.{one-mul}
+use Prim.Native.Nat.{ℕ, _^_, _/_, _%_, _<_}
 use lib.Dec.{eqb}
-use lib.Bits.{bitXor, differ, xor-shr, xor-mod, xor-lt, xor-shifted, xor-comm, xor-block}
+use lib.Bits.{bitXor, differ, xor-shr, xor-mod, xor-lt}
 use lib.Pow.{pow-lt}
 use Rattle.ints.specs.Bits.{digit, bit}
-use Rattle.ints.specs.Lists.{all}
+use Rattle.ints.specs.Lists.{pick, all}
+use Rattle.ints.proofs.Bools.{clash}
 use Rattle.ints.proofs.Bits.{digit-lt, below, ext, digit-own, digit-other}
 use Rattle.exact.specs.Rows.{flip, ones, Lacks}
+use Rattle.exact.proofs.Values.{pick-ind}
 
 digit-xor : (a b k : ℕ) → digit (bitXor a b) k ≡ differ (digit a k) (digit b k)
 digit-xor a b k =
@@ -63,22 +63,35 @@ unfolding all
 ones-other k [] r h = refl
 ones-other k (j ∷ js) r h = λ i. bit-other j k r (h .0) i && ones-other k js r (h .1) i
 
+-- a row and its partner differ in the bit, and so they differ
+pub bit-differs : (k r : ℕ) → bit r k ≡ bit (flip k r) k → ⊥
+bit-differs k r e = by (bit r k) (e ∙ bit-own k r)
+  where
+    by : (b : Bool) → b ≡ not b → ⊥
+    by true h = clash refl h
+    by false h = clash h refl
+
+pub flip-differs : (k r : ℕ) → r ≡ flip k r → ⊥
+flip-differs k r e = bit-differs k r (ap (λ (s : ℕ). bit s k) e)
+
 -- ---- rows below 2^n
 
 pub flip-lt : (n k r : ℕ) → k < n → r < 2 ^ n → flip k r < 2 ^ n
 unfolding flip
 flip-lt n k r h g = xor-lt n r (2 ^ k) g (pow-lt {i = k} {j = n} h)
 
-pub flip-top : (n r : ℕ) → r < 2 ^ n → flip n r ≡ 2 ^ n + r
-unfolding flip
-flip-top n r h = xor-comm r (2 ^ n) ∙ ap (λ (x : ℕ). bitXor x r) (sym (one-mul (2 ^ n))) ∙ xor-shifted 1 n r h ∙ ap (λ (x : ℕ). x + r) (one-mul (2 ^ n))
+-- ---- the row that an exchange takes to row r
 
-pub flip-low : (n k r : ℕ) → k < n → r < 2 ^ n → flip k (2 ^ n + r) ≡ 2 ^ n + flip k r
-unfolding flip
-flip-low n k r h g =
-    (λ i. bitXor (sym (one-mul (2 ^ n)) i + r) (none i))
-    ∙ xor-block n 1 0 r (2 ^ k) g (pow-lt {i = k} {j = n} h)
-    ∙ ap (λ (x : ℕ). x + bitXor r (2 ^ k)) (one-mul (2 ^ n))
-  where
-    none : 2 ^ k ≡ 0 * 2 ^ n + 2 ^ k
-    none = omega arith
+module _ (ks : List ℕ) (k : ℕ) where
+  abbrev pub moved : ℕ → ℕ
+  moved r = pick (ones ks r) (flip k r) r
+
+  pub moved-back : Lacks k ks → (r : ℕ) → moved (moved r) ≡ r
+  moved-back w r = go (ones ks r) refl
+    where
+      go : (b : Bool) → ones ks r ≡ b → moved (pick b (flip k r) r) ≡ r
+      go true e = rw (ones-other k ks r w ∙ e) (flip-flip k r)
+      go false e = rw e
+
+  pub moved-lt : (n : ℕ) → k < n → (r : ℕ) → r < 2 ^ n → moved r < 2 ^ n
+  moved-lt n h r p = pick-ind (λ (s : ℕ). s < 2 ^ n) (ones ks r) (λ e. flip-lt n k r h p) (λ e. p)

@@ -14,9 +14,9 @@ use Rattle.cyclotomic.proofs.Division.{divisible-turn}
 use Rattle.cyclotomic.proofs.Squares.{small-turn}
 use Rattle.cyclotomic.proofs.Answers.{small-fits}
 use Rattle.exact.specs.Matrix.{Exact, Equal, allEntries, allDivisible, Lowest}
-use Rattle.exact.specs.Rows.{flip, ones, Gate, phase, exchange, had, column, raise, raw, act, Proper, exchanges}
+use Rattle.exact.specs.Rows.{ones, Gate, phase, exchange, had, column, raise, raw, act, Proper, exchanges}
 use Rattle.exact.specs.Fits.{mostK, stepFits, AllSmall}
-use Rattle.exact.proofs.Flips.{flip-lt}
+use Rattle.exact.proofs.Flips.{moved, moved-lt}
 use Rattle.exact.proofs.Values.{pick-ind, entries-to, entries-from, divisible-to, divisible-from, sqrt2s-cancel, equal-same, lower-stays}
 use Rattle.exact.proofs.Linear.{column-cong, raw-back}
 use Rattle.exact.proofs.Acts.{act-equal}
@@ -46,7 +46,7 @@ module _ (n : ℕ) where
   exchange-every : (P : Zω → Type 0) (ks : List ℕ) (k : ℕ) (x : Exact) → Proper n (exchange ks k) → Every P x → Every P (raw (exchange ks k) x)
   unfolding column
   exchange-every P ks k x pr w r c i j =
-      w (pick (ones ks r) (flip k r) r) c (pick-ind (λ (s : ℕ). s < 2 ^ n) (ones ks r) (λ e. flip-lt n k r (pr .0) i) (λ e. i)) j
+      w (moved ks k r) c (moved-lt ks k n (pr .0) r i) j
 
   -- an exchange undoes itself
   exchange-twice : (ks : List ℕ) (k : ℕ) (x : Exact) → Proper n (exchange ks k) → (r c : ℕ) → r < 2 ^ n → c < 2 ^ n
@@ -85,18 +85,18 @@ module _ (n : ℕ) where
   pub exchange-small : (ks : List ℕ) (k : ℕ) (x : Exact) → Proper n (exchange ks k) → AllSmall n (x .e) → AllSmall n (raw (exchange ks k) x .e)
   exchange-small ks k x pr w = record { small = exchange-every Small ks k x pr (w .small) }
 
-  -- ---- what fits
-  small-step : (g : Gate) (x : Exact) → AllSmall n (raw g x .e) → raw g x .k ≤ mostK → stepFits n g x ≡ true
+  -- ---- a step fits where its coefficients are within the limit and the exponent is at most 65535
+  pub step-fits : (g : Gate) (x : Exact) → AllSmall n (raw g x .e) → raw g x .k ≤ mostK → stepFits n g x ≡ true
   unfolding stepFits
-  small-step g x w h =
+  step-fits g x w h =
       and-both (leb (raw g x .k) mostK) (allEntries n (λ r c. fits (raw g x .e r c))) (le-leb (raw g x .k) mostK h)
       (entries-from n (λ r c. fits (raw g x .e r c)) (λ r c i j. small-fits (raw g x .e r c) (w .small r c i j)))
 
   pub phase-step-fits : (ks : List ℕ) (p : ℕ) (x : Exact) → AllSmall n (x .e) → x .k ≤ mostK → stepFits n (phase ks p) x ≡ true
-  phase-step-fits ks p x w h = small-step (phase ks p) x (phase-small ks p x w) h
+  phase-step-fits ks p x w h = step-fits (phase ks p) x (phase-small ks p x w) h
 
   pub exchange-step-fits : (ks : List ℕ) (k : ℕ) (x : Exact) → Proper n (exchange ks k) → AllSmall n (x .e) → x .k ≤ mostK → stepFits n (exchange ks k) x ≡ true
-  exchange-step-fits ks k x pr w h = small-step (exchange ks k) x (exchange-small ks k x pr w) h
+  exchange-step-fits ks k x pr w h = step-fits (exchange ks k) x (exchange-small ks k x pr w) h
 
   -- of H the entries decide, and at the largest exponent it does not fit
   pub had-step : (t : ℕ) (x : Exact) → x .k < mostK → stepFits n (had t) x ≡ allEntries n (λ r c. fits (raw (had t) x .e r c))

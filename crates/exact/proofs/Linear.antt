@@ -13,7 +13,7 @@ use Rattle.cyclotomic.proofs.Turns.{turn-zero, turn-none, turn-add, turn-sum, t
 use Rattle.cyclotomic.proofs.Division.{sqrt2-add, sqrt2-zero, turn-sqrt2, twice-sum, twice-sub}
 use Rattle.exact.specs.Matrix.{Exact, sqrt2s, SameValue, Equal, turned}
 use Rattle.exact.specs.Rows.{flip, ones, Gate, phase, exchange, had, column, raise, raw, Lacks, Proper, touches, Apart, Undoes, turns, exchanges, hads}
-use Rattle.exact.proofs.Flips.{flip-flip, flip-comm, bit-own, bit-other, ones-other, flip-lt}
+use Rattle.exact.proofs.Flips.{flip-flip, flip-comm, bit-own, bit-other, ones-other, flip-lt, moved-back}
 use Rattle.exact.proofs.Values.{sqrt2s-sqrt2}
 
 -- zero, or a power of omega
@@ -210,11 +210,7 @@ raw-swap n g h x a = record { exponent = raise-swap g h (x .k); entries = λ r c
 
 exchange-back : (ks : List ℕ) (k : ℕ) (v : ℕ → Zω) (r : ℕ) → Lacks k ks → column (exchange ks k) (column (exchange ks k) v) r ≡ v r
 unfolding column
-exchange-back ks k v r l = ap v (go (ones ks r) refl)
-  where
-    go : (b : Bool) → ones ks r ≡ b → pick (ones ks (pick b (flip k r) r)) (flip k (pick b (flip k r) r)) (pick b (flip k r) r) ≡ r
-    go true e = rw (ones-other k ks r l ∙ e) (flip-flip k r)
-    go false e = rw e refl
+exchange-back ks k v r l = ap v (moved-back ks k l r)
 
 phase-back : (ks : List ℕ) (p q : ℕ) (v : ℕ → Zω) (r : ℕ) → (p + q) % 8 ≡ 0 → column (phase ks p) (column (phase ks q) v) r ≡ v r
 unfolding column

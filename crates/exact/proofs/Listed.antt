@@ -7,12 +7,12 @@ use Prim.Native.Nat.{ℕ, suc, _+_, _≤_}
 use native.Mathlib.Omega.{arith}
 use lib.ListN.{length}
 use Rattle.circuit.specs.Pairs.{inverse, disjoint}
-use Rattle.exact.specs.Matrix.{Exact, SameValue, Equal, Lowest, identity, PowerOf}
+use Rattle.exact.specs.Matrix.{Exact, Equal, Lowest, identity, PowerOf}
 use Rattle.exact.specs.Rows.{Gate, raw, act, gateOf}
 use Rattle.exact.specs.Lists.{after, product}
 use Rattle.exact.proofs.Linear.{raise-most}
 use Rattle.exact.proofs.Values.{equal-sym, equal-same, lower-k}
-use Rattle.exact.proofs.Acts.{act-lowest, act-equal, act-same, act-swap, act-back-lowest, act-power}
+use Rattle.exact.proofs.Acts.{act-lowest, act-equal, act-swap, act-back-lowest, act-power}
 use Rattle.exact.proofs.Coded.{proper, inverse-undoes, disjoint-apart}
 
 module _ (n : ℕ) where
@@ -20,13 +20,6 @@ module _ (n : ℕ) where
   pub after-append : (x : Exact) (l m : List ℕ) → after n x (l ++ m) ≡ after n (after n x l) m
   after-append x [] m = refl
   after-append x (g ∷ l) m = after-append (act n (gateOf n g) x) l m
-
-  pub after-snoc : (x : Exact) (l : List ℕ) (g : ℕ) → after n x (l ++ (g ∷ [])) ≡ act n (gateOf n g) (after n x l)
-  after-snoc x l g = after-append x l (g ∷ [])
-
-  pub product-nil : product n [] ≡ identity
-  unfolding product
-  product-nil = refl
 
   pub product-append : (l m : List ℕ) → product n (l ++ m) ≡ after n (product n l) m
   unfolding product
@@ -48,10 +41,6 @@ module _ (n : ℕ) where
   pub after-equal : {x y : Exact} (l : List ℕ) → Equal n x y → Equal n (after n x l) (after n y l)
   after-equal [] s = s
   after-equal (g ∷ l) s = after-equal l (act-equal n (gateOf n g) (proper n g) (equal-same n s))
-
-  pub after-same : {x y : Exact} (l : List ℕ) → SameValue n x y → SameValue n (after n x l) (after n y l)
-  after-same [] s = s
-  after-same (g ∷ l) s = after-same l (act-same n (gateOf n g) (proper n g) s)
 
   pub after-power : {x y : Exact} (l : List ℕ) → PowerOf n x y → PowerOf n (after n x l) (after n y l)
   after-power [] s = s

@@ -9,7 +9,7 @@ use borrow.Author.Tests.{eq-eqb, ne-eqb}
 use lib.Dec.{eqb}
 use Rattle.ints.specs.Bits.{bit}
 use Rattle.ints.specs.Lists.{pick, all}
-use Rattle.ints.proofs.Bools.{clash, and-true}
+use Rattle.ints.proofs.Bools.{and-true, and-assoc}
 use Rattle.cyclotomic.specs.Zomega.{Zω, zeroω, oneω, addω, subω, mulω, turn}
 use Rattle.cyclotomic.proofs.Sums.{add-comm, add-zero}
 use Rattle.cyclotomic.proofs.Turns.{sub-is}
@@ -20,20 +20,13 @@ use Rattle.exact.specs.Matrix.{Exact, SameValue, Equal, sqrt2s, identity
 use Rattle.exact.specs.Rows.{flip, ones, phase, exchange, had, column, raw, bitOf, gate, gateOf, Proper}
 use Rattle.exact.specs.Lists.{after, product}
 use Rattle.exact.specs.Paper.{Single, hadamard, pauliX, phaseGate, controlled, matrixOf, paperGate, paperOf, sumω, multiply, paperAfter, paperProduct}
-use Rattle.exact.proofs.Flips.{bit-own, flip-lt}
+use Rattle.exact.proofs.Flips.{bit-own, flip-differs, flip-lt}
 use Rattle.exact.proofs.Values.{same-refl, same-trans, equal-same, lower-same}
 use Rattle.exact.proofs.Linear.{raw-same}
 use Rattle.exact.proofs.Coded.{proper}
 use Rattle.exact.proofs.Terms.{sum-one, sum-two}
 
 -- ---- a row of a controlled gate has two places
-
-flip-differs : (t r : ℕ) → r ≡ flip t r → ⊥
-flip-differs t r e = by (bit r t) (ap (λ (s : ℕ). bit s t) e ∙ bit-own t r)
-  where
-    by : (b : Bool) → b ≡ not b → ⊥
-    by true h = clash refl h
-    by false h = clash h refl
 
 module _ (g : Single) (ks : List ℕ) (t r : ℕ) where
   own : controlled g ks t r r ≡ pick (ones ks r) (g .u (bit r t) (bit r t)) (sqrt2s (g .k) oneω)
@@ -68,11 +61,7 @@ zero-one x y = add-comm (mulω zeroω x) (mulω oneω y) ∙ one-zero y x
 ones-append : (ks : List ℕ) (t r : ℕ) → ones (ks ++ (t ∷ [])) r ≡ ones ks r && bit r t
 unfolding all
 ones-append [] t r = and-true (bit r t)
-ones-append (k ∷ ks) t r = ap (λ (b : Bool). bit r k && b) (ones-append ks t r) ∙ and-assoc (bit r k) (ones ks r) (bit r t)
-  where
-    and-assoc : (a b c : Bool) → a && (b && c) ≡ (a && b) && c
-    and-assoc true b c = refl
-    and-assoc false b c = refl
+ones-append (k ∷ ks) t r = ap (λ (b : Bool). bit r k && b) (ones-append ks t r) ∙ sym (and-assoc (bit r k) (ones ks r) (bit r t))
 
 module _ (n t : ℕ) (x : Exact) (h : t < n) where
   pub paper-had : Equal n (multiply n (matrixOf hadamard [] t) x) (raw (had t) x)
@@ -129,7 +118,8 @@ paper-nothing n x = multiply-identity n x
 
 -- ---- the gate of a code
 
-paper-kind : (n : ℕ) (k : Kind) (a b c : ℕ) (x : Exact) → Proper n (gate n k a b c)
+-- each kind's row operation is the product with the paper's matrix, on any operands that are bits of the width, the target no control
+pub paper-kind : (n : ℕ) (k : Kind) (a b c : ℕ) (x : Exact) → Proper n (gate n k a b c)
     → Equal n (multiply n (paperGate n k a b c) x) (raw (gate n k a b c) x)
 paper-kind n H a b c x w = paper-had n (bitOf n a) x w
 paper-kind n X a b c x w = paper-exchange n (bitOf n a) x (w .0) []

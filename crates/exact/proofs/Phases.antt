@@ -38,9 +38,6 @@ eqω-self x = λ i. eqZ-self (x .a) i && (eqZ-self (x .b) i && (eqZ-self (x .c) 
 pub eq-eqω : (x y : Zω) → x ≡ y → eqω x y ≡ true
 eq-eqω x y e = ap (eqω x) (sym e) ∙ eqω-self x
 
-pub equal-ω : (x y : Zω) → (eqω x y ≡ true) ↔ (x ≡ y)
-equal-ω x y = (eqω-true x y, eq-eqω x y)
-
 -- ---- the first that is not zero
 
 pick-turn : (p : ℕ) (b : Bool) (x y : Zω) → pick b (turn p x) (turn p y) ≡ turn p (pick b x y)
@@ -226,3 +223,6 @@ module _ (n : ℕ) where
 
   pub test-of-power : {x y : Exact} → Lowest n x → Lowest n y → PowerOf n x y → upToPhase n x y ≡ true
   test-of-power {x} {y} l m s = power-test (s .power) x y (s .small) (unique n (turned-lowest n (s .power) l) m (s .same))
+
+  pub test-exactly : {x y : Exact} → Lowest n x → Lowest n y → (upToPhase n x y ≡ true) ↔ PowerOf n x y
+  test-exactly {x} {y} l m = (power-of-test x y, test-of-power l m)

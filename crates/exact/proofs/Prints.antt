@@ -11,13 +11,13 @@ use Rattle.cyclotomic.specs.Zomega.{Zω}
 use Rattle.words.specs.Words.{words, product}
 use Rattle.exact.specs.Matrix.{Exact, Equal, Lowest, PowerOf}
 use Rattle.exact.specs.Phase.{flat, phased, upToPhase}
-use Rattle.exact.specs.Fingerprint.{Streams, start, mixAll, xorShift, fold, coefficients, wordsOf, fingerprint}
+use Rattle.exact.specs.Fingerprint.{Streams, start, mixAll, xorShift, fold, fourWords, wordsOf, fingerprint}
 use Rattle.exact.proofs.Phases.{flat-equal, phased-equal, test-phased, test-of-power}
 
 pub words-same : (m : ℕ) (f g : ℕ → Zω) → ((i : ℕ) → i < m → f i ≡ g i) → wordsOf m f ≡ wordsOf m g
 words-same zero f g h = refl
 words-same (suc m) f g h =
-    λ i. coefficients (h 0 (omega arith) i) ++ words-same m (λ j. f (suc j)) (λ j. g (suc j)) (λ j q. h (suc j) (omega arith)) i
+    λ i. fourWords (h 0 (omega arith) i) ++ words-same m (λ j. f (suc j)) (λ j. g (suc j)) (λ j q. h (suc j) (omega arith)) i
 
 product-lt : (a b : ℕ) → product a b < 2 ^ 64
 unfolding product

@@ -11,7 +11,7 @@ use lib.Dec.{eqb}
 use borrow.Author.Tests.{eqb-true, eq-eqb, ne-eqb}
 use Rattle.ints.specs.Bits.{bit}
 use Rattle.ints.specs.Lists.{pick}
-use Rattle.ints.proofs.Bools.{clash, iff}
+use Rattle.ints.proofs.Bools.{iff}
 use Rattle.cyclotomic.specs.Zomega.{Zω, zeroω, oneω, addω, subω, mulω, turn, sqrt2}
 use Rattle.cyclotomic.proofs.Four.{Four, same4, zeroE, addE, turnE, X, of1}
 use Rattle.cyclotomic.proofs.Sums.{add-comm}
@@ -23,8 +23,8 @@ use Rattle.exact.specs.Rows.{flip, ones, Gate, phase, exchange, had, col
 use Rattle.exact.specs.Lists.{after, product}
 use Rattle.exact.specs.Paper.{sumω}
 use Rattle.exact.specs.Unitary.{conj, inner, natω, Unitary}
-use Rattle.exact.proofs.Flips.{flip-flip, bit-own, ones-other, flip-lt}
-use Rattle.exact.proofs.Values.{sqrt2s-sqrt2, sqrt2s-comm, sqrt2s-cancel, sqrt2s-add, pick-ind, lower-same}
+use Rattle.exact.proofs.Flips.{flip-flip, bit-own, bit-differs, flip-lt, moved, moved-back, moved-lt}
+use Rattle.exact.proofs.Values.{sqrt2s-sqrt2, sqrt2s-comm, sqrt2s-cancel, sqrt2s-add, lower-same}
 use Rattle.exact.proofs.Acts.{power-sym}
 use Rattle.exact.proofs.Coded.{proper}
 use Rattle.exact.proofs.Conj.{conj-add, conj-zero, conj-one, turn-conj, turn-whole, sqrt2-conj, sum-same, sum-add, sum-turn, sum-sqrt2}
@@ -132,22 +132,6 @@ phase-row : (b : Bool) (p : ℕ) (z : Zω) → pick b (turn p z) z ≡ turn (pic
 phase-row true p z = refl
 phase-row false p z = sym (turn-none z)
 
--- the rows that an exchange takes
-module _ (ks : List ℕ) (k : ℕ) where
-  abbrev moved : ℕ → ℕ
-  moved r = pick (ones ks r) (flip k r) r
-
-  moved-back : Lacks k ks → (r : ℕ) → moved (moved r) ≡ r
-  moved-back w r = go (ones ks r) refl
-    where
-      go : (b : Bool) → ones ks r ≡ b → moved (pick b (flip k r) r) ≡ r
-      go true e = ap (λ (b : Bool). pick b (flip k (flip k r)) (flip k r)) (ones-other k ks r w ∙ e) ∙ flip-flip k r
-      go false e = ap (λ (b : Bool). pick b (flip k r) r) e
-
-no-not : (b : Bool) → b ≡ not b → ⊥
-no-not true e = clash refl e
-no-not false e = clash e refl
-
 -- sum and difference as one form
 abbrev sign : Bool → ℕ
 sign b = pick b 4 0
@@ -230,20 +214,13 @@ module _ (n : ℕ) where
       ∙ rows-turn u (pick (ones ks i) p 0) (pick (ones ks j) p 0) i j a b
       ∙ delta-turn (λ r. pick (ones ks r) p 0) (x .k) i j)
 
-  moved-lt : (ks : List ℕ) (k : ℕ) → k < n → (r : ℕ) → r < 2 ^ n → moved ks k r < 2 ^ n
-  moved-lt ks k h r p = pick-ind (λ (s : ℕ). s < 2 ^ n) (ones ks r) (λ e. flip-lt n k r h p) (λ e. p)
-
   unitary-exchange : (ks : List ℕ) (k : ℕ) {x : Exact} → k < n → Lacks k ks → Unitary n x → Unitary n (raw (exchange ks k) x)
   unfolding column
   unitary-exchange ks k {x} h w u = unitary (raw (exchange ks k) x) (λ i j a b.
-      rows u (moved ks k i) (moved ks k j) (moved-lt ks k h i a) (moved-lt ks k h j b)
+      rows u (moved ks k i) (moved ks k j) (moved-lt ks k n h i a) (moved-lt ks k n h j b)
       ∙ delta-same (moved ks k) (moved-back ks k w) (x .k) i j)
 
   module _ (k : ℕ) (h : k < n) {x : Exact} (u : Unitary n x) where
-    -- a row and its partner differ in bit k
-    partner : (i : ℕ) → bit i k ≡ bit (flip k i) k → ⊥
-    partner i e = no-not (bit i k) (e ∙ bit-own k i)
-
     had-rows : Rows n (raw (had k) x)
     unfolding column
     had-rows i j a b =
@@ -260,8 +237,8 @@ module _ (n : ℕ) where
         (addω (turn (s + 7 * t) (delta (x .k) i j)) (turn (0 + 7 * t) (delta-cross (flip k) (flip-flip k) (x .k) i j z)))
         (addω (turn (s + 7 * 0) (delta (x .k) i (flip k j))) (turn (0 + 7 * 0) (delta-same (flip k) (flip-flip k) (x .k) i j z))))
         ∙ had-cases (bit i k) (bit j k) (delta (x .k) i j) (delta (x .k) i (flip k j))
-        (λ e. delta-other (x .k) i (flip k j) (λ f. partner j (sym e ∙ ap (λ (r : ℕ). bit r k) f)))
-        (λ e. delta-other (x .k) i j (λ f. partner j (sym (ap (λ (r : ℕ). bit r k) f) ∙ e ∙ sym (bit-own k j))))
+        (λ e. delta-other (x .k) i (flip k j) (λ f. bit-differs k j (sym e ∙ ap (λ (r : ℕ). bit r k) f)))
+        (λ e. delta-other (x .k) i j (λ f. bit-differs k j (sym (ap (λ (r : ℕ). bit r k) f) ∙ e ∙ sym (bit-own k j))))
         ∙ sym (delta-double (x .k) i j)
 
   pub unitary-raw : (g : Gate) {x : Exact} → Proper n g → Unitary n x → Unitary n (raw g x)

@@ -41,7 +41,6 @@ pick-ind P true f g = f refl
 pick-ind P false f g = g refl
 
 module _ (n : ℕ) where
-  -- ---- the test of all entries
   -- ---- a test of every entry, both ways
   pub entries-to : (f : ℕ → ℕ → Bool) → allEntries n f ≡ true → (r c : ℕ) → r < 2 ^ n → c < 2 ^ n → f r c ≡ true
   entries-to f h r c p q =

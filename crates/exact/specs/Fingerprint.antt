@@ -38,13 +38,14 @@ unfoldable pub fold : Streams → ℕ
 fold s =
     xorShift 31 (product (xorShift 27 (product (xorShift 30 (bitXor (s .first) (rotated 32 (s .second)))) 13787848793156543929)) 10723151780598845931)
 
-abbrev pub coefficients : Zω → List ℕ
-coefficients x = word (x .a) ∷ word (x .b) ∷ word (x .c) ∷ word (x .d) ∷ []
+-- the words of an entry's coefficients
+abbrev pub fourWords : Zω → List ℕ
+fourWords x = word (x .a) ∷ word (x .b) ∷ word (x .c) ∷ word (x .d) ∷ []
 
 -- the words of m entries
 abbrev pub wordsOf : ℕ → (ℕ → Zω) → List ℕ
 wordsOf zero f = []
-wordsOf (suc m) f = coefficients (f 0) ++ wordsOf m (λ i. f (suc i))
+wordsOf (suc m) f = fourWords (f 0) ++ wordsOf m (λ i. f (suc i))
 
 -- "Words: width, k, then each phased coefficient sign-extended to 64 bits."
 unfoldable pub fingerprint : ℕ → Exact → ℕ

@@ -2,12 +2,11 @@
 use mathlib.Core.Path.{_≡_}
 use mathlib.Core.Bool.{Bool, true, false, _&&_}
 use mathlib.Core.List.{List, [], _∷_}
-use Prim.Native.Nat.{ℕ, suc, _^_, _≤_, _<_}
-use lib.IntN.{natAbs}
+use Prim.Native.Nat.{ℕ, suc, _^_, _<_}
 use lib.Dec.{leb}
 use lib.ListN.{length, getD, take}
 use Rattle.ints.specs.Lists.{pick}
-use Rattle.cyclotomic.specs.Zomega.{Zω, fits, Small}
+use Rattle.cyclotomic.specs.Zomega.{Zω, limit, fits, WithinBound}
 use Rattle.exact.specs.Matrix.{Exact, allEntries, identity}
 use Rattle.exact.specs.Rows.{Gate, raw, act, gateOf}
 use Rattle.exact.specs.Lists.{product}
@@ -20,9 +19,13 @@ mostK = 65535
 unfoldable pub stepFits : ℕ → Gate → Exact → Bool
 stepFits n g x = leb (raw g x .k) mostK && allEntries n (λ r c. fits (raw g x .e r c))
 
+-- every coefficient of every entry is within a bound
+pub record AllWithin (n bound : ℕ) (e : ℕ → ℕ → Zω) : Type 0 where
+  pub small : (r c : ℕ) → r < 2 ^ n → c < 2 ^ n → WithinBound bound (e r c)
+
 -- every coefficient of every entry is within the limit
-pub record AllSmall (n : ℕ) (e : ℕ → ℕ → Zω) : Type 0 where
-  pub small : (r c : ℕ) → r < 2 ^ n → c < 2 ^ n → Small (e r c)
+abbrev pub AllSmall : ℕ → (ℕ → ℕ → Zω) → Type 0
+AllSmall n e = AllWithin n limit e
 
 -- whether every step of a list fits, or the position of the first that does not
 pub data Steps : Type 0 where
@@ -50,13 +53,3 @@ pub record FirstPast (n : ℕ) (l : List ℕ) (i : ℕ) : Type 0 where
   pub inside : i < length l
   pub before : (j : ℕ) → j < i → stepWithin n l j ≡ true
   pub past : stepWithin n l i ≡ false
-
--- every coefficient is within a bound
-pub record WithinBound (bound : ℕ) (z : Zω) : Type 0 where
-  pub a-in : natAbs (z .a) ≤ bound
-  pub b-in : natAbs (z .b) ≤ bound
-  pub c-in : natAbs (z .c) ≤ bound
-  pub d-in : natAbs (z .d) ≤ bound
-
-pub record AllWithin (n bound : ℕ) (x : Exact) : Type 0 where
-  pub within : (r c : ℕ) → r < 2 ^ n → c < 2 ^ n → WithinBound bound (x .e r c)

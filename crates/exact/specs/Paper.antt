@@ -40,7 +40,7 @@ diagonal p false false = oneω
 abbrev pub phaseGate : ℕ → Single
 phaseGate p = record { k = 0; u = diagonal p }
 
--- the rows r and s agree on all bits but t
+-- the rows r and s have the same bits, bit t left aside: there they may differ or not
 abbrev pub agree : ℕ → ℕ → ℕ → Bool
 agree t r s = eqb s r || eqb s (flip t r)
 

@@ -5,6 +5,8 @@ use Prim.Native.Nat.{ℕ, suc, zero, _+_, _≤_, _<_}
 use native.Mathlib.Omega.{arith}
 use native.Mathlib.Decide.{ℕ-discrete}
 use Rattle.ints.specs.Lists.{range, all}
+-- the kit's
+pub use mathlib.Core.Bool.{and-true, and-assoc, or-false, or-assoc}
 
 -- no test is both true and false
 pub clash {ℓ} : {A : Type ℓ} {t : Bool} → t ≡ true → t ≡ false → A
@@ -24,9 +26,9 @@ pub and-both : (s t : Bool) → s ≡ true → t ≡ true → s && t ≡ true
 and-both true t p q = q
 and-both false t p q = p
 
-pub and-true : (t : Bool) → t && true ≡ t
-and-true true = refl
-and-true false = refl
+pub neither : (s t : Bool) → s || t ≡ false → (s ≡ false) × (t ≡ false)
+neither true t h = clash refl h
+neither false t h = (refl, h)
 
 pub or-right : (s t : Bool) → t ≡ true → s || t ≡ true
 or-right true t h = refl

@@ -2,24 +2,18 @@
 -- multiplied out to a list of terms, a number and a sorted list of variables each, and every number is 0.
 -- Assumes nothing.
 use mathlib.Core.Path.{_≡_, refl, sym, ap, _∙_}
-use mathlib.Core.Bool.{Bool, true, false}
+use mathlib.Core.Bool.{Bool, true, false, _&&_}
 use mathlib.Core.List.{List, [], _∷_}
-use Prim.Native.Nat.{ℕ, _+_, _*_}
+use Prim.Native.Nat.{ℕ}
 use native.Mathlib.Omega.{arith}
 use lib.Dec.{T, leb, eqb, eqb→eq}
+use mir.Facts.{and-yes}
 use lib.IntN.{ℤ, pos, negsuc, negℤ, _+ℤ_, _*ℤ_, +ℤ-idl, +ℤ-assoc, zero-*ℤ}
+use Rattle.ints.specs.Lists.{pick}
 use Rattle.ints.proofs.Int.{Ex, var, lit, _⊕_, _⊖_, _⊗_, ⊝_, value, look, ring, eqn, A, B, C, D, int}
 
 abbrev pub Term : Type 0
 Term = ℤ × List ℕ
-
-abbrev both : Bool → Bool → Bool
-both true b = b
-both false b = false
-
-abbrev pick {ℓ} : {X : Type ℓ} → Bool → X → X → X
-pick true x y = x
-pick false x y = y
 
 -- ---- monomials
 abbrev mono : List ℤ → List ℕ → ℤ
@@ -38,7 +32,7 @@ abbrev eqm : List ℕ → List ℕ → Bool
 eqm [] [] = true
 eqm [] (j ∷ n) = false
 eqm (i ∷ m) [] = false
-eqm (i ∷ m) (j ∷ n) = both (eqb i j) (eqm m n)
+eqm (i ∷ m) (j ∷ n) = eqb i j && eqm m n
 
 -- ---- sums of terms
 abbrev term : List ℤ → Term → ℤ
@@ -82,26 +76,20 @@ isZero (negsuc n) = false
 
 abbrev pub zeros : List Term → Bool
 zeros [] = true
-zeros (t ∷ p) = both (isZero (t .0)) (zeros p)
+zeros (t ∷ p) = isZero (t .0) && zeros p
 
 -- ---- soundness
 pick-ind : {X : Type 0} (P : X → Type 0) (b : Bool) (x y : X) → (T b → P x) → P y → P (pick b x y)
 pick-ind P true x y f g = f tt
 pick-ind P false x y f g = g
 
-both-left : (a b : Bool) → T (both a b) → T a
-both-left true b t = tt
-both-left false b t = t
-
-both-right : (a b : Bool) → T (both a b) → T b
-both-right true b t = t
-both-right false b t = absurd t
-
 eqm→eq : (m n : List ℕ) → T (eqm m n) → m ≡ n
 eqm→eq [] [] t = refl
 eqm→eq [] (j ∷ n) t = absurd t
 eqm→eq (i ∷ m) [] t = absurd t
-eqm→eq (i ∷ m) (j ∷ n) t = λ k. eqb→eq i j (both-left (eqb i j) (eqm m n) t) k ∷ eqm→eq m n (both-right (eqb i j) (eqm m n) t) k
+eqm→eq (i ∷ m) (j ∷ n) t =
+    let both = and-yes (eqb i j) (eqm m n) t in
+    λ k. eqb→eq i j (both .0) k ∷ eqm→eq m n (both .1) k
 
 swap : (x y m : ℤ) → y *ℤ (x *ℤ m) ≡ x *ℤ (y *ℤ m)
 swap x y m = ring (x ∷ y ∷ m ∷ []) (B ⊗ (A ⊗ C)) (A ⊗ (B ⊗ C)) (omega arith)
@@ -181,7 +169,8 @@ module _ (ρ : List ℤ) where
   zeros-is : (p : List Term) → T (zeros p) → total ρ p ≡ pos 0
   zeros-is [] h = refl
   zeros-is (t ∷ p) h =
-      (λ i. zero-is (t .0) (both-left (isZero (t .0)) (zeros p) h) i *ℤ mono ρ (t .1) +ℤ zeros-is p (both-right (isZero (t .0)) (zeros p) h) i)
+      let both = and-yes (isZero (t .0)) (zeros p) h in
+      (λ i. zero-is (t .0) (both .0) i *ℤ mono ρ (t .1) +ℤ zeros-is p (both .1) i)
       ∙ ap (λ (z : ℤ). z +ℤ pos 0) (zero-*ℤ (mono ρ (t .1)))
 
   pub solve : (e f : Ex) → T (zeros (norm (e ⊖ f))) → value ρ e ≡ value ρ f

@@ -8,16 +8,16 @@ use lib.IntN.{ℤ}
 use Rattle.cyclotomic.specs.Zomega.{Zω, turn}
 use Rattle.words.specs.Words.{words}
 use Rattle.exact.specs.Phase.{flat, phaseOf, phased}
-use Rattle.exact.specs.Fingerprint.{Streams, start, mix, mixAll, fold, coefficients, wordsOf, fingerprint}
+use Rattle.exact.specs.Fingerprint.{Streams, start, mix, mixAll, fold, fourWords, wordsOf, fingerprint}
 use Rattle.exact.proofs.Prints.{words-same}
 use Rattle.places.specs.Places.{entry, held}
 use Rattle.places.proofs.Placed.{read-at}
 use Rattle.prints.proofs.Pivots.{phase-any}
 
 -- the words of one entry more
-pub words-last : (m : ℕ) (s : Streams) (f : ℕ → Zω) → mixAll s (wordsOf (suc m) f) ≡ mixAll (mixAll s (wordsOf m f)) (coefficients (f m))
+pub words-last : (m : ℕ) (s : Streams) (f : ℕ → Zω) → mixAll s (wordsOf (suc m) f) ≡ mixAll (mixAll s (wordsOf m f)) (fourWords (f m))
 words-last zero s f = refl
-words-last (suc m) s f = words-last m (mixAll s (coefficients (f 0))) (λ i. f (suc i))
+words-last (suc m) s f = words-last m (mixAll s (fourWords (f 0))) (λ i. f (suc i))
 
 -- the words of the entries, turned by the phase
 phased-words : (n k p : ℕ) (l : List ℤ) → p ≡ phaseOf n (held n 0 l)

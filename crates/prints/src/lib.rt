@@ -7,7 +7,7 @@ ghost use Rattle.cyclotomic.specs.Zomega.{phase, Small, turn};
 ghost use Rattle.places.specs.Places.{entry, read, held};
 ghost use Rattle.exact.specs.Fits.{AllSmall};
 ghost use Rattle.exact.specs.Phase.{phaseOf, upToPhase};
-ghost use Rattle.exact.specs.Fingerprint.{mix, mixAll, fold, coefficients, wordsOf, fingerprint};
+ghost use Rattle.exact.specs.Fingerprint.{mix, mixAll, fold, fourWords, wordsOf, fingerprint};
 ghost use Rattle.prints.specs.Prints.{FirstNonzero, SmallTo, streams};
 use cyclotomic::Coefficient;
 use cyclotomic::Cyclotomic;
@@ -112,7 +112,7 @@ impl Streams {
     }
 
     fn mix_entry(self, z: Cyclotomic) -> Streams
-        ensures { λ r. ⌜ streams r ≡ mixAll (streams self) (coefficients z) ⌝ }
+        ensures { λ r. ⌜ streams r ≡ mixAll (streams self) (fourWords z) ⌝ }
     {
         let a = self.mix(words::sign_extended(z.a));
         let b = a.mix(words::sign_extended(z.b));

@@ -3,7 +3,7 @@ use mathlib.Core.Path.{_∙_}
 use native.Mathlib.Omega.{arith}
 use mir.Facts.{toZ-ofZ}
 use Rattle.ints.proofs.Machine.{said}
-use Rattle.cyclotomic.specs.Zomega.{near, half}
+use Rattle.cyclotomic.specs.Zomega.{near}
 use Rattle.cyclotomic.proofs.Number.{half-abs, half-fits}
 use Rattle.cyclotomic.proofs.halved.Statement.{statement}
 use Rattle.cyclotomic.proofs.halved.Tie as tie

@@ -1,13 +1,12 @@
 -- `negated` meets its contract: a number within the limit has its negation within it, formed in the wide type.
-use borrow.Author.Needs.{needs}
 use mathlib.Core.Path.{_∙_}
 use mathlib.Core.List.{[], _∷_}
 use native.Mathlib.Omega.{arith}
-use lib.IntN.{+ℤ-idl, negℤ, natAbs}
+use lib.IntN.{+ℤ-idl}
 use mir.Facts.{toZ-ofZ, sfits-widen}
 use Rattle.cyclotomic.specs.Zomega.{near, far}
 use Rattle.ints.proofs.Int.{_⊖_, A, int}
-use Rattle.ints.proofs.Machine.{fit, range, read-wide, said, abs-is, abs-neg}
+use Rattle.ints.proofs.Machine.{fit, read-wide, said, abs-is, abs-neg}
 use Rattle.cyclotomic.proofs.negated.Statement.{statement}
 use Rattle.cyclotomic.proofs.negated.Tie as tie
 

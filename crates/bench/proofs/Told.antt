@@ -3,7 +3,8 @@ use mathlib.Core.Path.{_≡_, sym, ap, _∙_}
 use mathlib.Core.List.{List}
 use Prim.Native.Nat.{ℕ}
 use lib.IntN.{ℤ}
-use Rattle.murm.specs.Entries.{Answer, Outcome, outcome, toldListed, toldFingerprinted}
+use Rattle.exact.specs.Answers.{Answer}
+use Rattle.murm.specs.Entries.{Outcome, outcome, toldListed, toldFingerprinted}
 use Rattle.murm.specs.declared.Listed.{Listed}
 use Rattle.murm.specs.declared.Fingerprinted.{Fingerprinted}
 use Rattle.bench.specs.Numbers.{orElse}

@@ -1,6 +1,6 @@
 -- An entry's answer as one number. Assumes nothing.
 use Prim.Native.Nat.{ℕ}
-use Rattle.murm.specs.Entries.{Answer, given, refused}
+use Rattle.exact.specs.Answers.{Answer, given, refused}
 
 -- the number given, or another for every refusal
 abbrev pub orElse : ℕ → Answer → ℕ

@@ -13,7 +13,7 @@ use Rattle.exact.specs.Answers.{given, refused, listAnswer}
 use Rattle.exact.specs.Fingerprint.{fingerprint}
 use Rattle.places.specs.Places.{read, held}
 use Rattle.matrix.specs.Step.{Holds}
-use Rattle.murm.specs.Entries.{byteCount, firstInvalid, lowestByte, coefficients, outcome, listed, fingerprinted}
+use Rattle.murm.specs.Entries.{byteCount, firstInvalid, anyBelow, coefficients, outcome, listed, fingerprinted}
 use Rattle.murm.proofs.Bytes.{places-are}
 
 module _ (n : ℕ) (codes : List ℕ) (bytes : List ℤ) where
@@ -56,11 +56,11 @@ module _ (n k : ℕ) (bytes : List ℤ) where
     print-9 p = rw (le-ltb 5 n h, ne-eqb (length bytes) (byteCount n) p)
 
     module _ (p : length bytes ≡ byteCount n) where
-      pub print-10 : lowestByte bytes ≡ true → refused 10 0 ≡ fingerprinted n k bytes
+      pub print-10 : anyBelow bytes ≡ true → refused 10 0 ≡ fingerprinted n k bytes
       unfolding fingerprinted
       print-10 e = rw (le-ltb 5 n h, eq-eqb (length bytes) (byteCount n) p, e)
 
-      module _ (q : lowestByte bytes ≡ false) where
+      module _ (q : anyBelow bytes ≡ false) where
         pub print-11 : (ltb 0 k && allDivisible n (read n bytes)) ≡ true → refused 11 0 ≡ fingerprinted n k bytes
         unfolding fingerprinted
         print-11 e = rw (le-ltb 5 n h, eq-eqb (length bytes) (byteCount n) p, q, e)

@@ -14,11 +14,11 @@ use borrow.Author.Count.{below-more}
 use borrow.Author.Tests.{eq-eqb, ne-eqb, ltb-true, ltb-false, not-true}
 use lib.Dec.{eqb, ltb}
 use Rattle.ints.specs.Lists.{pick, all}
-use Rattle.ints.proofs.Bools.{clash, and-left, and-right}
+use Rattle.ints.proofs.Bools.{clash, and-left, and-right, or-false, or-assoc, neither}
 use Rattle.ints.proofs.Machine.{range}
 use Rattle.cyclotomic.specs.Zomega.{limit, near, eqZ}
 use Rattle.circuit.specs.Codes.{valid}
-use Rattle.murm.specs.Entries.{firstInvalid, lowestByte}
+use Rattle.murm.specs.Entries.{firstInvalid, anyBelow}
 use Rattle.murm.specs.Work.{PastLimit, InRange}
 
 -- ---- codes: the first i are valid
@@ -63,20 +63,6 @@ valid-first n (g ∷ l) h =
     let rest = valid-first n l (and-right (valid n g) (all (valid n) l) h) in
     rw (and-left (valid n g) (all (valid n) l) h) (omega arith)
 
--- ---- tests by "or"
-
-or-false : (s : Bool) → (s || false) ≡ s
-or-false true = refl
-or-false false = refl
-
-or-assoc : (s t u : Bool) → (s || (t || u)) ≡ ((s || t) || u)
-or-assoc true t u = refl
-or-assoc false t u = refl
-
-neither : (s t : Bool) → (s || t) ≡ false → (s ≡ false) × (t ≡ false)
-neither true t h = clash refl h
-neither false t h = (refl, h)
-
 -- ---- coefficients: a byte is -128 or within the limit
 
 pub past-is : (z : ℤ) → SFits near z → ltZ z (negℤ (pos limit)) ≡ eqZ z (negsuc limit)
@@ -93,33 +79,33 @@ pub not-past : (z : ℤ) → SFits near z → ltZ z (negℤ (pos limit)) ≡ fal
 not-past (pos n) f h = omega (arith, f .sfits)
 not-past (negsuc n) f h = omega (arith, ltb-false (limit - 1) n h)
 
-lowest-last : (l : List ℤ) (x : ℤ) → lowestByte (l ++ (x ∷ [])) ≡ (lowestByte l || eqZ x (negsuc limit))
-unfolding lowestByte
-lowest-last [] x = or-false (eqZ x (negsuc limit))
-lowest-last (y ∷ l) x =
-    ap (λ (b : Bool). eqZ y (negsuc limit) || b) (lowest-last l x) ∙ or-assoc (eqZ y (negsuc limit)) (lowestByte l) (eqZ x (negsuc limit))
+below-last : (l : List ℤ) (x : ℤ) → anyBelow (l ++ (x ∷ [])) ≡ (anyBelow l || eqZ x (negsuc limit))
+unfolding anyBelow
+below-last [] x = or-false (eqZ x (negsuc limit))
+below-last (y ∷ l) x =
+    ap (λ (b : Bool). eqZ y (negsuc limit) || b) (below-last l x) ∙ sym (or-assoc (eqZ y (negsuc limit)) (anyBelow l) (eqZ x (negsuc limit)))
 
 -- whether one of the first i coefficients is -128
 pub record RangeTo (l : List ℤ) (i : ℕ) (found : Bool) : Type 0 where
   pub within : i ≤ length l
-  pub told : found ≡ lowestByte (take i l)
+  pub told : found ≡ anyBelow (take i l)
   pub small : found ≡ false → (j : ℕ) → j < i → natAbs (getD l j (pos 0)) ≤ limit
 
 pub range-none : (l : List ℤ) → RangeTo l 0 false
-unfolding lowestByte
+unfolding anyBelow
 range-none l = record { within = omega arith; told = refl; small = λ e j h. absurd (omega arith) }
 
 module _ {l : List ℤ} {i : ℕ} {found : Bool} (w : RangeTo l i found) where
   pub range-more : (r : Bool) → i < length l → PastLimit (getD l i (pos 0)) r → RangeTo l (i + 1) (found || r)
   range-more r h p = record {
     within = omega arith;
-    told = (λ k. w .told k || p .told k) ∙ sym (lowest-last (take i l) (getD l i (pos 0))) ∙ ap lowestByte (sym (take-suc l i (pos 0) h))
-        ∙ ap (λ (k : ℕ). lowestByte (take k l)) (sym (add-one i));
+    told = (λ k. w .told k || p .told k) ∙ sym (below-last (take i l) (getD l i (pos 0))) ∙ ap anyBelow (sym (take-suc l i (pos 0) h))
+        ∙ ap (λ (k : ℕ). anyBelow (take k l)) (sym (add-one i));
     small = λ e. below-more _ _ (w .small (neither found r e .0)) (p .small (neither found r e .1));
   }
 
   pub range-end : length l ≤ i → InRange l (not found)
   range-end h = record {
-    told = ap not (w .told ∙ ap lowestByte (take-all i l h));
+    told = ap not (w .told ∙ ap anyBelow (take-all i l h));
     small = λ e j k. w .small (not-true found e) j (omega arith);
   }

@@ -32,9 +32,9 @@ firstInvalid n [] = 0
 firstInvalid n (g ∷ l) = pick (valid n g) (suc (firstInvalid n l)) 0
 
 -- "a coefficient of -128": one below the limit's negative
-unfoldable pub lowestByte : List ℤ → Bool
-lowestByte [] = false
-lowestByte (x ∷ l) = eqZ x (negsuc limit) || lowestByte l
+unfoldable pub anyBelow : List ℤ → Bool
+anyBelow [] = false
+anyBelow (x ∷ l) = eqZ x (negsuc limit) || anyBelow l
 
 -- ---- "a list becomes a matrix"
 
@@ -82,7 +82,7 @@ unfoldable pub fingerprinted : ℕ → ℕ → List ℤ → Answer
 fingerprinted n k bytes =
     pick (ltb 5 n) (refused 6 0)
     (pick (eqb (length bytes) (byteCount n))
-    (pick (lowestByte bytes) (refused 10 0)
+    (pick (anyBelow bytes) (refused 10 0)
     (pick (ltb 0 k && allDivisible n (read n bytes)) (refused 11 0) (given (fingerprint n (held n k bytes)))))
     (refused 9 0))
 

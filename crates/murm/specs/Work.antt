@@ -6,7 +6,7 @@ use Prim.Native.Nat.{ℕ, _≤_, _<_}
 use lib.IntN.{ℤ, pos, negsuc, natAbs}
 use lib.ListN.{length, getD}
 use Rattle.cyclotomic.specs.Zomega.{limit, eqZ}
-use Rattle.murm.specs.Entries.{lowestByte}
+use Rattle.murm.specs.Entries.{anyBelow}
 
 -- whether a coefficient is -128; a byte that is not is within the limit
 pub record PastLimit (x : ℤ) (r : Bool) : Type 0 where
@@ -15,5 +15,5 @@ pub record PastLimit (x : ℤ) (r : Bool) : Type 0 where
 
 -- the same of all coefficients
 pub record InRange (l : List ℤ) (r : Bool) : Type 0 where
-  pub told : r ≡ not (lowestByte l)
+  pub told : r ≡ not (anyBelow l)
   pub small : r ≡ true → (i : ℕ) → i < length l → natAbs (getD l i (pos 0)) ≤ limit

@@ -9,7 +9,7 @@ use borrow.Author.Needs.{needs}
 use borrow.Author.Tests.{not-true, not-false}
 use Rattle.places.proofs.Placed.{area-le}
 use Rattle.exact.specs.Answers.{given}
-use Rattle.murm.specs.Entries.{byteCount, lowestByte}
+use Rattle.murm.specs.Entries.{byteCount, anyBelow}
 use Rattle.murm.specs.Work.{InRange}
 use Rattle.murm.proofs.Bytes.{byte-count, bytes-small}
 use Rattle.murm.proofs.Answers.{print-6, print-9, print-10, print-11, print-given}
@@ -42,8 +42,8 @@ returns-3 c =
 ranged : (c : tie.Else3) → let s = c .before .before .before .before .before .args in InRange (s .entries .now) true
 ranged c = subst (λ (b : Bool). InRange (c .before .before .before .before .before .args .entries .now) b) (not-false _ (c .if3 .left)) (c .before .in-range .ensures)
 
-none-lowest : (c : tie.Else3) → let s = c .before .before .before .before .before .args in lowestByte (s .entries .now) ≡ false
-none-lowest c = not-true _ (sym (ranged c .told))
+none-below : (c : tie.Else3) → let s = c .before .before .before .before .before .args in anyBelow (s .entries .now) ≡ false
+none-below c = not-true _ (sym (ranged c .told))
 
 -- the matrix is all there
 whole : (c : tie.Else3) → let s = c .before .before .before .before .before .args in (s .width ≤ 5) × (4 * (2 ^ (s .width) * 2 ^ (s .width)) ≤ length (s .entries .now))
@@ -52,7 +52,7 @@ whole c = (sized (c .before .before .before) .0, le-of-eq (sym (byte-count _) �
 returns-4 : tie.Need-returns-4
 returns-4 c =
     let e = c .before .before in
-    print-11 _ _ _ (whole e .0) (exact (e .before .before)) (none-lowest e) (sym (c .before .is-divisible .ensures) ∙ c .if4 .taken)
+    print-11 _ _ _ (whole e .0) (exact (e .before .before)) (none-below e) (sym (c .before .is-divisible .ensures) ∙ c .if4 .taken)
 
 unitary-fingerprint-requires : tie.Need-unitary-fingerprint-requires
 unitary-fingerprint-requires c κs =
@@ -63,7 +63,7 @@ returns-5 : tie.Need-returns-5
 returns-5 c =
     let e = c .before .before .before in
     ap given (c .unitary-fingerprint .ensures)
-    ∙ print-given _ _ _ (whole e .0) (exact (e .before .before)) (none-lowest e) (sym (c .before .before .is-divisible .ensures) ∙ c .before .if4 .left)
+    ∙ print-given _ _ _ (whole e .0) (exact (e .before .before)) (none-below e) (sym (c .before .before .is-divisible .ensures) ∙ c .before .if4 .left)
 
 pub library-fingerprint-spec : {M : Type 1} → statement M
 library-fingerprint-spec =

@@ -7,26 +7,23 @@ use Prim.Native.Nat.{ℕ, zero, suc, _+_, _*_, _^_, _≤_, _<_}
 use native.Mathlib.Omega.{arith}
 use native.Mathlib.Nat.{le-trans, lt-of-le-of-lt, mul-le-mul}
 use native.Mathlib.Decide.{ℕ-discrete, decLt}
-use lib.Dec.{leb}
 use lib.ListN.{length}
 use lib.Pow.{pow-pos, pow-mono}
 use borrow.Author.Tests.{le-leb}
 use Rattle.ints.specs.Lists.{pick}
 use Rattle.ints.proofs.Int.{up}
-use Rattle.ints.proofs.Bools.{both-true}
 use Rattle.cyclotomic.specs.Zomega.{Zω, limit, mulω, overSqrt2, squares, fits, WithinBound}
 use Rattle.cyclotomic.proofs.Squares.{small-of-squares, small-over}
-use Rattle.cyclotomic.proofs.Answers.{fits-small}
 use Rattle.exact.specs.Matrix.{Exact, allEntries, allDivisible, lowered, lower, identity}
 use Rattle.exact.specs.Rows.{Gate, raw, act, gateOf}
 use Rattle.exact.specs.Lists.{after, product}
 use Rattle.exact.specs.Fits.{mostK, stepFits, Steps, allFit, unfitAt, next, stepsFrom, steps, AllWithin, AllSmall}
 use Rattle.exact.specs.Unitary.{conj, inner, Unitary, total, RowLaw}
 use Rattle.exact.proofs.Linear.{raise-most}
-use Rattle.exact.proofs.Values.{pick-ind, entries-to}
+use Rattle.exact.proofs.Values.{pick-ind}
 use Rattle.exact.proofs.Coded.{proper}
 use Rattle.exact.proofs.Listed.{act-k, raw-k}
-use Rattle.exact.proofs.Keeps.{step-fits}
+use Rattle.exact.proofs.Keeps.{step-fits, fits-step}
 use Rattle.exact.proofs.Conj.{own-first, sum-first}
 use Rattle.exact.proofs.Unitaries.{unitary-identity, unitary-raw, unitary-act, unitary-product, unitary-step}
 
@@ -45,6 +42,19 @@ total-most zero b f h = omega arith
 total-most (suc m) b f h =
     let t = total-most m b f (λ c l. h c (omega arith)) in
     omega (arith, h m (omega arith))
+
+-- ---- squares of coefficients within a bound
+
+within-squares : (b : ℕ) (z : Zω) → WithinBound b z → squares z ≤ 4 * (b * b)
+unfolding squares
+within-squares b z w =
+    omega (
+      arith,
+      mul-le-mul (w .a-small) (w .a-small),
+      mul-le-mul (w .b-small) (w .b-small),
+      mul-le-mul (w .c-small) (w .c-small),
+      mul-le-mul (w .d-small) (w .d-small),
+    )
 
 -- ---- the row law
 
@@ -65,25 +75,13 @@ module _ (n : ℕ) where
     small = λ r c p q. small-of-squares b (x .e r c) (lt-of-le-of-lt (entry-bound (row-law u) r c p q) h);
   }
 
--- ---- steps that fit
-
-within-squares : (b : ℕ) (z : Zω) → WithinBound b z → squares z ≤ 4 * (b * b)
-unfolding squares
-within-squares b z w =
-    omega (arith, mul-le-mul (w .a-small) (w .a-small), mul-le-mul (w .b-small) (w .b-small), mul-le-mul (w .c-small) (w .c-small), mul-le-mul (w .d-small) (w .d-small))
-
+-- the first step fits, and all the others do
 both-fit : (b : Bool) (s : Steps) → pick b (next s) (unfitAt 0) ≡ allFit → (b ≡ true) × (s ≡ allFit)
 both-fit true allFit h = (refl, refl)
 both-fit true (unfitAt i) h = let z : _≡_ {A = ℕ} 0 1 = cc in absurd (omega arith)
 both-fit false s h = let z : _≡_ {A = ℕ} 0 1 = cc in absurd (omega arith)
 
 module _ (n : ℕ) where
-  pub fits-step : (g : Gate) (x : Exact) → stepFits n g x ≡ true → AllSmall n (raw g x .e)
-  unfolding stepFits
-  fits-step g x h =
-      let t = both-true (leb (raw g x .k) mostK) (allEntries n (λ r c. fits (raw g x .e r c))) h in
-      record { small = λ r c p q. fits-small (raw g x .e r c) (entries-to n (λ r c. fits (raw g x .e r c)) (t .1) r c p q) }
-
   -- ---- the exponent is small where the coefficients are
   pub exponent-most : (b : ℕ) {x : Exact} → Unitary n x → AllWithin n b (x .e) → 2 ^ x .k ≤ 2 ^ n * (4 * (b * b))
   exponent-most b {x} u w =
@@ -129,7 +127,7 @@ module _ (n : ℕ) where
   after-small [] x w h = w
   after-small (g ∷ l) x w h =
       let t = both-fit (stepFits n (gateOf n g) x) (stepsFrom n (act n (gateOf n g) x) l) h in
-      after-small l (act n (gateOf n g) x) (lower-small (raw (gateOf n g) x) (fits-step (gateOf n g) x (t .0))) (t .1)
+      after-small l (act n (gateOf n g) x) (lower-small (raw (gateOf n g) x) (fits-step n (gateOf n g) x (t .0))) (t .1)
 
   pub product-small : (l : List ℕ) → steps n l ≡ allFit → AllSmall n (product n l .e)
   unfolding steps product

@@ -8,11 +8,11 @@ use native.Mathlib.Omega.{arith}
 use lib.Dec.{leb}
 use borrow.Author.Tests.{le-leb, lt-leb}
 use Rattle.ints.specs.Lists.{pick}
-use Rattle.ints.proofs.Bools.{clash, and-both, iff}
+use Rattle.ints.proofs.Bools.{clash, both-true, and-both, iff}
 use Rattle.cyclotomic.specs.Zomega.{Zω, turn, divisible, fits, Small}
 use Rattle.cyclotomic.proofs.Division.{divisible-turn}
 use Rattle.cyclotomic.proofs.Squares.{small-turn}
-use Rattle.cyclotomic.proofs.Answers.{small-fits}
+use Rattle.cyclotomic.proofs.Answers.{small-fits, fits-small}
 use Rattle.exact.specs.Matrix.{Exact, Equal, allEntries, allDivisible, Lowest}
 use Rattle.exact.specs.Rows.{ones, Gate, phase, exchange, had, column, raise, raw, act, Proper, exchanges}
 use Rattle.exact.specs.Fits.{mostK, stepFits, AllSmall}
@@ -85,12 +85,18 @@ module _ (n : ℕ) where
   pub exchange-small : (ks : List ℕ) (k : ℕ) (x : Exact) → Proper n (exchange ks k) → AllSmall n (x .e) → AllSmall n (raw (exchange ks k) x .e)
   exchange-small ks k x pr w = record { small = exchange-every Small ks k x pr (w .small) }
 
-  -- ---- a step fits where its coefficients are within the limit and the exponent is at most 65535
+  -- ---- what fits: a step whose coefficients are within the limit, at an exponent of at most 65535
   pub step-fits : (g : Gate) (x : Exact) → AllSmall n (raw g x .e) → raw g x .k ≤ mostK → stepFits n g x ≡ true
   unfolding stepFits
   step-fits g x w h =
       and-both (leb (raw g x .k) mostK) (allEntries n (λ r c. fits (raw g x .e r c))) (le-leb (raw g x .k) mostK h)
       (entries-from n (λ r c. fits (raw g x .e r c)) (λ r c i j. small-fits (raw g x .e r c) (w .small r c i j)))
+
+  pub fits-step : (g : Gate) (x : Exact) → stepFits n g x ≡ true → AllSmall n (raw g x .e)
+  unfolding stepFits
+  fits-step g x h =
+      let t = both-true (leb (raw g x .k) mostK) (allEntries n (λ r c. fits (raw g x .e r c))) h in
+      record { small = λ r c p q. fits-small (raw g x .e r c) (entries-to n (λ r c. fits (raw g x .e r c)) (t .1) r c p q) }
 
   pub phase-step-fits : (ks : List ℕ) (p : ℕ) (x : Exact) → AllSmall n (x .e) → x .k ≤ mostK → stepFits n (phase ks p) x ≡ true
   phase-step-fits ks p x w h = step-fits (phase ks p) x (phase-small ks p x w) h

@@ -109,3 +109,5 @@ oneMore (refused r p) = refused r p
 pub record Chained (n basis limit : ℕ) (parents codes : List ℕ) (node : ℕ) : Type 0 where
   pub is-bad : (chainOf n basis parents codes limit node ≡ bad) ↔ Fault n basis limit parents codes node
   pub is-good : (l : List ℕ) → (chainOf n basis parents codes limit node ≡ good l) ↔ Gates n basis limit parents codes node l
+  pub root-depth : (l : List ℕ) → chainOf n basis parents codes limit node ≡ good l → node ≡ 0 → depthOf (chainOf n basis parents codes limit node) ≡ given 0
+  pub one-more : (l : List ℕ) → chainOf n basis parents codes limit node ≡ good l → 0 < node → depthOf (chainOf n basis parents codes limit node) ≡ oneMore (depthOf (chainOf n basis parents codes limit (getD parents node 0)))

@@ -11,7 +11,12 @@ use borrow.Author.Tests.{lt-ltb, le-ltb, ltb-true, ltb-false}
 use Rattle.ints.specs.Lists.{pick, all}
 use Rattle.ints.proofs.Bools.{clash, both-true, and-left, and-right}
 use Rattle.circuit.specs.Codes.{validFor}
-use Rattle.synthesis_arena.specs.Chains.{marked, Chain, good, bad, then, linked, chainOf, Answer, given, refused, depthOf, Walk, Fault, not-below, not-valid, too-many, unmarked, Gates, oneMore, Chained}
+use Rattle.synthesis_arena.specs.Chains.{marked, Chain, good, bad, then, linked, chainOf, Answer, given, refused, depthOf, Walk, Fault, not-below, not-valid, too-many, unmarked, Gates, oneMore, Chained, toldDepth}
+use Rattle.synthesis_arena.specs.declared.NodeDepth.{NodeDepth}
+
+-- an answer that is known by an equation
+pub told-at : {r s : NodeDepth} {a : Answer} → r ≡ s → toldDepth r ≡ a → toldDepth s ≡ a
+told-at e h = sym (ap toldDepth e) ∙ h
 
 -- ---- tests over a list
 

@@ -1,6 +1,6 @@
 -- `depth` meets its contract. The measure is the node number, which falls because a parent lies below its node. Each refusal is a fault of
 -- the walk, and a node's chain is its parent's, within one gate less, and its own gate. Assumes nothing.
-use mathlib.Core.Path.{_≡_, sym, ap, _∙_}
+use mathlib.Core.Path.{_≡_, sym, _∙_}
 use Prim.Native.Nat.{ℕ, _<_}
 use native.Mathlib.Omega.{arith}
 use borrow.Author.Needs.{needs}
@@ -8,8 +8,7 @@ use borrow.Author.Tests.{not-true, not-false}
 use borrow.Fn.Kinds.{In}
 use borrow.Fn.PlainCycle.{Measures, is, falls, and}
 use Rattle.circuit.proofs.LibraryGate.is_valid_for.Reads as is-valid-for-reads
-use Rattle.synthesis_arena.specs.Chains.{toldDepth}
-use Rattle.synthesis_arena.proofs.Chaining.{depth-unmarked, depth-root, depth-spent, depth-not-below, depth-not-valid, depth-more, depth-bad, deep}
+use Rattle.synthesis_arena.proofs.Chaining.{told-at, depth-unmarked, depth-root, depth-spent, depth-not-below, depth-not-valid, depth-more, depth-bad, deep}
 use Rattle.synthesis_arena.proofs.is_marked.Reads as is-marked-reads
 use Rattle.synthesis_arena.proofs.depth.Reads as depth
 use Rattle.synthesis_arena.proofs.depth.Kinds as depth-kinds
@@ -58,20 +57,20 @@ module _ (t : ℕ) where
   add-d : lts.Need-add-t20 (claims t) (depth-at t) depth.Post
   add-d c =
       let s = c .before .before .before .before .before .before .before .before .before .before .before .before .before in
-      let k = deep _ _ _ _ _ _ (sym (ap toldDepth (c .before .d .given .1)) ∙ c .before .before .before .depth .ensures) in
+      let k = deep _ _ _ _ _ _ (told-at (c .before .d .given .1) (c .before .before .before .depth .ensures)) in
       omega (arith, k .within, s .fits .limit)
 
   returns-6 : lts.Need-returns-6 (claims t) (depth-at t) depth.Post
   returns-6 c =
       let e = c .before .before .before .before in
       let l = e .before .before .before .before .before in
-      depth-more _ _ _ _ _ _ (omega (arith, l .before .if1 .left)) (omega (arith, l .if3 .left)) (e .before .before .before .if4 .left) (sym (e .before .is-valid-for .ensures) ∙ not-false _ (e .if5 .left)) (sym (ap toldDepth (c .before .d .given .1)) ∙ c .before .before .before .depth .ensures)
+      depth-more _ _ _ _ _ _ (omega (arith, l .before .if1 .left)) (omega (arith, l .if3 .left)) (e .before .before .before .if4 .left) (sym (e .before .is-valid-for .ensures) ∙ not-false _ (e .if5 .left)) (told-at (c .before .d .given .1) (c .before .before .before .depth .ensures))
 
   returns-7 : lts.Need-returns-7 (claims t) (depth-at t) depth.Post
   returns-7 c =
       let e = c .before .before .before in
       let l = e .before .before .before .before .before in
-      depth-bad _ _ _ _ _ _ (omega (arith, l .before .if1 .left)) (omega (arith, l .if3 .left)) (e .before .before .before .if4 .left) (sym (e .before .is-valid-for .ensures) ∙ not-false _ (e .if5 .left)) (sym (ap toldDepth (c .enum-told .given .1)) ∙ c .before .before .depth .ensures)
+      depth-bad _ _ _ _ _ _ (omega (arith, l .before .if1 .left)) (omega (arith, l .if3 .left)) (e .before .before .before .if4 .left) (sym (e .before .is-valid-for .ensures) ∙ not-false _ (e .if5 .left)) (told-at (c .enum-told .given .1) (c .before .before .depth .ensures))
 
 pub +depth-spec : {M : Type 1} → statement M
 +depth-spec =

@@ -71,19 +71,19 @@ pub fn depth(
 {
     if node == 0 {
         if !is_marked(parents, codes) {
-            return NodeDepth::Bad;
+            return NodeDepth::Bad; // node 0 without its marks
         }
         return NodeDepth::At(0);
     }
     if limit == 0 {
-        return NodeDepth::Bad;
+        return NodeDepth::Bad; // more than G gates
     }
     let parent = parents[node] as usize;
     if parent >= node {
-        return NodeDepth::Bad;
+        return NodeDepth::Bad; // a parent not below its node
     }
     if !LibraryGate(codes[node]).is_valid_for(width, basis) {
-        return NodeDepth::Bad;
+        return NodeDepth::Bad; // a code not valid or not of B
     }
     match depth(parents, codes, width, basis, limit - 1, parent) {
         NodeDepth::At(d) => NodeDepth::At(d + 1),

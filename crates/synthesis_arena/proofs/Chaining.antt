@@ -13,9 +13,10 @@ use Rattle.ints.proofs.Bools.{clash, both-true, and-left, and-right}
 use Rattle.circuit.specs.Codes.{validFor}
 use Rattle.synthesis_arena.specs.Chains.{marked, Chain, good, bad, then, linked, chainOf, Answer, given, refused, depthOf, Walk, Fault, not-below, not-valid, too-many, unmarked, Gates, oneMore, Chained, toldDepth}
 use Rattle.synthesis_arena.specs.declared.NodeDepth.{NodeDepth}
+use Rattle.synthesis_arena.specs.declared.NodeDepth.the-variants.{At, Bad}
 
 -- an answer that is known by an equation
-pub told-at : {r s : NodeDepth} {a : Answer} → r ≡ s → toldDepth r ≡ a → toldDepth s ≡ a
+told-at : {r s : NodeDepth} {a : Answer} → r ≡ s → toldDepth r ≡ a → toldDepth s ≡ a
 told-at e h = sym (ap toldDepth e) ∙ h
 
 -- ---- tests over a list
@@ -288,32 +289,39 @@ module _ (n basis : ℕ) (parents codes : List ℕ) where
       depth-not-valid t = refused-by (not-valid 0 node refl p t)
 
       module _ (q : 0 < limit) (below : getD parents node 0 < node) (ok : validFor n basis (getD codes node 0) ≡ true) where
-        pub depth-more : {m : ℕ} → given m ≡ depthOf (chainOf n basis parents codes (limit - 1) (getD parents node 0)) → given (m + 1) ≡ depthOf (chainOf n basis parents codes limit node)
-        depth-more {m} h = by (chain (limit - 1) (getD parents node 0)) h ∙ sym (ap depthOf (chain-more limit node q p below ok))
+        pub depth-more : {r : NodeDepth} {m : ℕ} → r ≡ At m → toldDepth r ≡ depthOf (chainOf n basis parents codes (limit - 1) (getD parents node 0)) → given (m + 1) ≡ depthOf (chainOf n basis parents codes limit node)
+        depth-more {m = m} e h = by (chain (limit - 1) (getD parents node 0)) (told-at e h) ∙ sym (ap depthOf (chain-more limit node q p below ok))
           where
             by : (k : Chain) → given m ≡ depthOf k → given (m + 1) ≡ depthOf (then k (getD codes node 0))
             by (good l) f = let z : m ≡ length l = cc in ap given (omega (arith, z, length-append l (getD codes node 0 ∷ [])))
             by bad f = let z : _≡_ {A = ℕ} 0 1 = cc in absurd (omega arith)
 
-        pub depth-bad : refused 13 0 ≡ depthOf (chainOf n basis parents codes (limit - 1) (getD parents node 0)) → refused 13 0 ≡ depthOf (chainOf n basis parents codes limit node)
-        depth-bad h = by (chain (limit - 1) (getD parents node 0)) h ∙ sym (ap depthOf (chain-more limit node q p below ok))
+        pub depth-bad : {r : NodeDepth} → r ≡ Bad → toldDepth r ≡ depthOf (chainOf n basis parents codes (limit - 1) (getD parents node 0)) → refused 13 0 ≡ depthOf (chainOf n basis parents codes limit node)
+        depth-bad e h = by (chain (limit - 1) (getD parents node 0)) (told-at e h) ∙ sym (ap depthOf (chain-more limit node q p below ok))
           where
             by : (k : Chain) → refused 13 0 ≡ depthOf k → refused 13 0 ≡ depthOf (then k (getD codes node 0))
             by (good l) f = let z : _≡_ {A = ℕ} 0 1 = cc in absurd (omega arith)
             by bad f = refl
 
-    -- a depth that is told is that of a good chain, within the limit
+    -- a depth is that of a good chain, within the limit
     pub record Deep (m : ℕ) : Type 0 where
       pub list : List ℕ
       pub is : chainOf n basis parents codes limit node ≡ good list
       pub size : m ≡ length list
       pub within : m ≤ limit
 
-    pub deep : {m : ℕ} → given m ≡ depthOf (chainOf n basis parents codes limit node) → Deep m
-    deep {m} h = by (chain limit node) refl h
+    deep-given : {m : ℕ} (k : Chain) → chain limit node ≡ k → given m ≡ depthOf k → Deep m
+    deep-given {m} (good l) e f =
+        let z : m ≡ length l = cc in
+        record { list = l; is = e; size = z; within = omega (arith, gates-of limit node e .short) }
+    deep-given bad e f = let z : _≡_ {A = ℕ} 0 1 = cc in absurd (omega arith)
+
+    pub deep : {r : NodeDepth} {m : ℕ} → r ≡ At m → toldDepth r ≡ depthOf (chainOf n basis parents codes limit node) → Deep m
+    deep e h = deep-given (chain limit node) refl (told-at e h)
+
+    pub not-deep : {r : NodeDepth} → r ≡ Bad → toldDepth r ≡ depthOf (chainOf n basis parents codes limit node) → chainOf n basis parents codes limit node ≡ bad
+    not-deep e h = by (chain limit node) refl (told-at e h)
       where
-        by : (k : Chain) → chain limit node ≡ k → given m ≡ depthOf k → Deep m
-        by (good l) e f =
-            let z : m ≡ length l = cc in
-            record { list = l; is = e; size = z; within = omega (arith, gates-of limit node e .short) }
-        by bad e f = let z : _≡_ {A = ℕ} 0 1 = cc in absurd (omega arith)
+        by : (k : Chain) → chain limit node ≡ k → refused 13 0 ≡ depthOf k → k ≡ bad
+        by (good l) f g = let z : _≡_ {A = ℕ} 0 1 = cc in absurd (omega arith)
+        by bad f g = refl

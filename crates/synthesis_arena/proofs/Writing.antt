@@ -1,12 +1,14 @@
 -- The gates of a good chain, written from the last place down while the walk goes along the parents. Assumes nothing.
-use mathlib.Core.Path.{_≡_, refl, sym, ap, _∙_, subst}
+use mathlib.Core.Path.{_≡_, refl, sym, ap, _∙_}
 use mathlib.Core.List.{List, [], _∷_, _++_, append-assoc, append-nil}
-use Prim.Native.Nat.{ℕ, zero, suc, _+_, _-_, _≤_, _<_}
+use Prim.Native.Nat.{ℕ, suc, _+_, _-_, _≤_, _<_}
 use native.Mathlib.Omega.{arith}
 use lib.ListN.{length, getD, take, drop, set, length-append, length-set, take-append-drop}
 use lib.Seq.{take-suc, set-at, length-take-le}
-use Rattle.synthesis_arena.specs.Chains.{Chain, good, bad, chainOf, given, refused, depthOf, outcome, circuitOf}
-use Rattle.synthesis_arena.proofs.Chaining.{Link, link, deep}
+use Rattle.synthesis_arena.specs.Chains.{Chain, good, chainOf, given, refused, depthOf, toldDepth, outcome, circuitOf}
+use Rattle.synthesis_arena.specs.declared.NodeDepth.{NodeDepth}
+use Rattle.synthesis_arena.specs.declared.NodeDepth.the-variants.{At, Bad}
+use Rattle.synthesis_arena.proofs.Chaining.{Link, link, deep, not-deep}
 
 empty : (l : List ℕ) → length l ≡ 0 → l ≡ []
 empty [] e = refl
@@ -28,9 +30,9 @@ module _ (n basis : ℕ) (parents codes : List ℕ) (limit node : ℕ) (old : Li
     pub long : length out ≡ length old
     pub is : out ≡ take (length rest) old ++ (done ++ drop size old)
 
-  pub writing-none : (size : ℕ) → given size ≡ depthOf (chainOf n basis parents codes limit node) → node < length parents → node < length codes → limit ≤ length old → Writing size 0 node old
-  writing-none size h p q room =
-      let k = deep n basis parents codes limit node h in
+  pub writing-none : {r : NodeDepth} {size : ℕ} → r ≡ At size → toldDepth r ≡ depthOf (chainOf n basis parents codes limit node) → node < length parents → node < length codes → limit ≤ length old → Writing size 0 node old
+  writing-none e h p q room =
+      let k = deep n basis parents codes limit node e h in
       record {
         rest = k .list;
         done = [];
@@ -80,9 +82,5 @@ module _ (n basis : ℕ) (parents codes : List ℕ) (limit node : ℕ) (old : Li
         ∙ ap (λ (m : ℕ). outcome (given m) (w .done ++ drop m old)) e
         ∙ sym (ap (λ (k : Chain). circuitOf k old) (w .whole ∙ ap (λ (l : List ℕ). good (l ++ w .done)) none))
 
-  pub written-not : refused 13 0 ≡ depthOf (chainOf n basis parents codes limit node) → outcome (refused 13 0) old ≡ circuitOf (chainOf n basis parents codes limit node) old
-  written-not h = by (chainOf n basis parents codes limit node) h
-    where
-      by : (k : Chain) → refused 13 0 ≡ depthOf k → outcome (refused 13 0) old ≡ circuitOf k old
-      by (good l) f = let z : _≡_ {A = ℕ} 0 1 = cc in absurd (omega arith)
-      by bad f = refl
+  pub written-not : {r : NodeDepth} → r ≡ Bad → toldDepth r ≡ depthOf (chainOf n basis parents codes limit node) → outcome (refused 13 0) old ≡ circuitOf (chainOf n basis parents codes limit node) old
+  written-not e h = sym (ap (λ (k : Chain). circuitOf k old) (not-deep n basis parents codes limit node e h))

@@ -8,7 +8,7 @@ use borrow.Author.Tests.{not-true, not-false}
 use borrow.Fn.Kinds.{In}
 use borrow.Fn.PlainCycle.{Measures, is, falls, and}
 use Rattle.circuit.proofs.LibraryGate.is_valid_for.Reads as is-valid-for-reads
-use Rattle.synthesis_arena.proofs.Chaining.{told-at, depth-unmarked, depth-root, depth-spent, depth-not-below, depth-not-valid, depth-more, depth-bad, deep}
+use Rattle.synthesis_arena.proofs.Chaining.{depth-unmarked, depth-root, depth-spent, depth-not-below, depth-not-valid, depth-more, depth-bad, deep}
 use Rattle.synthesis_arena.proofs.is_marked.Reads as is-marked-reads
 use Rattle.synthesis_arena.proofs.depth.Reads as depth
 use Rattle.synthesis_arena.proofs.depth.Kinds as depth-kinds
@@ -49,28 +49,26 @@ module _ (t : ℕ) where
   cast-parent c = omega (arith, c .shared-slice-known3 .given (c .before .before .before .before .before .args .node))
 
   returns-4 : lts.Need-returns-4 (claims t) (depth-at t) depth.Post
-  returns-4 c = depth-not-below _ _ _ _ _ _ (omega (arith, c .before .before .before .if1 .left)) (c .if4 .taken)
+  returns-4 c = depth-not-below _ _ _ _ _ _ (omega (arith, c .before .before .before .if1 .left)) (omega (arith, c .if4 .taken))
 
   returns-5 : lts.Need-returns-5 (claims t) (depth-at t) depth.Post
   returns-5 c = depth-not-valid _ _ _ _ _ _ (omega (arith, c .before .before .before .before .before .before .if1 .left)) (sym (c .before .is-valid-for .ensures) ∙ not-true _ (c .if5 .taken))
 
-  add-d : lts.Need-add-t20 (claims t) (depth-at t) depth.Post
-  add-d c =
-      let s = c .before .before .before .before .before .before .before .before .before .before .before .before .before in
-      let k = deep _ _ _ _ _ _ (told-at (c .before .d .given .1) (c .before .before .before .depth .ensures)) in
-      omega (arith, k .within, s .fits .limit)
+  -- the node number falls
+  depth-requires : lts.Need-depth-requires (claims t) (depth-at t) depth.Post
+  depth-requires c κs = search needs
 
   returns-6 : lts.Need-returns-6 (claims t) (depth-at t) depth.Post
   returns-6 c =
       let e = c .before .before .before .before in
       let l = e .before .before .before .before .before in
-      depth-more _ _ _ _ _ _ (omega (arith, l .before .if1 .left)) (omega (arith, l .if3 .left)) (e .before .before .before .if4 .left) (sym (e .before .is-valid-for .ensures) ∙ not-false _ (e .if5 .left)) (told-at (c .before .d .given .1) (c .before .before .before .depth .ensures))
+      depth-more _ _ _ _ _ _ (omega (arith, l .before .if1 .left)) (omega (arith, l .if3 .left)) (omega (arith, e .before .before .before .if4 .left)) (sym (e .before .is-valid-for .ensures) ∙ not-false _ (e .if5 .left)) (c .before .d .given .1) (c .before .before .before .depth .ensures)
 
   returns-7 : lts.Need-returns-7 (claims t) (depth-at t) depth.Post
   returns-7 c =
       let e = c .before .before .before in
       let l = e .before .before .before .before .before in
-      depth-bad _ _ _ _ _ _ (omega (arith, l .before .if1 .left)) (omega (arith, l .if3 .left)) (e .before .before .before .if4 .left) (sym (e .before .is-valid-for .ensures) ∙ not-false _ (e .if5 .left)) (told-at (c .enum-told .given .1) (c .before .before .depth .ensures))
+      depth-bad _ _ _ _ _ _ (omega (arith, l .before .if1 .left)) (omega (arith, l .if3 .left)) (omega (arith, e .before .before .before .if4 .left)) (sym (e .before .is-valid-for .ensures) ∙ not-false _ (e .if5 .left)) (c .enum-told .given .1) (c .before .before .depth .ensures)
 
 pub +depth-spec : {M : Type 1} → statement M
 +depth-spec =
@@ -93,9 +91,11 @@ pub +depth-spec : {M : Type 1} → statement M
     (λ c κs. search needs)
     (returns-5 t)
     (λ c. search needs)
-    (λ c κs. search needs)
+    (depth-requires t)
     (λ c. search needs)
-    (add-d t)
+    (λ c.
+      let k = deep _ _ _ _ _ _ (c .before .d .given .1) (c .before .before .before .depth .ensures) in
+      omega (arith, k .within, c .before .before .before .before .before .before .before .before .before .before .before .before .before .fits .limit))
     (λ c. search needs)
     (returns-6 t)
     (returns-7 t)

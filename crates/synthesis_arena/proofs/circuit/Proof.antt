@@ -4,8 +4,9 @@ use mathlib.Core.Path.{_≡_}
 use Prim.Native.Nat.{ℕ, _-_}
 use native.Mathlib.Omega.{arith}
 use borrow.Author.Needs.{needs}
-use Rattle.synthesis_arena.specs.Chains.{chainOf, given, depthOf}
-use Rattle.synthesis_arena.proofs.Chaining.{told-at}
+use Rattle.synthesis_arena.specs.Chains.{chainOf, depthOf, toldDepth}
+use Rattle.synthesis_arena.specs.declared.NodeDepth.{NodeDepth}
+use Rattle.synthesis_arena.specs.declared.NodeDepth.the-variants.{At}
 use Rattle.synthesis_arena.proofs.Writing.{Writing, writing-none, writing-more, writing-end, written-not}
 use Rattle.synthesis_arena.proofs.circuit.Statement.{statement}
 use Rattle.synthesis_arena.proofs.circuit.Tie as tie
@@ -13,21 +14,21 @@ use Rattle.synthesis_arena.proofs.circuit.Tie as tie
 -- the invariant has no name for the basis
 abbrev Inv-loop : tie.InvT-loop
 Inv-loop parents codes width limit node out₀ size at₀ i₀ out at i =
-    (basis : ℕ) → given size ≡ depthOf (chainOf width basis parents codes limit node) → Writing width basis parents codes limit node out₀ size i at out
+    (basis : ℕ) (r : NodeDepth) → r ≡ At size → toldDepth r ≡ depthOf (chainOf width basis parents codes limit node) → Writing width basis parents codes limit node out₀ size i at out
 
 abbrev μ-loop : tie.MeasureT-loop
 μ-loop parents codes width limit node out₀ size at₀ i₀ out at i = size - i
 
 writing : (c : tie.At-loop Inv-loop μ-loop) → let s = c .before .before .before .before .before .before .before .before .args in Writing (s .width) (s .basis .0) (s .parents .now) (s .codes .now) (s .limit) (s .node) (s .out .now) (c .before .before .size .given .0 .0) (c .loop .i) (c .loop .at) (c .loop .out)
-writing c = c .loop .inv _ (told-at (c .before .before .size .given .1) (c .before .before .before .before .depth .ensures))
+writing c = c .loop .inv _ _ (c .before .before .size .given .1) (c .before .before .before .before .depth .ensures)
 
 returns : tie.Need-returns Inv-loop μ-loop
-returns c = written-not _ _ _ _ _ _ _ (told-at (c .enum-told .given .1) (c .before .before .depth .ensures))
+returns c = written-not _ _ _ _ _ _ _ (c .enum-told .given .1) (c .before .before .depth .ensures)
 
 loop-holds : tie.Need-loop-holds Inv-loop μ-loop
-loop-holds c basis h =
+loop-holds c basis r e h =
     let p = c .before .before .before .before .before .before .before .pre in
-    writing-none _ _ _ _ _ _ _ _ h (p .0) (p .1) (p .2)
+    writing-none _ _ _ _ _ _ _ e h (p .0) (p .1) (p .2)
 
 mul-out : tie.Need-mul-out Inv-loop μ-loop
 mul-out c = let w = writing (c .before) in search needs
@@ -51,7 +52,7 @@ cast-at : tie.Need-cast-at Inv-loop μ-loop
 cast-at c = omega (arith, c .shared-slice-known4 .given (c .before .before .before .loop .at))
 
 loop-again : tie.Need-loop-again Inv-loop μ-loop
-loop-again c basis h = writing-more _ _ _ _ _ _ _ (c .before .before .before .loop .inv basis h) (c .before .before .loop-test .taken)
+loop-again c basis r e h = writing-more _ _ _ _ _ _ _ (c .before .before .before .loop .inv basis r e h) (c .before .before .loop-test .taken)
 
 same-length : tie.Need-same-length Inv-loop μ-loop
 same-length c = writing (c .before) .long

@@ -16,13 +16,13 @@ abbrev μ-loop : tie.MeasureT-loop
 μ-loop fingerprints count from fingerprint i₀ i = count - i
 
 returns : tie.Need-returns Inv-loop μ-loop
-returns c = lookup-here _ _ _ _ (c .before .before .loop-test .taken) (c .if1 .taken) ∙ c .before .before .before .loop .inv
+returns c = lookup-here _ _ _ _ (omega (arith, c .before .before .loop-test .taken)) (c .if1 .taken) ∙ c .before .before .before .loop .inv
 
 loop-again : tie.Need-loop-again Inv-loop μ-loop
-loop-again c = sym (lookup-on _ _ _ _ (c .before .before .loop-test .taken) (c .if1 .left)) ∙ c .before .before .before .loop .inv
+loop-again c = sym (lookup-on _ _ _ _ (omega (arith, c .before .before .loop-test .taken)) (c .if1 .left)) ∙ c .before .before .before .loop .inv
 
 returns-2 : tie.Need-returns-2 Inv-loop μ-loop
-returns-2 c = lookup-end _ _ _ _ (c .loop-test .left) ∙ c .before .loop .inv
+returns-2 c = lookup-end _ _ _ _ (omega (arith, c .loop-test .left)) ∙ c .before .loop .inv
 
 pub node-for-spec : {M : Type 1} → statement M
 node-for-spec =

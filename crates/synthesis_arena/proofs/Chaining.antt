@@ -4,12 +4,12 @@ use mathlib.Core.Bool.{Bool, true, false, _&&_}
 use mathlib.Core.List.{List, [], _∷_, _++_}
 use Prim.Native.Nat.{ℕ, zero, suc, _+_, _-_, _≤_, _<_}
 use native.Mathlib.Omega.{arith}
-use lib.Dec.{eqb, ltb}
+use lib.Dec.{ltb}
 use lib.ListN.{length, getD, length-append, List·getD-append}
 use lib.Seq.{ext-getD, getD-at}
-use borrow.Author.Tests.{lt-ltb, le-ltb, ltb-true, ltb-false}
+use borrow.Author.Tests.{lt-ltb, ltb-true, ltb-false}
 use Rattle.ints.specs.Lists.{pick, all}
-use Rattle.ints.proofs.Bools.{clash, both-true, and-left, and-right}
+use Rattle.ints.proofs.Bools.{clash, and-left, and-right}
 use Rattle.circuit.specs.Codes.{validFor}
 use Rattle.synthesis_arena.specs.Chains.{marked, Chain, good, bad, then, linked, chainOf, Answer, given, refused, depthOf, Walk, Fault, not-below, not-valid, too-many, unmarked, Gates, oneMore, Chained, toldDepth}
 use Rattle.synthesis_arena.specs.declared.NodeDepth.{NodeDepth}
@@ -77,7 +77,7 @@ module _ (n basis : ℕ) (parents codes : List ℕ) where
 
   chain-spent : (node : ℕ) → 0 < node → chainOf n basis parents codes 0 node ≡ bad
   unfolding chainOf
-  chain-spent node p = linked-at bad node p ∙ never-good (fine node) (getD codes node 0)
+  chain-spent node p = linked-at _ node p ∙ never-good (fine node) (getD codes node 0)
 
   chain-step : (left node : ℕ) → 0 < node → chainOf n basis parents codes (suc left) node ≡ pick (fine node) (then (chain left (getD parents node 0)) (getD codes node 0)) bad
   unfolding chainOf

@@ -63,7 +63,7 @@ pub record Outcome : Type 0 where
 abbrev pub outcome : Answer → List ℕ → Outcome
 outcome a l = record { answer = a; list = l }
 
--- "An answer fills the first places of the lent list; later places keep their content", and on a refusal all of them
+-- "An answer fills the first places of the lent list; later places .. keep their content"; a refusal "leaves lent memory unchanged"
 abbrev pub circuitOf : Chain → List ℕ → Outcome
 circuitOf (good l) out = outcome (given (length l)) (l ++ drop (length l) out)
 circuitOf bad out = outcome (refused 13 0) out
@@ -91,7 +91,7 @@ pub data Fault (n basis limit : ℕ) (parents codes : List ℕ) (node : ℕ) : T
   too-many : (i m : ℕ) → Walk parents node i m → limit < i → Fault n basis limit parents codes node
   unmarked : (i : ℕ) → Walk parents node i 0 → marked parents codes ≡ false → Fault n basis limit parents codes node
 
--- the list of a walk that meets none: the gate passed i-th is the i-th from the list's end
+-- the list of a walk that meets none: the gate passed i-th, counted from 0, is the i-th from the list's end
 pub record Gates (n basis limit : ℕ) (parents codes : List ℕ) (node : ℕ) (l : List ℕ) : Type 0 where
   pub valid : all (validFor n basis) l ≡ true
   pub short : length l ≤ limit

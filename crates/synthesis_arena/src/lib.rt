@@ -1,6 +1,6 @@
 // One width's part of a table, in three lent arrays: fingerprints, parents, gate codes. synthesis_arena.rs of the original, `WidthTable`:
-// a node is its last gate and the node that holds the rest, and its circuit is read by walking to node 0. Nothing is taken for granted of
-// what the arrays hold: a chain that no build leaves is bad.
+// a node is its last gate and the node that holds the rest, and its circuit is read by walking to node 0. Whatever the arrays hold is
+// decided: "Only caller-altered tables meet 13."
 ghost use mathlib.Core.Path.{_≡_};
 ghost use Prim.Native.Nat.{_<_, _≤_};
 ghost use lib.ListN.{length};

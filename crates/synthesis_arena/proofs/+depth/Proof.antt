@@ -1,6 +1,6 @@
 -- `depth` meets its contract. The measure is the node number, which falls because a parent lies below its node. Each refusal is a fault of
 -- the walk, and a node's chain is its parent's, within one gate less, and its own gate. Assumes nothing.
-use mathlib.Core.Path.{_≡_, sym, _∙_}
+use mathlib.Core.Path.{sym, _∙_}
 use Prim.Native.Nat.{ℕ, _<_}
 use native.Mathlib.Omega.{arith}
 use borrow.Author.Needs.{needs}
@@ -94,8 +94,8 @@ pub +depth-spec : {M : Type 1} → statement M
     (depth-requires t)
     (λ c. search needs)
     (λ c.
-      let k = deep _ _ _ _ _ _ (c .before .d .given .1) (c .before .before .before .depth .ensures) in
-      omega (arith, k .within, c .before .before .before .before .before .before .before .before .before .before .before .before .before .fits .limit))
+    let k = deep _ _ _ _ _ _ (c .before .d .given .1) (c .before .before .before .depth .ensures) in
+    omega (arith, k .within, c .before .before .before .before .before .before .before .before .before .before .before .before .before .fits .limit))
     (λ c. search needs)
     (returns-6 t)
     (returns-7 t)

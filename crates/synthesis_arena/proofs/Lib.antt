@@ -1,0 +1,4 @@
+pub mod Lookups
+pub mod Chaining
+pub mod Writing
+pub mod Told

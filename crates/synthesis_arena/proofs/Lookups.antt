@@ -1,0 +1,86 @@
+-- Laws of the lookup: its steps, and what is found, said of nodes. Assumes nothing.
+use mathlib.Core.Path.{_≡_, refl, sym, ap, _∙_, subst}
+use mathlib.Core.Bool.{Bool, true, false}
+use mathlib.Core.List.{List}
+use Prim.Native.Nat.{ℕ, zero, suc, _+_, _-_, _≤_, _<_}
+use native.Mathlib.Numerals.{add-one}
+use native.Mathlib.Omega.{arith}
+use native.Mathlib.Decide.{ℕ-discrete}
+use lib.Dec.{eqb}
+use lib.ListN.{getD}
+use borrow.Author.Tests.{eq-eqb, ne-eqb, eqb-true, eqb-false}
+use Rattle.ints.specs.Lists.{pick}
+use Rattle.synthesis_arena.specs.Lookup.{Lookup, found, none, lowestOf, lowestFrom, Lowest, Nowhere, LooksUp}
+
+-- ---- one node of the scan
+
+module _ (fps : List ℕ) (count i f : ℕ) where
+  step : i < count → lowestFrom fps count i f ≡ pick (eqb (getD fps i 0) f) (found i) (lowestFrom fps count (i + 1) f)
+  unfolding lowestFrom
+  step h =
+      let e : count - i ≡ suc (count - (i + 1)) = omega arith in
+      rw (e, add-one)
+
+  pub lookup-here : i < count → getD fps i 0 ≡ f → found i ≡ lowestFrom fps count i f
+  lookup-here h e = sym (step h ∙ rw (eq-eqb (getD fps i 0) f e))
+
+  pub lookup-on : i < count → (getD fps i 0 ≡ f → ⊥) → lowestFrom fps count i f ≡ lowestFrom fps count (i + 1) f
+  lookup-on h e = step h ∙ rw (ne-eqb (getD fps i 0) f e)
+
+  pub lookup-end : count ≤ i → none ≡ lowestFrom fps count i f
+  unfolding lowestFrom
+  lookup-end h =
+      let e : count - i ≡ 0 = omega arith in
+      rw e
+
+-- ---- what the definition says of nodes
+
+module _ (fps : List ℕ) (count from f : ℕ) where
+  abbrev Says : Lookup → Type 0
+  Says (found node) = Lowest fps count from f node
+  Says none = Nowhere fps count from f
+
+  -- none of the nodes from the start to below i has the fingerprint
+  abbrev NoneTo : ℕ → Type 0
+  NoneTo i = (m : ℕ) → from ≤ m → m < i → getD fps m 0 ≡ f → ⊥
+
+  says-of : (i m : ℕ) → count - i ≡ m → from ≤ i → NoneTo i → Says (lowestOf fps f i m)
+  says-of i zero e h no-earlier = record { none-has = λ m p q. no-earlier m p (omega arith) }
+  says-of i (suc m) e h no-earlier =
+      by (eqb (getD fps i 0) f) refl (λ miss. says-of (suc i) m (omega arith) (omega arith) (one-more miss))
+    where
+      one-more : (getD fps i 0 ≡ f → ⊥) → NoneTo (suc i)
+      one-more miss k p q = at (ℕ-discrete k i)
+        where
+          at : Dec (k ≡ i) → getD fps k 0 ≡ f → ⊥
+          at (yes e′) = subst (λ (z : ℕ). getD fps z 0 ≡ f → ⊥) (sym e′) miss
+          at (no ne) = no-earlier k p (omega arith)
+
+      by : (b : Bool) → eqb (getD fps i 0) f ≡ b → ((getD fps i 0 ≡ f → ⊥) → Says (lowestOf fps f (suc i) m)) → Says (pick b (found i) (lowestOf fps f (suc i) m))
+      by true t further = record { has = eqb-true (getD fps i 0) f t; below = omega arith; not-before = h; none-before = no-earlier }
+      by false t further = further (eqb-false (getD fps i 0) f t)
+
+  says : Says (lowestFrom fps count from f)
+  unfolding lowestFrom
+  says = says-of from (count - from) refl (omega arith) (λ m p q. absurd (omega arith))
+
+  -- only one of the answers is true
+  only : (r s : Lookup) → Says r → Says s → r ≡ s
+  only (found a) (found b) u v = same (ℕ-discrete a b)
+    where
+      same : Dec (a ≡ b) → found a ≡ found b
+      same (yes e) = ap found e
+      same (no ne) = absurd (by (ℕ-discrete (a - b) 0))
+        where
+          by : Dec (a - b ≡ 0) → ⊥
+          by (yes e) = v .none-before a (u .not-before) (omega arith) (u .has)
+          by (no e) = u .none-before b (v .not-before) (omega arith) (v .has)
+  only (found a) none u v = absurd (v .none-has a (u .not-before) (u .below) (u .has))
+  only none (found b) u v = absurd (u .none-has b (v .not-before) (v .below) (v .has))
+  only none none u v = refl
+
+  pub looks-up : LooksUp fps count from f
+  looks-up = record {
+    is-found = λ node. (λ e. subst Says e says, λ w. only (lowestFrom fps count from f) (found node) says w);
+    is-none = (λ e. subst Says e says, λ w. only (lowestFrom fps count from f) none says w);
+  }

@@ -1,0 +1,119 @@
+// One width's part of a table, in three lent arrays: fingerprints, parents, gate codes. synthesis_arena.rs of the original, `WidthTable`:
+// a node is its last gate and the node that holds the rest, and its circuit is read by walking to node 0. Whatever the arrays hold is
+// decided: "Only caller-altered tables meet 13."
+ghost use mathlib.Core.Path.{_≡_};
+ghost use Prim.Native.Nat.{_<_, _≤_};
+ghost use lib.ListN.{length};
+ghost use Rattle.synthesis_arena.specs.Lookup.{lowestFrom, toldFound};
+ghost use Rattle.synthesis_arena.specs.Chains.{marked, chainOf, depthOf, toldDepth, outcome, circuitOf, toldCircuit};
+use circuit::GateSet;
+use circuit::LibraryGate;
+
+// "Its parent and gate both read 4294967295."
+const MARK: u32 = 4294967295;
+
+// A node with a fingerprint, or that there is none.
+pub enum Found {
+    At(usize),
+    NotFound,
+}
+
+// How deep a node lies, or that its chain is bad.
+pub enum NodeDepth {
+    At(usize),
+    Bad,
+}
+
+// How many gates a node's circuit has, or that its chain is bad.
+pub enum NodeCircuit {
+    Length(usize),
+    Bad,
+}
+
+// "The lowest node of that width with its fingerprint", of those from a place on and below the count.
+pub fn node_for(fingerprints: &[u64], count: usize, from: usize, fingerprint: u64) -> Found
+    requires { ⌜ count ≤ length (now fingerprints) ⌝ }
+    ensures { λ r. ⌜ toldFound r ≡ lowestFrom (now (fingerprints .entry)) count from fingerprint ⌝ }
+{
+    let mut i = from;
+    while i < count {
+        if fingerprints[i] == fingerprint {
+            return Found::At(i);
+        }
+        i += 1;
+    }
+    Found::NotFound
+}
+
+// Whether node 0 has its marks.
+fn is_marked(parents: &[u32], codes: &[u32]) -> bool
+    requires { ⌜ (0 < length (now parents)) × (0 < length (now codes)) ⌝ }
+    ensures { λ r. ⌜ r ≡ marked (now (parents .entry)) (now (codes .entry)) ⌝ }
+{
+    if parents[0] != MARK {
+        return false;
+    }
+    codes[0] == MARK
+}
+
+// "The depth of a node is 0 at the root and otherwise one more than its parent's; it is worked by recursion on the node number", which
+// falls because a parent lies below its node. The limit falls by one with each gate, so that no more than limit + 1 calls are open.
+pub fn depth(
+    parents: &[u32],
+    codes: &[u32],
+    width: u32,
+    basis: GateSet,
+    limit: usize,
+    node: usize,
+) -> NodeDepth
+    requires { ⌜ (node < length (now parents)) × (node < length (now codes)) ⌝ }
+    ensures { λ r. ⌜ toldDepth r ≡ depthOf (chainOf width (basis .0) (now (parents .entry)) (now (codes .entry)) limit node) ⌝ }
+{
+    if node == 0 {
+        if !is_marked(parents, codes) {
+            return NodeDepth::Bad; // node 0 without its marks
+        }
+        return NodeDepth::At(0);
+    }
+    if limit == 0 {
+        return NodeDepth::Bad; // more than G gates
+    }
+    let parent = parents[node] as usize;
+    if parent >= node {
+        return NodeDepth::Bad; // a parent not below its node
+    }
+    if !LibraryGate(codes[node]).is_valid_for(width, basis) {
+        return NodeDepth::Bad; // a code not valid or not of B
+    }
+    match depth(parents, codes, width, basis, limit - 1, parent) {
+        NodeDepth::At(d) => NodeDepth::At(d + 1),
+        NodeDepth::Bad => NodeDepth::Bad,
+    }
+}
+
+// "Its list is read by walking parents, oldest gate first." The gates fill the first places of `out`; later places, and on a bad chain all
+// of them, keep their content.
+pub fn circuit(
+    parents: &[u32],
+    codes: &[u32],
+    width: u32,
+    basis: GateSet,
+    limit: usize,
+    node: usize,
+    out: &mut [u32],
+) -> NodeCircuit
+    requires { ⌜ (node < length (now parents)) × (node < length (now codes)) × (limit ≤ length (now out)) ⌝ }
+    ensures { λ r. ⌜ outcome (toldCircuit r) (now (out .exit)) ≡ circuitOf (chainOf width (basis .0) (now (parents .entry)) (now (codes .entry)) limit node) (now (out .entry)) ⌝ }
+{
+    let NodeDepth::At(size) = depth(parents, codes, width, basis, limit, node) else {
+        return NodeCircuit::Bad;
+    };
+    let mut at = node;
+    let mut i = 0;
+    while i < size {
+        out[size - 1 - i] = codes[at];
+        at = parents[at] as usize;
+        i += 1;
+    }
+    NodeCircuit::Length(size)
+}

@@ -1,8 +1,10 @@
 -- Tests: what `&&`, `||` and a list's tests say. Assumes nothing.
 use mathlib.Core.Path.{_≡_, refl, sym, _∙_, subst}
 use mathlib.Core.Bool.{Bool, true, false, _&&_, _||_, true≢false}
+use mathlib.Core.List.{List, [], _∷_}
 use Prim.Native.Nat.{ℕ, suc, zero, _+_, _≤_, _<_}
 use native.Mathlib.Omega.{arith}
+use lib.ListN.{length, getD}
 use native.Mathlib.Decide.{ℕ-discrete}
 use Rattle.ints.specs.Lists.{range, all}
 -- the kit's
@@ -39,6 +41,13 @@ pub iff : (s t : Bool) → (s ≡ true → t ≡ true) → (t ≡ true → s ≡
 iff true t f g = sym (f refl)
 iff false true f g = g refl
 iff false false f g = refl
+
+-- a test of every number of a list, at one place
+pub all-at : (f : ℕ → Bool) (l : List ℕ) (i : ℕ) → all f l ≡ true → i < length l → f (getD l i 0) ≡ true
+unfolding all
+all-at f [] i h p = absurd (omega arith)
+all-at f (x ∷ l) zero h p = and-left (f x) (all f l) h
+all-at f (x ∷ l) (suc i) h p = all-at f l i (and-right (f x) (all f l) h) (omega arith)
 
 -- a test over the numbers from i on, both ways
 pub all-range : (f : ℕ → Bool) (m i : ℕ) → all f (range i m) ≡ true → (k : ℕ) → i ≤ k → k < i + m → f k ≡ true

@@ -27,13 +27,6 @@ use Rattle.matrix.specs.declared.Applied.the-variants.{Done, DoesNotFit}
 use Rattle.lists.specs.Walk.{HoldsProduct, Ended}
 use Rattle.lists.specs.declared.Walked.the-variants.{Fits, UnfitAt}
 
--- a test of every code, at one place
-pub all-at : (f : ℕ → Bool) (l : List ℕ) (i : ℕ) → all f l ≡ true → i < length l → f (getD l i 0) ≡ true
-unfolding all
-all-at f [] i h p = absurd (omega arith)
-all-at f (x ∷ l) zero h p = and-left (f x) (all f l) h
-all-at f (x ∷ l) (suc i) h p = all-at f l i (and-right (f x) (all f l) h) (omega arith)
-
 -- the answer is known by an equation
 pub at-answer : {n k : ℕ} {g : Gate} {l l′ : List ℤ} {r s : Applied} → r ≡ s → Stepped n k g l l′ r → Stepped n k g l l′ s
 at-answer {n} {k} {g} {l} {l′} e w = subst (λ (x : Applied). Stepped n k g l l′ x) e w

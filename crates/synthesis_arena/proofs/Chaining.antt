@@ -9,9 +9,10 @@ use lib.ListN.{length, getD, length-append, List·getD-append}
 use lib.Seq.{ext-getD, getD-at}
 use borrow.Author.Tests.{lt-ltb, ltb-true, ltb-false}
 use Rattle.ints.specs.Lists.{pick, all}
-use Rattle.ints.proofs.Bools.{clash, and-left, and-right}
+use Rattle.ints.proofs.Bools.{clash, and-left, and-right, all-at}
 use Rattle.circuit.specs.Codes.{validFor}
-use Rattle.synthesis_arena.specs.Chains.{marked, Chain, good, bad, then, linked, chainOf, Answer, given, refused, depthOf, Walk, Fault, not-below, not-valid, too-many, unmarked, Gates, oneMore, Chained, toldDepth}
+use Rattle.exact.specs.Answers.{Answer, given, refused}
+use Rattle.synthesis_arena.specs.Chains.{marked, Chain, good, bad, then, linked, chainOf, depthOf, Walk, Fault, not-below, not-valid, too-many, unmarked, Gates, oneMore, Chained, toldDepth}
 use Rattle.synthesis_arena.specs.declared.NodeDepth.{NodeDepth}
 use Rattle.synthesis_arena.specs.declared.NodeDepth.the-variants.{At, Bad}
 
@@ -25,12 +26,6 @@ all-snoc : (f : ℕ → Bool) (l : List ℕ) (g : ℕ) → all f l ≡ true → 
 unfolding all
 all-snoc f [] g h k = rw k
 all-snoc f (x ∷ l) g h k = rw (and-left (f x) (all f l) h) (all-snoc f l g (and-right (f x) (all f l) h) k)
-
-all-at : (f : ℕ → Bool) (l : List ℕ) (i : ℕ) → all f l ≡ true → i < length l → f (getD l i 0) ≡ true
-unfolding all
-all-at f [] i h p = absurd (omega arith)
-all-at f (x ∷ l) zero h p = and-left (f x) (all f l) h
-all-at f (x ∷ l) (suc i) h p = all-at f l i (and-right (f x) (all f l) h) (omega arith)
 
 -- ---- walks
 

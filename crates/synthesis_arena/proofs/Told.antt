@@ -6,7 +6,8 @@ use native.Mathlib.Omega.{arith}
 use lib.ListN.{length, take, drop}
 use lib.Seq.{take-at, drop-at}
 use Rattle.synthesis_arena.specs.Lookup.{lowestFrom, toldFound, Lowest, Nowhere}
-use Rattle.synthesis_arena.specs.Chains.{Chain, good, bad, chainOf, given, refused, Outcome, outcome, circuitOf, toldCircuit, Gates}
+use Rattle.exact.specs.Answers.{given, refused}
+use Rattle.synthesis_arena.specs.Chains.{Chain, good, bad, chainOf, Outcome, outcome, circuitOf, toldCircuit, Gates}
 use Rattle.synthesis_arena.specs.declared.Found.{Found}
 use Rattle.synthesis_arena.specs.declared.Found.the-variants.{At, NotFound}
 use Rattle.synthesis_arena.specs.declared.NodeCircuit.{NodeCircuit}

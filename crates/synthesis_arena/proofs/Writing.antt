@@ -5,7 +5,8 @@ use Prim.Native.Nat.{ℕ, suc, _+_, _-_, _≤_, _<_}
 use native.Mathlib.Omega.{arith}
 use lib.ListN.{length, getD, take, drop, set, length-append, length-set, take-append-drop}
 use lib.Seq.{take-suc, set-at, length-take-le}
-use Rattle.synthesis_arena.specs.Chains.{Chain, good, chainOf, given, refused, depthOf, toldDepth, outcome, circuitOf}
+use Rattle.exact.specs.Answers.{given, refused}
+use Rattle.synthesis_arena.specs.Chains.{Chain, good, chainOf, depthOf, toldDepth, outcome, circuitOf}
 use Rattle.synthesis_arena.specs.declared.NodeDepth.{NodeDepth}
 use Rattle.synthesis_arena.specs.declared.NodeDepth.the-variants.{At, Bad}
 use Rattle.synthesis_arena.proofs.Chaining.{Link, link, deep, not-deep}

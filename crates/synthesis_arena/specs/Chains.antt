@@ -8,6 +8,7 @@ use lib.Dec.{eqb, ltb}
 use lib.ListN.{length, getD, drop}
 use Rattle.ints.specs.Lists.{pick, all}
 use Rattle.circuit.specs.Codes.{validFor}
+use Rattle.exact.specs.Answers.{Answer, given, refused}
 use Rattle.synthesis_arena.specs.declared.NodeDepth.{NodeDepth}
 use Rattle.synthesis_arena.specs.declared.NodeDepth.the-variants as d
 use Rattle.synthesis_arena.specs.declared.NodeCircuit.{NodeCircuit}
@@ -44,11 +45,6 @@ chainOf n basis parents codes zero node = linked n basis parents codes bad node
 chainOf n basis parents codes (suc left) node = linked n basis parents codes (chainOf n basis parents codes left (getD parents node 0)) node
 
 -- ---- what is told of it
-
--- a number of gates, or "its number and position"
-pub data Answer : Type 0 where
-  given : ℕ → Answer
-  refused : ℕ → ℕ → Answer
 
 -- "The depth of a node": how many gates its list has
 abbrev pub depthOf : Chain → Answer

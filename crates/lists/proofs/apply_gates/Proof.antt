@@ -6,7 +6,8 @@ use lib.ListN.{length}
 use borrow.Author.Needs.{needs}
 use Rattle.places.specs.Places.{Kept}
 use Rattle.places.proofs.Placed.{kept-refl, kept-trans}
-use Rattle.lists.proofs.Walking.{Walking, all-at, at-answer, walking-first, walking-more, walking-unfit, walking-end}
+use Rattle.ints.proofs.Bools.{all-at}
+use Rattle.lists.proofs.Walking.{Walking, at-answer, walking-first, walking-more, walking-unfit, walking-end}
 use Rattle.lists.proofs.apply_gates.Statement.{statement}
 use Rattle.lists.proofs.apply_gates.Tie as tie
 

@@ -1,0 +1,6 @@
+pub mod Walk
+pub mod Answer
+pub mod Grown
+pub mod Words
+pub mod AtWidth
+pub mod Demand3

@@ -127,7 +127,7 @@ module _ (R : Rules) where
   Dealt p g s =
       (s .saturated ≡ true) ⊎ (pruned R g p ≡ true) ⊎ (R .fits g (prod R p) ≡ false) ⊎ (any (knows R (R .act g (prod R p))) (s .nodes) ≡ true)
 
-  any-prefix : (f : Node → Bool) {ns ms : List Node} → Prefix ns ms → any f ns ≡ true → any f ms ≡ true
+  pub any-prefix : (f : Node → Bool) {ns ms : List Node} → Prefix ns ms → any f ns ≡ true → any f ms ≡ true
   any-prefix f {ns} {ms} p h =
       let r = any-true f root ns h in
       any-at f root ms (r .0) (omega (arith, r .1, prefix-length p)) (ap f (prefix-at p (r .0) root (r .1)) ∙ r .2)

@@ -6,3 +6,5 @@ pub mod Prefixes
 pub mod Completeness
 pub mod Known
 pub mod Answers
+pub mod Exactly
+pub mod Demand3

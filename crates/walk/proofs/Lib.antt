@@ -8,3 +8,5 @@ pub mod Known
 pub mod Answers
 pub mod Exactly
 pub mod Demand3
+pub mod Samples
+pub mod NotEmpty

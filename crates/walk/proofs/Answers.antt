@@ -14,10 +14,10 @@ use lib.ListN.{length, getD}
 use Rattle.ints.specs.Lists.{pick}
 use Rattle.ints.proofs.Bools.{clash, and-right, and-both}
 use Rattle.exact.proofs.Values.{pick-ind}
-use Rattle.walk.specs.Walk.{Rules, Node, Build, root, listAt, prod, Over}
+use Rattle.walk.specs.Walk.{Rules, Node, Build, root, listAt, prod}
 use Rattle.walk.specs.Answer.{lowest, stepsFit, recheck, answerBy, answersTo, answer}
 use Rattle.walk.specs.Grown.{Prefix, Grown, Layered}
-use Rattle.walk.specs.Words.{Laws, Complete}
+use Rattle.walk.specs.Words.{Laws, Over, Complete}
 use Rattle.walk.proofs.Sequences.{bool, lt-or, prefix-at, prefix-length}
 use Rattle.walk.proofs.Nodes.{over, fit, fresh, depths-rise}
 use Rattle.walk.proofs.Completeness.{prod-lowest}
@@ -88,11 +88,14 @@ module _ (R : Rules) where
       })
 
   module _ (Same : R .Mat → R .Mat → Type 0) (W : Laws R Same) where
-    -- whatever the nodes are, and whatever the test that found the node, an answered list has the product
-    pub answer-product : (test : Node → Bool) (ns : List Node) (x : R .Mat) (l : List ℕ) → answerBy R test ns x ≡ some l → Same (prod R l) x
+    -- a list that passes the recheck has the product
+    pub recheck-product : (l : List ℕ) (x : R .Mat) → recheck R l x ≡ true → Same (prod R l) x
     unfolding recheck
-    answer-product test ns x l e =
-        W .equal-same (prod R l) x (and-right (stepsFit R l) (R .equal (prod R l) x) (answer-hit test ns x l e .right))
+    recheck-product l x e = W .equal-same (prod R l) x (and-right (stepsFit R l) (R .equal (prod R l) x) e)
+
+    -- so has an answered list, whatever the nodes are, and whichever test found the node
+    pub answer-product : (test : Node → Bool) (ns : List Node) (x : R .Mat) (l : List ℕ) → answerBy R test ns x ≡ some l → Same (prod R l) x
+    answer-product test ns x l e = recheck-product l x (answer-hit test ns x l e .right)
 
     module _ (x : R .Mat) (low : W .Lowest x) where
       -- a node's list passes the recheck for a matrix that is the same
@@ -108,7 +111,7 @@ module _ (R : Rules) where
           let own = prod-lowest R Same W (listAt ns k) in
           let le : i ≤ k = lowest-least (answersTo R x) root ns k h (W .same-answers own low s) in
           let hit : answersTo R x (getD ns i root) ≡ true = lowest-passes (answersTo R x) root ns (omega arith) in
-          let e : i ≡ k = ⊎-elim (λ (a : i < k). clash (W .answers-known own low hit s) (fresh R b k h i a)) (λ (a : k ≤ i). omega arith) (lt-or i k) in
+          let e : i ≡ k = ⊎-elim (λ (a : i < k). clash (W .answers-known (prod-lowest R Same W (listAt ns i)) own low hit s) (fresh R b k h i a)) (λ (a : k ≤ i). omega arith) (lt-or i k) in
           hit-answer (answersTo R x) ns x (listAt ns k) (record { at = k; first = sym e; there = h; list = refl; right = passes b k h s })
 
       -- Shortest, among lists of any length: a shorter list would have a node less deep, hence lower, that answers too; but the answering node is

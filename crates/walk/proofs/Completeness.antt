@@ -14,13 +14,13 @@ use lib.ListN.{length, getD}
 use Rattle.ints.specs.Lists.{pick}
 use Rattle.ints.proofs.Bools.{clash, both-true}
 use Rattle.exact.proofs.Values.{pick-ind}
-use Rattle.walk.specs.Walk.{Rules, Node, State, Build, any, root, listAt, prod, Over, pruned, knows, candidate, isNil, begin, opened, ended, walked, deeper, depths, walk}
-use Rattle.walk.specs.Grown.{Prefix, Grown, Layered}
-use Rattle.walk.specs.Words.{Laws, AllFit, Present, KnownIsPresent, Has, Complete}
+use Rattle.walk.specs.Walk.{Rules, Node, State, Build, any, root, listAt, prod, pruned, knows, candidate, isNil, begin, opened, ended, walked, deeper, depths, walk}
+use Rattle.walk.specs.Grown.{Prefix, Grown, Layered, Shape}
+use Rattle.walk.specs.Words.{Laws, Over, AllFit, Present, KnownIsPresent, Has, Complete}
 use Rattle.walk.proofs.Sequences.{or-false, or-cases, bool, lt-or, any-true, prefix-at, prefix-length}
 use Rattle.walk.proofs.Candidates.{any-prefix, Dealt, layer-deals}
 use Rattle.walk.proofs.Nodes.{over, fresh}
-use Rattle.walk.proofs.Layers.{walked-within, layered-deep, walked-deep, deeper-nodes, deeper-saturated, deeper-layered, deeper-depth, begin-layered, Shape, walk-shape}
+use Rattle.walk.proofs.Layers.{walked-within, layered-deep, walked-deep, deeper-nodes, deeper-saturated, deeper-layered, deeper-depth, begin-layered, walk-shape}
 use Rattle.walk.proofs.Prefixes.{depths-prefix}
 
 module _ (R : Rules) (Same : R .Mat → R .Mat → Type 0) (W : Laws R Same) where
@@ -52,7 +52,7 @@ module _ (R : Rules) (Same : R .Mat → R .Mat → Type 0) (W : Laws R Same) whe
       (λ (h : q .0 < length ns). (q .0, h, subst (λ (n : Node). Same (prod R (n .list)) (candidate R ns k g)) (prefix-at x (q .0) root h) (q .2)))
       (λ (h : length ns ≤ q .0). clash
       (ap (λ (n : Node). R .known (prod R (n .list)) (prod R (listAt ms (q .0)))) (prefix-at x (r .0) root (r .1))
-      ∙ W .known-then (prod-lowest (g ∷ listAt ns k)) (prod-lowest (listAt ms (q .0))) (r .2) (W .same-sym (q .2)))
+      ∙ W .known-then (prod-lowest (listAt ns (r .0))) (prod-lowest (g ∷ listAt ns k)) (prod-lowest (listAt ms (q .0))) (r .2) (W .same-sym (q .2)))
       (fresh R b (q .0) (q .1) (r .0) (omega (arith, r .1))))
       (lt-or (q .0) (length ns))
     where

@@ -11,12 +11,14 @@ use lib.ListN.{length, length-reverse}
 use Rattle.exact.specs.Matrix.{Exact, Lowest, PowerOf}
 use Rattle.exact.specs.Lists.{product}
 use Rattle.exact.proofs.Acts.{power-sym}
-use Rattle.walk.specs.Walk.{Rules, Node, Build, listAt, prod, Over}
+use Rattle.walk.specs.Walk.{Rules, Node, Build, listAt, prod}
+use Rattle.walk.specs.Words.{Over}
 use Rattle.walk.specs.Answer.{answerBy, answersTo, answer}
+use Rattle.walk.specs.Grown.{Shape}
 use Rattle.walk.specs.AtWidth.{atWidth, built, oldestFirst, answeredBy, answered, ListOf, NoSharedPrint, SkippedRightly}
 use Rattle.walk.specs.Demand3.{Shortest, NoneExactly, Demand3, Complete3}
 use Rattle.walk.proofs.Nodes.{over}
-use Rattle.walk.proofs.Layers.{Shape, walk-shape}
+use Rattle.walk.proofs.Layers.{walk-shape}
 use Rattle.walk.proofs.Prefixes.{walk-prefix}
 use Rattle.walk.proofs.Known.{present-no-clash}
 use Rattle.walk.proofs.Completeness.{complete, complete-unsaturated}

@@ -10,7 +10,7 @@ use borrow.Author.Tests.{eqb-true, eq-eqb}
 use lib.Dec.{eqb}
 use lib.ListN.{length, length-reverse}
 use Rattle.ints.specs.Lists.{all}
-use Rattle.ints.proofs.Bools.{and-left, and-right, and-both}
+use Rattle.ints.proofs.Bools.{clash, and-left, and-right, and-both}
 use Rattle.cyclotomic.specs.Zomega.{limit}
 use Rattle.circuit.specs.Kinds.{isKind}
 use Rattle.circuit.specs.Sets.{member}
@@ -29,9 +29,11 @@ use Rattle.exact.proofs.Listed.{product-nil, product-snoc}
 use Rattle.exact.proofs.Phases.{power-of-test, test-of-power}
 use Rattle.exact.proofs.Prints.{fingerprint-power}
 use Rattle.exact.proofs.Bounds.{below-square, step-fits, steps-within}
-use Rattle.walk.specs.Walk.{Rules, prod, Over}
-use Rattle.walk.specs.Words.{Laws, AllFit, NoClash}
+use Rattle.walk.specs.Walk.{Node, listAt, prod}
+use Rattle.walk.specs.Grown.{Grown}
+use Rattle.walk.specs.Words.{Laws, Over, AllFit, NoClash}
 use Rattle.walk.specs.AtWidth.{samePrint, atWidth, ListOf, NoSharedPrint}
+use Rattle.walk.proofs.Nodes.{fresh}
 
 module _ (n : ℕ) where
   -- ---- one fingerprint
@@ -71,9 +73,9 @@ module _ (n basis : ℕ) (small : n ≤ 5) where
     inverse-undoes = λ g h x e. power-of n (act-back n x (proper n g) (inverse-undoes n g h e));
     disjoint-swaps = λ g h x e. power-of n (equal-same n (act-swap n (gateOf n g) (gateOf n h) x (proper n g) (proper n h) (disjoint-apart n g h e)));
     same-known = λ {x} {y} l m s. same-print n x y (fingerprint-power n l m s);
-    known-then = λ {x} {y} {z} l m e s. same-print n x z (print-same n x y e ∙ fingerprint-power n l m s);
+    known-then = λ {x} {y} {z} o l m e s. same-print n x z (print-same n x y e ∙ fingerprint-power n l m s);
     same-answers = λ {x} {y} l m s. same-print n x y (fingerprint-power n l m s);
-    answers-known = λ {x} {y} {z} l m e s. same-print n x y (print-same n x z e ∙ sym (fingerprint-power n l m s));
+    answers-known = λ {x} {y} {z} o l m e s. same-print n x y (print-same n x z e ∙ sym (fingerprint-power n l m s));
     equal-same = power-of-test n;
     same-equal = λ l m s. test-of-power n l m s;
     bound = 49152;
@@ -133,3 +135,10 @@ module _ (n basis : ℕ) (small : n ≤ 5) where
       (h (reverse l) (reverse m) (over-list (reverse l) (over-reverse l a)) (over-list (reverse m) (over-reverse m b))
       (omega (arith, length-reverse l)) (omega (arith, length-reverse m))
       (ap (fingerprint n) (product-is l) ∙ print-same n (prod (atWidth n basis) l) (prod (atWidth n basis) m) e ∙ ap (fingerprint n) (sym (product-is m)))))
+
+  -- ---- no two nodes have one fingerprint
+
+  pub prints-distinct : {ns : List Node} → Grown (atWidth n basis) ns → (j k : ℕ) → j < k → k < length ns
+      → fingerprint n (prod (atWidth n basis) (listAt ns j)) ≡ fingerprint n (prod (atWidth n basis) (listAt ns k)) → ⊥
+  prints-distinct {ns} b j k l h e =
+      clash (same-print n (prod (atWidth n basis) (listAt ns j)) (prod (atWidth n basis) (listAt ns k)) e) (fresh (atWidth n basis) b k h j l)

@@ -14,7 +14,7 @@ use Rattle.ints.specs.Lists.{pick}
 use Rattle.ints.proofs.Bools.{clash}
 use Rattle.exact.proofs.Values.{pick-ind}
 use Rattle.walk.specs.Walk.{Rules, Node, State, Build, root, listAt, child, try, opened, walked, settled, deeper, ended, depths, begin, isNil, walk}
-use Rattle.walk.specs.Grown.{Prefix, ParentsTo, Grown, alone, more, Layered}
+use Rattle.walk.specs.Grown.{Prefix, ParentsTo, Grown, alone, more, Layered, Shape}
 use Rattle.walk.proofs.Sequences.{or-false, or-cases, bool, lt-or, length-snoc, all-snoc, prefix-refl, prefix-snoc, prefix-trans, prefix-at, prefix-length}
 use Rattle.walk.proofs.Candidates.{try-cases, layer-keeps}
 
@@ -156,16 +156,6 @@ module _ (R : Rules) where
       pick-ind (λ (r : Build). (k : ℕ) × P k r × ((k ≡ 0) ⊎ (ended r ≡ true))) (ended b) (λ e. (suc m, p, inr e))
       (λ e. depths-keep most P f m (deeper R most b) (f m b e p))
 
-  -- of a width with limits G and E, with no law and no condition
-  pub record Shape (G E : ℕ) (b : Build) : Type 0 where
-    pub layered : Layered R b
-    pub depth : b .depth ≤ G
-    pub count : 0 < E → length (b .nodes) ≤ E
-    pub full : b .saturated ≡ true → E ≤ length (b .nodes)
-    pub limit : (k : ℕ) → k < length (b .nodes) → length (listAt (b .nodes) k) ≤ G
-    -- why it ended, where it is not saturated
-    pub why : b .saturated ≡ false → (b .depth ≡ G) ⊎ (b .last ≡ length (b .nodes)) ⊎ (isNil (R .generators) ≡ true)
-
   -- between depths, with m left
   record Going (G E m : ℕ) (b : Build) : Type 0 where
     layered : Layered R b
@@ -186,7 +176,7 @@ module _ (R : Rules) where
         full = deeper-full E b (i .layered) f;
       }
 
-  going-shape : (G E k : ℕ) (b : Build) → Going G E k b → (k ≡ 0) ⊎ (ended b ≡ true) → Shape G E b
+  going-shape : (G E k : ℕ) (b : Build) → Going G E k b → (k ≡ 0) ⊎ (ended b ≡ true) → Shape R G E b
   going-shape G E k b i w = record {
     layered = i .layered;
     depth = ⊎-elim (λ (z : b .saturated ≡ true). omega (arith, i .cut z)) (λ (z : b .saturated ≡ false). omega (arith, i .left z)) (bool (b .saturated));
@@ -200,10 +190,10 @@ module _ (R : Rules) where
         (or-cases (b .saturated) (eqb (b .last) (length (b .nodes))) e)))) w;
   }
 
-  pub walk-shape : (G E : ℕ) → Shape G E (walk R G E)
+  pub walk-shape : (G E : ℕ) → Shape R G E (walk R G E)
   unfolding walk
   walk-shape G E =
-      pick-ind (Shape G E) (isNil (R .generators))
+      pick-ind (Shape R G E) (isNil (R .generators))
       (λ e. record {
         layered = begin-layered;
         depth = omega arith;

@@ -10,3 +10,4 @@ pub mod Exactly
 pub mod Demand3
 pub mod Samples
 pub mod NotEmpty
+pub mod Rechecks

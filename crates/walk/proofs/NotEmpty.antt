@@ -18,7 +18,8 @@ use Rattle.exact.proofs.Acts.{act-lowest, act-back, power-of, power-refl, power
 use Rattle.exact.proofs.Coded.{proper, inverse-undoes}
 use Rattle.exact.proofs.Listed.{product-lowest}
 use Rattle.exact.proofs.Prints.{fingerprint-power}
-use Rattle.walk.specs.Walk.{Build, begin, prod, Over}
+use Rattle.walk.specs.Walk.{Build, begin, prod}
+use Rattle.walk.specs.Words.{Over}
 use Rattle.walk.specs.AtWidth.{actBy, atWidth, built, ListOf, NoSharedPrint}
 use Rattle.walk.specs.Demand3.{Complete3}
 use Rattle.walk.proofs.Exactly.{product-of, over-reverse, list-over}

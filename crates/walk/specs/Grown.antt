@@ -1,10 +1,11 @@
 -- How nodes come to be, one after the other, and what holds of them: with no law on the parts that the walk is handed. Assumes nothing.
 use mathlib.Core.Path.{_≡_}
+use mathlib.Core.Logic.{_⊎_}
 use mathlib.Core.Bool.{true, false}
 use mathlib.Core.List.{List, [], _∷_, _++_, List·Memᴰ}
 use Prim.Native.Nat.{ℕ, suc, _≤_, _<_}
 use lib.ListN.{length}
-use Rattle.walk.specs.Walk.{Rules, Node, Build, root, listAt, parentAt, prod, pruned, skipped, child}
+use Rattle.walk.specs.Walk.{Rules, Node, Build, root, isNil, listAt, parentAt, prod, pruned, skipped, child}
 
 -- the first list is the beginning of the second
 pub record Prefix {A : Type 0} (ns ms : List A) : Type 0 where
@@ -41,3 +42,14 @@ module _ (R : Rules) where
     pub within : b .saturated ≡ false → (j : ℕ) → j < length (b .nodes) → b .last ≤ j → length (listAt (b .nodes) j) ≡ b .depth
     pub parents : b .saturated ≡ false → ParentsTo (b .last) (b .nodes)
     pub deep : (j : ℕ) → j < length (b .nodes) → length (listAt (b .nodes) j) ≤ suc (b .depth)
+
+  -- The invariant of a width at the end of its walk, with gate limit G and entry limit E: the count is at most E, and E where the width is
+  -- saturated; no list is longer than G
+  pub record Shape (G E : ℕ) (b : Build) : Type 0 where
+    pub layered : Layered b
+    pub depth : b .depth ≤ G
+    pub count : 0 < E → length (b .nodes) ≤ E
+    pub full : b .saturated ≡ true → E ≤ length (b .nodes)
+    pub limit : (k : ℕ) → k < length (b .nodes) → length (listAt (b .nodes) k) ≤ G
+    -- an unsaturated one ended because G depths were walked, or the last depth added nothing, or there are no generators
+    pub why : b .saturated ≡ false → (b .depth ≡ G) ⊎ (b .last ≡ length (b .nodes)) ⊎ (isNil (R .generators) ≡ true)

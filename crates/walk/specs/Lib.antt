@@ -1,4 +1,5 @@
 pub mod Walk
+pub mod Modes
 pub mod Answer
 pub mod Grown
 pub mod Words

@@ -2,7 +2,7 @@
 -- one candidate, one node, one depth, a width. What the walk is handed, two rules among it, is a parameter. Assumes nothing.
 use mathlib.Core.Path.{_≡_}
 use mathlib.Core.Bool.{Bool, true, false, not, _||_, _&&_}
-use mathlib.Core.List.{List, [], _∷_, _++_, List·Memᴰ}
+use mathlib.Core.List.{List, [], _∷_, _++_}
 use Prim.Native.Nat.{ℕ, zero, suc, _-_}
 use lib.Dec.{ltb, eqb}
 use lib.ListN.{length, getD}
@@ -96,11 +96,6 @@ module _ (R : Rules) where
   abbrev pub prod : List ℕ → R .Mat
   prod [] = R .one
   prod (g ∷ l) = R .act g (prod l)
-
-  -- every gate of the list is a generator
-  abbrev pub Over : List ℕ → Type 0
-  Over [] = Unit {0}
-  Over (g ∷ l) = List·Memᴰ g (R .generators) × Over l
 
   -- "It is skipped if it inverts the node's last gate, or if it shares no qubit with it and has the lower code"
   abbrev pub pruned : ℕ → List ℕ → Bool

@@ -4,7 +4,7 @@ use mathlib.Core.Bool.{true, false}
 use mathlib.Core.List.{List, [], _∷_, List·Memᴰ}
 use Prim.Native.Nat.{ℕ, _≤_, _<_}
 use lib.ListN.{length}
-use Rattle.walk.specs.Walk.{Rules, Node, any, listAt, prod, Over, pruned, knows, candidate}
+use Rattle.walk.specs.Walk.{Rules, Node, any, listAt, prod, pruned, knows, candidate}
 
 -- Same: the one is a power of omega times the other. Lowest: the matrix is in lowest denominator, as every product and every query is.
 -- A node that is the same as a candidate makes it known, and one that is the same as a query answers it; what counts as known by a node
@@ -20,24 +20,29 @@ pub record Laws (R : Rules) (Same : R .Mat → R .Mat → Type 0) : Type 1 where
   pub inverse-undoes : (g h : ℕ) (x : R .Mat) → R .inverse g h ≡ true → Same (R .act g (R .act h x)) x
   pub disjoint-swaps : (g h : ℕ) (x : R .Mat) → R .disjoint g h ≡ true → Same (R .act g (R .act h x)) (R .act h (R .act g x))
   pub same-known : {x y : R .Mat} → Lowest x → Lowest y → Same x y → R .known x y ≡ true
-  pub known-then : {x y z : R .Mat} → Lowest y → Lowest z → R .known x y ≡ true → Same y z → R .known x z ≡ true
+  pub known-then : {x y z : R .Mat} → Lowest x → Lowest y → Lowest z → R .known x y ≡ true → Same y z → R .known x z ≡ true
   pub same-answers : {x y : R .Mat} → Lowest x → Lowest y → Same x y → R .answers x y ≡ true
-  pub answers-known : {x y z : R .Mat} → Lowest y → Lowest z → R .answers x z ≡ true → Same y z → R .known x y ≡ true
+  pub answers-known : {x y z : R .Mat} → Lowest x → Lowest y → Lowest z → R .answers x z ≡ true → Same y z → R .known x y ≡ true
   pub equal-same : (x y : R .Mat) → R .equal x y ≡ true → Same x y
   pub same-equal : {x y : R .Mat} → Lowest x → Lowest y → Same x y → R .equal x y ≡ true
   pub bound : ℕ
   pub below : (g : ℕ) → List·Memᴰ g (R .generators) → g < bound
 
 module _ (R : Rules) where
+  -- a list of the basis at the width: every gate is a generator
+  abbrev pub Over : List ℕ → Type 0
+  Over [] = Unit {0}
+  Over (g ∷ l) = List·Memᴰ g (R .generators) × Over l
+
   -- within G gates every step fits
   abbrev pub AllFit : ℕ → Type 0
-  AllFit G = (g : ℕ) (l : List ℕ) → List·Memᴰ g (R .generators) → Over R l → length l < G → R .fits g (prod R l) ≡ true
+  AllFit G = (g : ℕ) (l : List ℕ) → List·Memᴰ g (R .generators) → Over l → length l < G → R .fits g (prod R l) ≡ true
 
   module _ (Same : R .Mat → R .Mat → Type 0) where
     -- "no two lists of its basis .. within that limit share a fingerprint, unless one's product is a power of omega times the other's"
     abbrev pub NoClash : ℕ → Type 0
     NoClash G =
-        (l m : List ℕ) → Over R l → Over R m → length l ≤ G → length m ≤ G → R .known (prod R l) (prod R m) ≡ true → Same (prod R l) (prod R m)
+        (l m : List ℕ) → Over l → Over m → length l ≤ G → length m ≤ G → R .known (prod R l) (prod R m) ≡ true → Same (prod R l) (prod R m)
 
     -- some node has the matrix up to a power of omega
     abbrev pub Present : List Node → R .Mat → Type 0
@@ -56,4 +61,4 @@ module _ (R : Rules) where
 
     -- every list of the basis of at most d gates has such a node
     abbrev pub Complete : ℕ → List Node → Type 0
-    Complete d ns = (l : List ℕ) → Over R l → length l ≤ d → Has ns l
+    Complete d ns = (l : List ℕ) → Over l → length l ≤ d → Has ns l

@@ -1,8 +1,8 @@
 -- What a width answers: its product, for any nodes whatever; the same list for more nodes; the shortest list; and what "none" says.
 -- Assumes nothing.
 use mathlib.Core.Path.{_≡_, refl, sym, ap, _∙_, subst}
-use mathlib.Core.Logic.{_⊎_, inl, inr, ⊎-elim, _↔_}
-use mathlib.Core.Bool.{Bool, true, false, _&&_}
+use mathlib.Core.Logic.{_⊎_, ⊎-elim, _↔_}
+use mathlib.Core.Bool.{Bool, true, false}
 use mathlib.Core.List.{List, [], _∷_, _++_}
 use mathlib.Core.Option.{Option, none, some}
 use Prim.Native.Nat.{ℕ, zero, suc, _≤_, _<_}
@@ -11,7 +11,6 @@ use native.Mathlib.Omega.{arith}
 use borrow.Author.Tests.{ltb-true, lt-ltb}
 use lib.Dec.{ltb}
 use lib.ListN.{length, getD}
-use Rattle.ints.specs.Lists.{pick}
 use Rattle.ints.proofs.Bools.{clash, and-right, and-both}
 use Rattle.exact.proofs.Values.{pick-ind}
 use Rattle.walk.specs.Walk.{Rules, Node, Build, root, listAt, prod}
@@ -126,7 +125,7 @@ module _ (R : Rules) where
           (λ (a : length m < length l).
           let r = cp m o (omega (arith, i .deep (h .at) (h .there))) in
           let le : lowest (answersTo R x) ns ≤ r .0
-                = lowest-least (answersTo R x) root ns (r .0) (r .1) (W .same-answers (prod-lowest R Same W (listAt ns (r .0))) low (W .same-trans (r .3) s)) in
+          = lowest-least (answersTo R x) root ns (r .0) (r .1) (W .same-answers (prod-lowest R Same W (listAt ns (r .0))) low (W .same-trans (r .3) s)) in
           absurd (omega (arith, r .2, depths-rise R (i .grown) (h .at) (r .0) (omega (arith, h .first)) (r .1))))
           (λ (a : length l ≤ length m). a)
           (lt-or (length m) (length l))

@@ -3,7 +3,7 @@
 -- Assumes nothing.
 use mathlib.Core.Path.{_≡_, refl, sym, ap, _∙_, subst}
 use mathlib.Core.Logic.{_⊎_, inl, inr, ⊎-elim}
-use mathlib.Core.Bool.{Bool, true, false, _||_, _&&_}
+use mathlib.Core.Bool.{true, false, _&&_}
 use mathlib.Core.List.{List, [], _∷_, List·Memᴰ, List·Memᴰ·not-nil}
 use Prim.Native.Nat.{ℕ, zero, suc, _+_, _-_, _≤_, _<_}
 use native.Mathlib.Nat.{le-refl}
@@ -11,10 +11,9 @@ use native.Mathlib.Omega.{arith}
 use borrow.Author.Tests.{ltb-true}
 use lib.Dec.{ltb, eqb}
 use lib.ListN.{length, getD}
-use Rattle.ints.specs.Lists.{pick}
 use Rattle.ints.proofs.Bools.{clash, both-true}
 use Rattle.exact.proofs.Values.{pick-ind}
-use Rattle.walk.specs.Walk.{Rules, Node, State, Build, any, root, listAt, prod, pruned, knows, candidate, isNil, begin, opened, ended, walked, deeper, depths, walk}
+use Rattle.walk.specs.Walk.{Rules, Node, Build, any, root, listAt, prod, pruned, knows, candidate, isNil, begin, opened, ended, walked, deeper, depths, walk}
 use Rattle.walk.specs.Grown.{Prefix, Grown, Layered, Shape}
 use Rattle.walk.specs.Words.{Laws, Over, AllFit, Present, KnownIsPresent, Has, Complete}
 use Rattle.walk.proofs.Sequences.{or-false, or-cases, bool, lt-or, any-true, prefix-at, prefix-length}

@@ -1,17 +1,16 @@
 -- Demand 3 at one width: the statements of specs/Demand3, from the walk's theorems. The conditions, up to 13 gates and no shared fingerprint,
 -- are used only through hypothesis K: what the walk skipped as known was skipped rightly. Assumes nothing.
 use mathlib.Core.Path.{_≡_, refl, sym, ap, _∙_, subst}
-use mathlib.Core.Logic.{_↔_}
 use mathlib.Core.Bool.{Bool, false}
 use mathlib.Core.List.{List, reverse, reverse-reverse}
 use mathlib.Core.Option.{Option, none, some}
-use Prim.Native.Nat.{ℕ, _≤_, _<_}
+use Prim.Native.Nat.{ℕ, _≤_}
 use native.Mathlib.Omega.{arith}
 use lib.ListN.{length, length-reverse}
 use Rattle.exact.specs.Matrix.{Exact, Lowest, PowerOf}
 use Rattle.exact.specs.Lists.{product}
 use Rattle.exact.proofs.Acts.{power-sym}
-use Rattle.walk.specs.Walk.{Rules, Node, Build, listAt, prod}
+use Rattle.walk.specs.Walk.{Node, prod}
 use Rattle.walk.specs.Words.{Over}
 use Rattle.walk.specs.Answer.{answerBy, answersTo, answer}
 use Rattle.walk.specs.Grown.{Shape}
@@ -22,7 +21,7 @@ use Rattle.walk.proofs.Layers.{walk-shape}
 use Rattle.walk.proofs.Prefixes.{walk-prefix}
 use Rattle.walk.proofs.Known.{present-no-clash}
 use Rattle.walk.proofs.Completeness.{complete, complete-unsaturated}
-use Rattle.walk.proofs.Answers.{Hit, answer-hit, answer-prefix, answer-product, shortest, none-exactly}
+use Rattle.walk.proofs.Answers.{answer-hit, answer-prefix, answer-product, shortest, none-exactly}
 use Rattle.walk.proofs.Exactly.{laws, query-lowest, product-of, product-is, over-reverse, list-over, over-list, all-fit, no-clash}
 
 -- ---- an answer, oldest gate first
@@ -54,9 +53,10 @@ module _ (n basis : ℕ) (small : n ≤ 5) where
           let ns : List Node = built n basis G E .nodes in
           let w = walk-shape (atWidth n basis) G E in
           let h = answer-hit (atWidth n basis) (answersTo (atWidth n basis) x) ns x (reverse l) (newest-first (answer (atWidth n basis) ns x) l e) in
-          let o : Over (atWidth n basis) (reverse l) = subst (Over (atWidth n basis)) (sym (h .list)) (over (atWidth n basis) (w .layered .grown) (h .at) (h .there)) in
-          (subst (ListOf n basis) (reverse-reverse l) (over-list n basis small (reverse (reverse l)) (over-reverse n basis small (reverse l) o)),
-          omega (arith, length-reverse l, ap length (h .list), w .limit (h .at) (h .there)))
+          let o : Over (atWidth n basis) (reverse l) = subst (Over (atWidth n basis)) (sym (h .list)) (over (atWidth n basis) (w .layered .grown) (h .at) (h .there)) in (
+            subst (ListOf n basis) (reverse-reverse l) (over-list n basis small (reverse (reverse l)) (over-reverse n basis small (reverse l) o)),
+            omega (arith, length-reverse l, ap length (h .list), w .limit (h .at) (h .there)),
+          )
 
       larger : (G G′ E E′ : ℕ) → G ≤ G′ → E ≤ E′ → (x : Exact) (l : List ℕ) → answered n basis G E x ≡ some l → answered n basis G′ E′ x ≡ some l
       larger G G′ E E′ g e x l a =
@@ -80,20 +80,25 @@ module _ (n basis : ℕ) (small : n ≤ 5) where
 
         short : (x : Exact) → Lowest n x → Shortest n basis G E x
         short x low l e m o s =
-            omega (arith, length-reverse l, length-reverse m,
-            shortest (atWidth n basis) (PowerOf n) (laws n basis small) x (query-lowest n basis small low) (built n basis G E) (w .layered)
-            (complete (atWidth n basis) (PowerOf n) (laws n basis small) G E (all-fit n basis small G le) K) (reverse l)
-            (newest-first (answer (atWidth n basis) (built n basis G E .nodes) x) l e) (reverse m)
-            (over-reverse n basis small m (list-over n basis small m o)) (turned x m s))
+            omega (
+              arith,
+              length-reverse l,
+              length-reverse m,
+              shortest (atWidth n basis) (PowerOf n) (laws n basis small) x (query-lowest n basis small low) (built n basis G E) (w .layered)
+                  (complete (atWidth n basis) (PowerOf n) (laws n basis small) G E (all-fit n basis small G le) K) (reverse l)
+                  (newest-first (answer (atWidth n basis) (built n basis G E .nodes) x) l e) (reverse m)
+                  (over-reverse n basis small m (list-over n basis small m o)) (turned x m s),
+            )
 
         empty : built n basis G E .saturated ≡ false → (x : Exact) → Lowest n x → NoneExactly n basis G E x
         empty f x low =
             let r = none-exactly (atWidth n basis) (PowerOf n) (laws n basis small) x (query-lowest n basis small low) G (built n basis G E .nodes) (w .layered .grown) (w .limit)
-                    (complete-unsaturated (atWidth n basis) (PowerOf n) (laws n basis small) G E (all-fit n basis small G le) K f) in
-            ((λ e m o h s. r .0 (none-newest (answer (atWidth n basis) (built n basis G E .nodes) x) e) (reverse m) (over-reverse n basis small m (list-over n basis small m o))
-            (omega (arith, length-reverse m)) (turned x m s)),
-            (λ h. ap oldestFirst (r .1 (λ m o q s. h (reverse m) (over-list n basis small (reverse m) (over-reverse n basis small m o)) (omega (arith, length-reverse m))
-            (subst (PowerOf n x) (sym (product-is n basis small m)) (power-sym n s))))))
+            (complete-unsaturated (atWidth n basis) (PowerOf n) (laws n basis small) G E (all-fit n basis small G le) K f) in (
+              (λ e m o h s. r .0 (none-newest (answer (atWidth n basis) (built n basis G E .nodes) x) e) (reverse m) (over-reverse n basis small m (list-over n basis small m o))
+                  (omega (arith, length-reverse m)) (turned x m s)),
+              (λ h. ap oldestFirst (r .1 (λ m o q s. h (reverse m) (over-list n basis small (reverse m) (over-reverse n basis small m o)) (omega (arith, length-reverse m))
+                  (subst (PowerOf n x) (sym (product-is n basis small m)) (power-sym n s))))),
+            )
 
     -- and so under the demand's condition
     pub complete-no-clash : NoSharedPrint n basis G → Complete3 n basis G E

@@ -1,26 +1,23 @@
 -- The walk at a width and a basis meets the laws, by the laws of exact matrices; within 13 gates every step fits; and lists, products and
 -- fingerprints as the entries have them, oldest gate first, are those of the walk, newest first. Assumes nothing.
 use mathlib.Core.Path.{_≡_, refl, sym, ap, _∙_, subst}
-use mathlib.Core.Bool.{Bool, true, _&&_}
+use mathlib.Core.Bool.{true}
 use mathlib.Core.List.{List, [], _∷_, _++_, reverse, reverse-cons, reverse-reverse, List·Memᴰ}
-use Prim.Native.Nat.{ℕ, suc, _^_, _*_, _≤_, _<_}
+use Prim.Native.Nat.{ℕ, _≤_, _<_}
 use native.Mathlib.Nat.{le-trans}
 use native.Mathlib.Omega.{arith}
 use borrow.Author.Tests.{eqb-true, eq-eqb}
-use lib.Dec.{eqb}
 use lib.ListN.{length, length-reverse}
 use Rattle.ints.specs.Lists.{all}
 use Rattle.ints.proofs.Bools.{clash, and-left, and-right, and-both}
 use Rattle.cyclotomic.specs.Zomega.{limit}
-use Rattle.circuit.specs.Kinds.{isKind}
 use Rattle.circuit.specs.Sets.{member}
 use Rattle.circuit.specs.Codes.{kindNumber, valid, validFor}
 use Rattle.generators.specs.Generators.{generators}
 use Rattle.generators.proofs.Generated.{lists}
-use Rattle.exact.specs.Matrix.{Exact, Lowest, PowerOf, identity}
+use Rattle.exact.specs.Matrix.{Exact, Lowest, PowerOf}
 use Rattle.exact.specs.Rows.{gateOf}
 use Rattle.exact.specs.Lists.{product}
-use Rattle.exact.specs.Fits.{mostK}
 use Rattle.exact.specs.Fingerprint.{fingerprint}
 use Rattle.exact.proofs.Values.{equal-same}
 use Rattle.exact.proofs.Acts.{act-lowest, act-swap, act-back, power-of, power-refl, power-sym, power-trans, act-power}

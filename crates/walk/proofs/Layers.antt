@@ -1,16 +1,15 @@
 -- Depths: what holds while a depth is walked, and what one depth keeps of a width: its layers, its count, and that it is saturated only at
 -- the limit. No law on what the walk is handed is used. Assumes nothing.
-use mathlib.Core.Path.{_≡_, refl, sym, ap, _∙_, subst}
+use mathlib.Core.Path.{_≡_, refl, sym, ap, _∙_}
 use mathlib.Core.Logic.{_⊎_, inl, inr, ⊎-elim}
-use mathlib.Core.Bool.{Bool, true, false, _||_}
-use mathlib.Core.List.{List, [], _∷_, _++_, List·Memᴰ}
+use mathlib.Core.Bool.{true, false}
+use mathlib.Core.List.{List, List·Memᴰ}
 use Prim.Native.Nat.{ℕ, zero, suc, _+_, _-_, _≤_, _<_}
 use native.Mathlib.Nat.{le-refl}
 use native.Mathlib.Omega.{arith}
 use borrow.Author.Tests.{eqb-true}
 use lib.Dec.{eqb}
-use lib.ListN.{length, getD}
-use Rattle.ints.specs.Lists.{pick}
+use lib.ListN.{length}
 use Rattle.ints.proofs.Bools.{clash}
 use Rattle.exact.proofs.Values.{pick-ind}
 use Rattle.walk.specs.Walk.{Rules, Node, State, Build, root, listAt, child, try, opened, walked, settled, deeper, ended, depths, begin, isNil, walk}
@@ -109,7 +108,7 @@ module _ (R : Rules) where
       let s : State = walked R most b in
       let p = walked-within most b i f in
       let old : (j : ℕ) → j < length (b .nodes) → length (listAt (s .nodes) j) ≡ length (listAt (b .nodes) j)
-              = λ j l. ap (λ (z : Node). length (z .list)) (prefix-at (p .prefix) j root l) in
+      = λ j l. ap (λ (z : Node). length (z .list)) (prefix-at (p .prefix) j root l) in
       pick-ind (Layered R) (s .saturated)
       (λ e. record {
         grown = p .grown;
@@ -203,5 +202,5 @@ module _ (R : Rules) where
         why = λ z. inr (inr e);
       })
       (λ e. let r = depths-keep E (Going G E) (going-next G E) G begin
-              (record { layered = begin-layered; left = λ z. omega arith; cut = λ z. clash z refl; count = λ z. z; full = λ z. clash z refl }) in
+      (record { layered = begin-layered; left = λ z. omega arith; cut = λ z. clash z refl; count = λ z. z; full = λ z. clash z refl }) in
       going-shape G E (r .0) (depths R E begin G) (r .1) (r .2))

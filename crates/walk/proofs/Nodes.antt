@@ -85,8 +85,12 @@ module _ (R : Rules) where
   depths-to {ns} b (suc f) zero k a p l = omega (arith, ap (λ (n : Node). length (n .list)) (first b .1))
   depths-to {ns} b (suc f) (suc j) k a p l =
       let low = link b k l (omega arith) .below in
-      omega (arith, depth-parent b (suc j) (omega arith) (omega arith), depth-parent b k l (omega arith),
-      depths-to b f (parentAt ns (suc j)) (parentAt ns k) (omega arith) (parents-rise b k l (suc j) (omega arith) p) (omega arith))
+      omega (
+        arith,
+        depth-parent b (suc j) (omega arith) (omega arith),
+        depth-parent b k l (omega arith),
+        depths-to b f (parentAt ns (suc j)) (parentAt ns k) (omega arith) (parents-rise b k l (suc j) (omega arith) p) (omega arith),
+      )
 
   pub depths-rise : {ns : List Node} → Grown R ns → (j k : ℕ) → j ≤ k → k < length ns → length (listAt ns j) ≤ length (listAt ns k)
   depths-rise b j k p l = depths-to b (suc k) j k (omega arith) p l

@@ -7,12 +7,12 @@ use mathlib.Core.List.{List, [], _∷_}
 use Prim.Native.Nat.{ℕ, zero, suc, _-_, _≤_}
 use native.Mathlib.Omega.{arith}
 use borrow.Author.Tests.{ltb-true, lt-ltb}
-use lib.Dec.{ltb, eqb}
+use lib.Dec.{ltb}
 use lib.ListN.{length}
 use Rattle.ints.specs.Lists.{pick}
 use Rattle.ints.proofs.Bools.{clash}
 use Rattle.exact.proofs.Values.{pick-ind}
-use Rattle.walk.specs.Walk.{Rules, Node, State, Build, skipped, child, try, tryAll, layer, opened, walked, settled, deeper, ended, depths, begin, isNil, walk}
+use Rattle.walk.specs.Walk.{Rules, State, Build, skipped, child, try, tryAll, layer, opened, walked, settled, deeper, ended, depths, begin, isNil, walk}
 use Rattle.walk.specs.Grown.{Prefix}
 use Rattle.walk.proofs.Sequences.{prefix-refl, prefix-snoc, prefix-trans}
 use Rattle.walk.proofs.Candidates.{grownBy, filled, try-later, layer-later, try-saturated}

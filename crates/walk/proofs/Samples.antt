@@ -2,7 +2,7 @@
 -- products that lists of X have. Assumes nothing.
 use mathlib.Core.Path.{_≡_, refl}
 use mathlib.Core.Bool.{true, false}
-use mathlib.Core.List.{List, [], _∷_}
+use mathlib.Core.List.{[], _∷_}
 use mathlib.Core.Option.{none, some}
 use lib.Dec.{eqb}
 use Rattle.ints.specs.Bits.{bit}
@@ -20,7 +20,7 @@ use Rattle.exact.specs.Lists.{product}
 use Rattle.exact.specs.Fits.{stepFits}
 use Rattle.exact.specs.Phase.{pivot, phaseOf, upToPhase}
 use Rattle.exact.specs.Fingerprint.{mix, fold, fingerprint}
-use Rattle.walk.specs.Walk.{Build, root, skipped, try, tryAll, layer, deeper, depths, walk}
+use Rattle.walk.specs.Walk.{root, skipped, try, tryAll, layer, deeper, depths, walk}
 use Rattle.walk.specs.Answer.{recheck, answerBy}
 use Rattle.walk.specs.AtWidth.{actBy, samePrint, built, answered}
 

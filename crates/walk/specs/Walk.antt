@@ -1,6 +1,5 @@
 -- The walk of one width: node 0 is the empty list, and depth by depth each node of the last layer tries each generator. Steps on states:
 -- one candidate, one node, one depth, a width. What the walk is handed, two rules among it, is a parameter. Assumes nothing.
-use mathlib.Core.Path.{_≡_}
 use mathlib.Core.Bool.{Bool, true, false, not, _||_, _&&_}
 use mathlib.Core.List.{List, [], _∷_, _++_}
 use Prim.Native.Nat.{ℕ, zero, suc, _-_}

@@ -104,13 +104,15 @@ module _ (R : Rules) where
           and-both (stepsFit R (listAt ns k)) (R .equal (prod R (listAt ns k)) x) (fit R b k h) (W .same-equal (prod-lowest R Same W (listAt ns k)) low s)
 
       -- such a node is found: a lower one that answered would make it known
-      pub found : {ns : List Node} → Grown R ns → (k : ℕ) → k < length ns → Same (prod R (listAt ns k)) x → answer R ns x ≡ some (listAt ns k)
+      found : {ns : List Node} → Grown R ns → (k : ℕ) → k < length ns → Same (prod R (listAt ns k)) x → answer R ns x ≡ some (listAt ns k)
       found {ns} b k h s =
           let i : ℕ = lowest (answersTo R x) ns in
           let own = prod-lowest R Same W (listAt ns k) in
           let le : i ≤ k = lowest-least (answersTo R x) root ns k h (W .same-answers own low s) in
           let hit : answersTo R x (getD ns i root) ≡ true = lowest-passes (answersTo R x) root ns (omega arith) in
-          let e : i ≡ k = ⊎-elim (λ (a : i < k). clash (W .answers-known (prod-lowest R Same W (listAt ns i)) own low hit s) (fresh R b k h i a)) (λ (a : k ≤ i). omega arith) (lt-or i k) in
+          let e : i ≡ k = ⊎-elim
+              (λ (a : i < k). clash (W .answers-known (prod-lowest R Same W (listAt ns i)) own low hit s) (fresh R b k h i a))
+              (λ (a : k ≤ i). omega arith) (lt-or i k) in
           hit-answer (answersTo R x) ns x (listAt ns k) (record { at = k; first = sym e; there = h; list = refl; right = passes b k h s })
 
       -- Shortest, among lists of any length: a shorter list would have a node less deep, hence lower, that answers too; but the answering node is
@@ -148,5 +150,5 @@ module _ (R : Rules) where
               by none e = e
               by (some l) e =
                   let t = answer-hit (answersTo R x) ns x l e in
-                  absurd (n l (subst (Over R) (sym (t .list)) (over R b (t .at) (t .there))) (subst (λ (z : List ℕ). length z ≤ G) (sym (t .list)) (h (t .at) (t .there)))
-                  (answer-product (answersTo R x) ns x l e))
+                  absurd (n l (subst (Over R) (sym (t .list)) (over R b (t .at) (t .there)))
+                  (subst (λ (z : List ℕ). length z ≤ G) (sym (t .list)) (h (t .at) (t .there))) (answer-product (answersTo R x) ns x l e))

@@ -21,7 +21,7 @@ pub record Later (s t : State) : Type 0 where
   pub prefix : Prefix (s .nodes) (t .nodes)
   pub stays : s .saturated ≡ true → t .saturated ≡ true
 
-pub later-refl : (s : State) → Later s s
+later-refl : (s : State) → Later s s
 later-refl s = record { prefix = prefix-refl (s .nodes); stays = λ e. e }
 
 later-trans : {s t u : State} → Later s t → Later t u → Later s u

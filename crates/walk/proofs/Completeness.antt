@@ -41,8 +41,10 @@ module _ (R : Rules) (Same : R .Mat → R .Mat → Type 0) (W : Laws R Same) whe
       → List·Memᴰ g (R .generators) → length p < d → pruned R g p ≡ false → R .fits g (prod R p) ≡ true
       → any (knows R (R .act g (prod R p))) ns ≡ true → Present R Same ns (R .act g (prod R p))
   present-at d ns K k g p e l m =
-      subst (λ (z : List ℕ). length z < d → pruned R g z ≡ false → R .fits g (prod R z) ≡ true → any (knows R (R .act g (prod R z))) ns ≡ true → Present R Same ns (R .act g (prod R z))) e
-      (K k g l m)
+      subst
+      (λ (z : List ℕ). length z < d → pruned R g z ≡ false → R .fits g (prod R z) ≡ true → any (knows R (R .act g (prod R z))) ns ≡ true
+      → Present R Same ns (R .act g (prod R z)))
+      e (K k g l m)
 
   -- hypothesis K of the nodes at the end holds of the nodes so far: a node that came later is not known by an earlier one
   present-before : {ns ms : List Node} (d e : ℕ) → Prefix ns ms → Grown R ms → d ≤ e → KnownIsPresent R Same e ms → KnownIsPresent R Same d ns
@@ -66,7 +68,8 @@ module _ (R : Rules) (Same : R .Mat → R .Mat → Type 0) (W : Laws R Same) whe
   -- ---- one depth more
 
   module _ (most : ℕ) (b : Build) (i : Layered R b) (f : b .saturated ≡ false) (af : AllFit R (suc (b .depth)))
-      (uf : walked R most b .saturated ≡ false) (K : KnownIsPresent R Same (suc (b .depth)) (walked R most b .nodes)) (cp : Complete R Same (b .depth) (b .nodes)) where
+      (uf : walked R most b .saturated ≡ false) (K : KnownIsPresent R Same (suc (b .depth)) (walked R most b .nodes))
+      (cp : Complete R Same (b .depth) (b .nodes)) where
     after : List Node
     after = walked R most b .nodes
 
@@ -74,14 +77,19 @@ module _ (R : Rules) (Same : R .Mat → R .Mat → Type 0) (W : Laws R Same) whe
     unfolding after
     kept l o h = has-prefix (walked-within R most b i f .prefix) l (cp l o h)
 
-    -- a candidate that is skipped by its last two gates: the inverse pair is left out, or the two are exchanged, if the lists with a greater
-    -- last gate have their nodes
+    -- the lists with a greater last gate than g have their nodes
+    Greater : ℕ → Type 0
+    Greater g = (h : ℕ) → g < h → List·Memᴰ h (R .generators) → (l : List ℕ) → Over R l → length l ≤ b .depth → Has R Same after (h ∷ l)
+
+    -- a candidate that is skipped by its last two gates: the inverse pair is left out, or the two are exchanged
     by-pair : (g : ℕ) (p : List ℕ) → List·Memᴰ g (R .generators) → Over R p → length p ≤ b .depth → pruned R g p ≡ true
-        → ((h : ℕ) → g < h → List·Memᴰ h (R .generators) → (l : List ℕ) → Over R l → length l ≤ b .depth → Has R Same after (h ∷ l)) → Has R Same after (g ∷ p)
+        → Greater g → Has R Same after (g ∷ p)
+    unfolding Greater
     by-pair g [] m o q e rec = clash e refl
     by-pair g (h ∷ t) m o q e rec =
         ⊎-elim
-        (λ (a : R .inverse g h ≡ true). has-same after t (g ∷ h ∷ t) (W .same-sym (W .inverse-undoes g h (prod R t) a)) (omega arith) (kept t (o .1) (omega arith)))
+        (λ (a : R .inverse g h ≡ true).
+        has-same after t (g ∷ h ∷ t) (W .same-sym (W .inverse-undoes g h (prod R t) a)) (omega arith) (kept t (o .1) (omega arith)))
         (λ (a : (R .disjoint g h && ltb g h) ≡ true). let c = both-true (R .disjoint g h) (ltb g h) a in
         has-same after (h ∷ g ∷ t) (g ∷ h ∷ t) (W .same-sym (W .disjoint-swaps g h (prod R t) (c .0))) (le-refl (length (g ∷ h ∷ t)))
         (rec h (ltb-true g h (c .1)) (o .0) (g ∷ t) (m, o .1) q))
@@ -89,7 +97,7 @@ module _ (R : Rules) (Same : R .Mat → R .Mat → Type 0) (W : Laws R Same) whe
 
     -- a candidate of the last layer
     tried : (g k : ℕ) → List·Memᴰ g (R .generators) → k < length (b .nodes) → length (listAt (b .nodes) k) ≡ b .depth
-        → ((h : ℕ) → g < h → List·Memᴰ h (R .generators) → (l : List ℕ) → Over R l → length l ≤ b .depth → Has R Same after (h ∷ l)) → Has R Same after (g ∷ listAt (b .nodes) k)
+        → Greater g → Has R Same after (g ∷ listAt (b .nodes) k)
     unfolding after
     tried g k m l e rec = by (bool (pruned R g p))
       where
@@ -104,13 +112,17 @@ module _ (R : Rules) (Same : R .Mat → R .Mat → Type 0) (W : Laws R Same) whe
 
         dealt : Dealt R p g (walked R most b)
         dealt =
-            layer-deals R most (λ h t. W .same-known (prod-lowest (h ∷ t)) (prod-lowest (h ∷ t)) (W .same-refl (prod R (h ∷ t)))) (opened b) (b .last) (length (b .nodes) - b .last)
-            (omega (arith, i .start)) k in-last (omega (arith, i .start)) g m
+            layer-deals R most (λ h t. W .same-known (prod-lowest (h ∷ t)) (prod-lowest (h ∷ t)) (W .same-refl (prod R (h ∷ t))))
+            (opened b) (b .last) (length (b .nodes) - b .last) (omega (arith, i .start)) k in-last (omega (arith, i .start)) g m
+
+        fits : R .fits g (prod R p) ≡ true
+        fits = af g p m op (omega (arith, e))
 
         known : pruned R g p ≡ false → any (knows R (R .act g (prod R p))) after ≡ true → Has R Same after (g ∷ p)
         known u a =
             let x = walked-within R most b i f .prefix in
-            let r = present-at (suc (b .depth)) after K k g p (ap (λ (n : Node). n .list) (prefix-at x k root l)) (omega (arith, prefix-length x)) m (omega (arith, e)) u (af g p m op (omega (arith, e))) a in
+            let q : listAt after k ≡ p = ap (λ (n : Node). n .list) (prefix-at x k root l) in
+            let r = present-at (suc (b .depth)) after K k g p q (omega (arith, prefix-length x)) m (omega (arith, e)) u fits a in
             (r .0, r .1, omega (arith, e, walked-deep R most b i f (r .0) (r .1)), r .2)
 
         by : (pruned R g p ≡ true) ⊎ (pruned R g p ≡ false) → Has R Same after (g ∷ p)
@@ -120,11 +132,13 @@ module _ (R : Rules) (Same : R .Mat → R .Mat → Type 0) (W : Laws R Same) whe
             go : Dealt R p g (walked R most b) → Has R Same after (g ∷ p)
             go (inl a) = clash a uf
             go (inr (inl a)) = clash a u
-            go (inr (inr (inl a))) = clash (af g p m op (omega (arith, e))) a
+            go (inr (inr (inl a))) = clash fits a
             go (inr (inr (inr a))) = known u a
 
     -- by how far g lies below the bound of the codes
-    inner : (r g : ℕ) → W .bound ≤ g + r → List·Memᴰ g (R .generators) → (l : List ℕ) → Over R l → length l ≤ b .depth → Has R Same after (g ∷ l)
+    inner : (r g : ℕ) → W .bound ≤ g + r → List·Memᴰ g (R .generators) → (l : List ℕ) → Over R l → length l ≤ b .depth
+        → Has R Same after (g ∷ l)
+    unfolding Greater
     inner zero g q m l o h = absurd (omega (arith, W .below g m))
     inner (suc r) g q m l o h =
         let n = cp l o h in
@@ -132,7 +146,8 @@ module _ (R : Rules) (Same : R .Mat → R .Mat → Type 0) (W : Laws R Same) whe
         let op : Over R p = over R (i .grown) (n .0) (n .1) in
         has-same after (g ∷ p) (g ∷ l) (W .act-same g (n .3)) (omega (arith, n .2))
         (⊎-elim (λ (a : length p < b .depth). kept (g ∷ p) (m, op) a)
-        (λ (a : b .depth ≤ length p). tried g (n .0) m (n .1) (omega (arith, layered-deep R b i f (n .0) (n .1))) (λ h x. inner r h (omega arith)))
+        (λ (a : b .depth ≤ length p).
+        tried g (n .0) m (n .1) (omega (arith, layered-deep R b i f (n .0) (n .1))) (λ h x. inner r h (omega arith)))
         (lt-or (length p) (b .depth)))
 
     complete-walked : Complete R Same (suc (b .depth)) (walked R most b .nodes)
@@ -146,7 +161,8 @@ module _ (R : Rules) (Same : R .Mat → R .Mat → Type 0) (W : Laws R Same) whe
       → Complete R Same (deeper R most b .depth) (deeper R most b .nodes)
   complete-deeper most b i f af K cp =
       ⊎-elim
-      (λ (e : deeper R most b .saturated ≡ true). rw (deeper-nodes R most b, deeper-depth R most b .1 e) (λ l o h. has-prefix (walked-within R most b i f .prefix) l (cp l o h)))
+      (λ (e : deeper R most b .saturated ≡ true).
+      rw (deeper-nodes R most b, deeper-depth R most b .1 e) (λ l o h. has-prefix (walked-within R most b i f .prefix) l (cp l o h)))
       (λ (e : deeper R most b .saturated ≡ false).
       let d = deeper-depth R most b .0 e in
       rw (deeper-nodes R most b, d)
@@ -168,21 +184,24 @@ module _ (R : Rules) (Same : R .Mat → R .Mat → Type 0) (W : Laws R Same) whe
       (λ e. ⊎-elim (λ (z : deeper R E b .saturated ≡ true). omega (arith, d .1 z, depth-rises E m (deeper R E b)))
       (λ (z : deeper R E b .saturated ≡ false). omega (arith, d .0 z, depth-rises E m (deeper R E b))) (bool (deeper R E b .saturated)))
 
-  depths-complete : (G E m : ℕ) (b : Build) → AllFit R G → Layered R b → (b .saturated ≡ false → b .depth + m ≤ G) → Complete R Same (b .depth) (b .nodes)
-      → Grown R (depths R E b m .nodes) → KnownIsPresent R Same (depths R E b m .depth) (depths R E b m .nodes)
-      → Complete R Same (depths R E b m .depth) (depths R E b m .nodes)
+  -- hypothesis K of a width makes it complete
+  abbrev Enough : Build → Type 0
+  Enough b = Grown R (b .nodes) → KnownIsPresent R Same (b .depth) (b .nodes) → Complete R Same (b .depth) (b .nodes)
+
+  depths-complete : (G E m : ℕ) (b : Build) → AllFit R G → Layered R b → (b .saturated ≡ false → b .depth + m ≤ G)
+      → Complete R Same (b .depth) (b .nodes) → Enough (depths R E b m)
   unfolding depths
   depths-complete G E zero b af i q cp = λ gr K. cp
   depths-complete G E (suc m) b af i q cp =
       let d : Build = deeper R E b in
-      pick-ind (λ (r : Build). Grown R (r .nodes) → KnownIsPresent R Same (r .depth) (r .nodes) → Complete R Same (r .depth) (r .nodes)) (ended b) (λ e gr K. cp)
+      pick-ind Enough (ended b) (λ e gr K. cp)
       (λ e gr K.
       let f : b .saturated ≡ false = or-false (b .saturated) (eqb (b .last) (length (b .nodes))) e .0 in
       depths-complete G E m d af (deeper-layered R E b i f) (λ z. omega (arith, q f, deeper-depth R E b .0 z))
       (complete-deeper E b i f (λ g l h o n. af g l h o (omega (arith, q f)))
       (present-before (d .depth) (depths R E d m .depth) (depths-prefix R E m d) gr (depth-rises E m d) K) cp) gr K)
 
-  -- a depth that added nothing closes the set: every list, however long, has its node
+  -- where the last depth added nothing, every list, however long, has its node
   pub complete-closed : (b : Build) → Layered R b → b .last ≡ length (b .nodes) → Complete R Same (b .depth) (b .nodes)
       → (l : List ℕ) → Over R l → Has R Same (b .nodes) l
   complete-closed b i e cp [] o = cp [] o (omega arith)
@@ -202,10 +221,9 @@ module _ (R : Rules) (Same : R .Mat → R .Mat → Type 0) (W : Laws R Same) whe
     unfolding walk
     complete = by (walk-shape R G E .layered .grown) K
       where
-        by : Grown R (walk R G E .nodes) → KnownIsPresent R Same (walk R G E .depth) (walk R G E .nodes) → Complete R Same (walk R G E .depth) (walk R G E .nodes)
+        by : Enough (walk R G E)
         by =
-            pick-ind (λ (r : Build). Grown R (r .nodes) → KnownIsPresent R Same (r .depth) (r .nodes) → Complete R Same (r .depth) (r .nodes)) (isNil (R .generators))
-            (λ e gr k. begin-complete)
+            pick-ind Enough (isNil (R .generators)) (λ e gr k. begin-complete)
             (λ e. depths-complete G E G begin af (begin-layered R) (λ z. omega arith) begin-complete)
 
     -- at a width that is not saturated, every list of the basis within the limit has
@@ -215,7 +233,8 @@ module _ (R : Rules) (Same : R .Mat → R .Mat → Type 0) (W : Laws R Same) whe
         w : Shape R G E (walk R G E)
         w = walk-shape R G E
 
-        by : (walk R G E .depth ≡ G) ⊎ (walk R G E .last ≡ length (walk R G E .nodes)) ⊎ (isNil (R .generators) ≡ true) → Complete R Same G (walk R G E .nodes)
+        by : (walk R G E .depth ≡ G) ⊎ (walk R G E .last ≡ length (walk R G E .nodes)) ⊎ (isNil (R .generators) ≡ true)
+            → Complete R Same G (walk R G E .nodes)
         by (inl e) l o h = complete l o (omega arith)
         by (inr (inl e)) l o h = complete-closed (walk R G E) (w .layered) e complete l o
         by (inr (inr e)) [] o h = complete [] o (omega arith)

@@ -10,8 +10,8 @@ use lib.ListN.{length, length-reverse}
 use Rattle.exact.specs.Matrix.{Exact, Lowest, PowerOf}
 use Rattle.exact.specs.Lists.{product}
 use Rattle.exact.proofs.Acts.{power-sym}
-use Rattle.walk.specs.Walk.{Node, prod}
-use Rattle.walk.specs.Words.{Over}
+use Rattle.walk.specs.Walk.{Rules, Node, prod}
+use Rattle.walk.specs.Words.{Laws, Over}
 use Rattle.walk.specs.Answer.{answerBy, answersTo, answer}
 use Rattle.walk.specs.Grown.{Shape}
 use Rattle.walk.specs.AtWidth.{atWidth, built, oldestFirst, answeredBy, answered, ListOf, NoSharedPrint, SkippedRightly}
@@ -38,6 +38,19 @@ none-newest none e = refl
 none-newest (some m) e = let z : _≡_ {A = ℕ} 0 1 = cc in absurd (omega arith)
 
 module _ (n basis : ℕ) (small : n ≤ 5) where
+  abbrev R : Rules
+  R = atWidth n basis
+
+  abbrev W : Laws R (PowerOf n)
+  W = laws n basis small
+
+  -- a list of the basis, newest gate first
+  over-newest : (m : List ℕ) → ListOf n basis m → Over R (reverse m)
+  over-newest m o = over-reverse n basis small m (list-over n basis small m o)
+
+  over-oldest : (m : List ℕ) → Over R m → ListOf n basis (reverse m)
+  over-oldest m o = over-list n basis small (reverse m) (over-reverse n basis small m o)
+
   -- ---- with no condition
 
   pub demand : Demand3 n basis
@@ -46,23 +59,23 @@ module _ (n basis : ℕ) (small : n ≤ 5) where
       right : (test : Node → Bool) (ns : List Node) (x : Exact) (l : List ℕ) → answeredBy n basis test ns x ≡ some l → PowerOf n x (product n l)
       right test ns x l e =
           power-sym n (subst (λ (y : Exact). PowerOf n y x) (sym (product-of n basis small l))
-          (answer-product (atWidth n basis) (PowerOf n) (laws n basis small) test ns x (reverse l) (newest-first (answerBy (atWidth n basis) test ns x) l e)))
+          (answer-product R (PowerOf n) W test ns x (reverse l) (newest-first (answerBy R test ns x) l e)))
 
       within : (G E : ℕ) (x : Exact) (l : List ℕ) → answered n basis G E x ≡ some l → ListOf n basis l × (length l ≤ G)
       within G E x l e =
           let ns : List Node = built n basis G E .nodes in
-          let w = walk-shape (atWidth n basis) G E in
-          let h = answer-hit (atWidth n basis) (answersTo (atWidth n basis) x) ns x (reverse l) (newest-first (answer (atWidth n basis) ns x) l e) in
-          let o : Over (atWidth n basis) (reverse l) = subst (Over (atWidth n basis)) (sym (h .list)) (over (atWidth n basis) (w .layered .grown) (h .at) (h .there)) in (
-            subst (ListOf n basis) (reverse-reverse l) (over-list n basis small (reverse (reverse l)) (over-reverse n basis small (reverse l) o)),
+          let w = walk-shape R G E in
+          let h = answer-hit R (answersTo R x) ns x (reverse l) (newest-first (answer R ns x) l e) in
+          let o : Over R (reverse l) = subst (Over R) (sym (h .list)) (over R (w .layered .grown) (h .at) (h .there)) in (
+            subst (ListOf n basis) (reverse-reverse l) (over-oldest (reverse l) o),
             omega (arith, length-reverse l, ap length (h .list), w .limit (h .at) (h .there)),
           )
 
       larger : (G G′ E E′ : ℕ) → G ≤ G′ → E ≤ E′ → (x : Exact) (l : List ℕ) → answered n basis G E x ≡ some l → answered n basis G′ E′ x ≡ some l
       larger G G′ E E′ g e x l a =
-          oldest-first (answer (atWidth n basis) (built n basis G′ E′ .nodes) x) l
-          (answer-prefix (atWidth n basis) (answersTo (atWidth n basis) x) (walk-prefix (atWidth n basis) G G′ E E′ g e) x (reverse l)
-          (newest-first (answer (atWidth n basis) (built n basis G E .nodes) x) l a))
+          oldest-first (answer R (built n basis G′ E′ .nodes) x) l
+          (answer-prefix R (answersTo R x) (walk-prefix R G G′ E E′ g e) x (reverse l)
+          (newest-first (answer R (built n basis G E .nodes) x) l a))
 
   -- ---- up to 13 gates
 
@@ -71,11 +84,11 @@ module _ (n basis : ℕ) (small : n ≤ 5) where
     pub complete-rightly : SkippedRightly n basis G E → Complete3 n basis G E
     complete-rightly K = record { shortest = short; none-exactly = empty }
       where
-        w : Shape (atWidth n basis) G E (built n basis G E)
-        w = walk-shape (atWidth n basis) G E
+        w : Shape R G E (built n basis G E)
+        w = walk-shape R G E
 
         -- a list of the basis with such a product, newest gate first
-        turned : (x : Exact) (m : List ℕ) → PowerOf n x (product n m) → PowerOf n (prod (atWidth n basis) (reverse m)) x
+        turned : (x : Exact) (m : List ℕ) → PowerOf n x (product n m) → PowerOf n (prod R (reverse m)) x
         turned x m s = power-sym n (subst (PowerOf n x) (product-of n basis small m) s)
 
         short : (x : Exact) → Lowest n x → Shortest n basis G E x
@@ -84,25 +97,25 @@ module _ (n basis : ℕ) (small : n ≤ 5) where
               arith,
               length-reverse l,
               length-reverse m,
-              shortest (atWidth n basis) (PowerOf n) (laws n basis small) x (query-lowest n basis small low) (built n basis G E) (w .layered)
-                  (complete (atWidth n basis) (PowerOf n) (laws n basis small) G E (all-fit n basis small G le) K) (reverse l)
-                  (newest-first (answer (atWidth n basis) (built n basis G E .nodes) x) l e) (reverse m)
-                  (over-reverse n basis small m (list-over n basis small m o)) (turned x m s),
+              shortest R (PowerOf n) W x (query-lowest n basis small low) (built n basis G E) (w .layered)
+                  (complete R (PowerOf n) W G E (all-fit n basis small G le) K) (reverse l)
+                  (newest-first (answer R (built n basis G E .nodes) x) l e) (reverse m)
+                  (over-newest m o) (turned x m s),
             )
 
         empty : built n basis G E .saturated ≡ false → (x : Exact) → Lowest n x → NoneExactly n basis G E x
         empty f x low =
-            let r = none-exactly (atWidth n basis) (PowerOf n) (laws n basis small) x (query-lowest n basis small low) G (built n basis G E .nodes) (w .layered .grown) (w .limit)
-            (complete-unsaturated (atWidth n basis) (PowerOf n) (laws n basis small) G E (all-fit n basis small G le) K f) in (
-              (λ e m o h s. r .0 (none-newest (answer (atWidth n basis) (built n basis G E .nodes) x) e) (reverse m) (over-reverse n basis small m (list-over n basis small m o))
+            let r = none-exactly R (PowerOf n) W x (query-lowest n basis small low) G (built n basis G E .nodes) (w .layered .grown) (w .limit)
+            (complete-unsaturated R (PowerOf n) W G E (all-fit n basis small G le) K f) in (
+              (λ e m o h s. r .0 (none-newest (answer R (built n basis G E .nodes) x) e) (reverse m) (over-newest m o)
                   (omega (arith, length-reverse m)) (turned x m s)),
-              (λ h. ap oldestFirst (r .1 (λ m o q s. h (reverse m) (over-list n basis small (reverse m) (over-reverse n basis small m o)) (omega (arith, length-reverse m))
+              (λ h. ap oldestFirst (r .1 (λ m o q s. h (reverse m) (over-oldest m o) (omega (arith, length-reverse m))
                   (subst (PowerOf n x) (sym (product-is n basis small m)) (power-sym n s))))),
             )
 
     -- and so under the demand's condition
     pub complete-no-clash : NoSharedPrint n basis G → Complete3 n basis G E
     complete-no-clash nc =
-        let w = walk-shape (atWidth n basis) G E in
-        complete-rightly (present-no-clash (atWidth n basis) (PowerOf n) G (no-clash n basis small G nc) (built n basis G E .nodes) (w .layered .grown) (w .limit)
+        let w = walk-shape R G E in
+        complete-rightly (present-no-clash R (PowerOf n) G (no-clash n basis small G nc) (built n basis G E .nodes) (w .layered .grown) (w .limit)
         (built n basis G E .depth) (w .depth))

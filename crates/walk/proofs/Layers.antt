@@ -147,7 +147,7 @@ module _ (R : Rules) where
   -- ---- a width
 
   -- what the beginning has and each depth of an unended width keeps, the width has; m is the number of depths that are left
-  pub depths-keep : (most : ℕ) (P : ℕ → Build → Type 0) → ((m : ℕ) (b : Build) → ended b ≡ false → P (suc m) b → P m (deeper R most b))
+  depths-keep : (most : ℕ) (P : ℕ → Build → Type 0) → ((m : ℕ) (b : Build) → ended b ≡ false → P (suc m) b → P m (deeper R most b))
       → (m : ℕ) (b : Build) → P m b → (k : ℕ) × P k (depths R most b m) × ((k ≡ 0) ⊎ (ended (depths R most b m) ≡ true))
   unfolding depths
   depths-keep most P f zero b p = (0, p, inl refl)

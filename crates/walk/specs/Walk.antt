@@ -49,13 +49,9 @@ mark = 4294967295
 abbrev pub root : Node
 root = record { parent = mark; list = [] }
 
-abbrev pub gateOfList : List ℕ → ℕ
-gateOfList [] = mark
-gateOfList (g ∷ l) = g
-
--- the gate of a node: the newest of its list
+-- the gate of a node: the newest of its list, and the root's mark
 abbrev pub gate : Node → ℕ
-gate n = gateOfList (n .list)
+gate n = getD (n .list) 0 mark
 
 abbrev pub listAt : List Node → ℕ → List ℕ
 listAt ns k = (getD ns k root) .list

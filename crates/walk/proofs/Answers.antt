@@ -111,8 +111,8 @@ module _ (R : Rules) where
           let le : i ≤ k = lowest-least (answersTo R x) root ns k h (W .same-answers own low s) in
           let hit : answersTo R x (getD ns i root) ≡ true = lowest-passes (answersTo R x) root ns (omega arith) in
           let e : i ≡ k = ⊎-elim
-              (λ (a : i < k). clash (W .answers-known (prod-lowest R Same W (listAt ns i)) own low hit s) (fresh R b k h i a))
-              (λ (a : k ≤ i). omega arith) (lt-or i k) in
+          (λ (a : i < k). clash (W .answers-known (prod-lowest R Same W (listAt ns i)) own low hit s) (fresh R b k h i a))
+          (λ (a : k ≤ i). omega arith) (lt-or i k) in
           hit-answer (answersTo R x) ns x (listAt ns k) (record { at = k; first = sym e; there = h; list = refl; right = passes b k h s })
 
       -- Shortest, among lists of any length: a shorter list would have a node less deep, hence lower, that answers too; but the answering node is

@@ -5,3 +5,4 @@ pub mod Grown
 pub mod Words
 pub mod AtWidth
 pub mod Demand3
+pub mod Samples

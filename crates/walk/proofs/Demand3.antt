@@ -15,7 +15,7 @@ use Rattle.walk.specs.Words.{Laws, Over}
 use Rattle.walk.specs.Answer.{answerBy, answersTo, answer}
 use Rattle.walk.specs.Grown.{Shape}
 use Rattle.walk.specs.AtWidth.{atWidth, built, oldestFirst, answeredBy, answered, ListOf, NoSharedPrint, SkippedRightly}
-use Rattle.walk.specs.Demand3.{Shortest, NoneExactly, Demand3, Complete3}
+use Rattle.walk.specs.Demand3.{Shortest, NoneExactly, Answers, Demand3}
 use Rattle.walk.proofs.Nodes.{over}
 use Rattle.walk.proofs.Layers.{walk-shape}
 use Rattle.walk.proofs.Prefixes.{walk-prefix}
@@ -53,36 +53,33 @@ module _ (n basis : ℕ) (small : n ≤ 5) where
 
   -- ---- with no condition
 
-  pub demand : Demand3 n basis
-  demand = record { right = right; within = within; larger = larger }
-    where
-      right : (test : Node → Bool) (ns : List Node) (x : Exact) (l : List ℕ) → answeredBy n basis test ns x ≡ some l → PowerOf n x (product n l)
-      right test ns x l e =
-          power-sym n (subst (λ (y : Exact). PowerOf n y x) (sym (product-of n basis small l))
-          (answer-product R (PowerOf n) W test ns x (reverse l) (newest-first (answerBy R test ns x) l e)))
+  right : (test : Node → Bool) (ns : List Node) (x : Exact) (l : List ℕ) → answeredBy n basis test ns x ≡ some l → PowerOf n x (product n l)
+  right test ns x l e =
+      power-sym n (subst (λ (y : Exact). PowerOf n y x) (sym (product-of n basis small l))
+      (answer-product R (PowerOf n) W test ns x (reverse l) (newest-first (answerBy R test ns x) l e)))
 
-      within : (G E : ℕ) (x : Exact) (l : List ℕ) → answered n basis G E x ≡ some l → ListOf n basis l × (length l ≤ G)
-      within G E x l e =
-          let ns : List Node = built n basis G E .nodes in
-          let w = walk-shape R G E in
-          let h = answer-hit R (answersTo R x) ns x (reverse l) (newest-first (answer R ns x) l e) in
-          let o : Over R (reverse l) = subst (Over R) (sym (h .list)) (over R (w .layered .grown) (h .at) (h .there)) in (
-            subst (ListOf n basis) (reverse-reverse l) (over-oldest (reverse l) o),
-            omega (arith, length-reverse l, ap length (h .list), w .limit (h .at) (h .there)),
-          )
+  within : (G E : ℕ) (x : Exact) (l : List ℕ) → answered n basis G E x ≡ some l → ListOf n basis l × (length l ≤ G)
+  within G E x l e =
+      let ns : List Node = built n basis G E .nodes in
+      let w = walk-shape R G E in
+      let h = answer-hit R (answersTo R x) ns x (reverse l) (newest-first (answer R ns x) l e) in
+      let o : Over R (reverse l) = subst (Over R) (sym (h .list)) (over R (w .layered .grown) (h .at) (h .there)) in (
+        subst (ListOf n basis) (reverse-reverse l) (over-oldest (reverse l) o),
+        omega (arith, length-reverse l, ap length (h .list), w .limit (h .at) (h .there)),
+      )
 
-      larger : (G G′ E E′ : ℕ) → G ≤ G′ → E ≤ E′ → (x : Exact) (l : List ℕ) → answered n basis G E x ≡ some l → answered n basis G′ E′ x ≡ some l
-      larger G G′ E E′ g e x l a =
-          oldest-first (answer R (built n basis G′ E′ .nodes) x) l
-          (answer-prefix R (answersTo R x) (walk-prefix R G G′ E E′ g e) x (reverse l)
-          (newest-first (answer R (built n basis G E .nodes) x) l a))
+  larger : (G G′ E E′ : ℕ) → G ≤ G′ → E ≤ E′ → (x : Exact) (l : List ℕ) → answered n basis G E x ≡ some l → answered n basis G′ E′ x ≡ some l
+  larger G G′ E E′ g e x l a =
+      oldest-first (answer R (built n basis G′ E′ .nodes) x) l
+      (answer-prefix R (answersTo R x) (walk-prefix R G G′ E E′ g e) x (reverse l)
+      (newest-first (answer R (built n basis G E .nodes) x) l a))
 
   -- ---- up to 13 gates
 
   module _ (G E : ℕ) (le : G ≤ 13) where
     -- where what was skipped as known was skipped rightly
-    pub complete-rightly : SkippedRightly n basis G E → Complete3 n basis G E
-    complete-rightly K = record { shortest = short; none-exactly = empty }
+    rightly : SkippedRightly n basis G E → Answers n basis G E
+    rightly K = record { shortest = short; none-exactly = empty }
       where
         w : Shape R G E (built n basis G E)
         w = walk-shape R G E
@@ -114,8 +111,17 @@ module _ (n basis : ℕ) (small : n ≤ 5) where
             )
 
     -- and so under the demand's condition
-    pub complete-no-clash : NoSharedPrint n basis G → Complete3 n basis G E
-    complete-no-clash nc =
+    unclashed : NoSharedPrint n basis G → Answers n basis G E
+    unclashed nc =
         let w = walk-shape R G E in
-        complete-rightly (present-no-clash R (PowerOf n) G (no-clash n basis small G nc) (built n basis G E .nodes) (w .layered .grown) (w .limit)
+        rightly (present-no-clash R (PowerOf n) G (no-clash n basis small G nc) (built n basis G E .nodes) (w .layered .grown) (w .limit)
         (built n basis G E .depth) (w .depth))
+
+  pub demand : Demand3 n basis
+  demand = record {
+    right = right;
+    larger = larger;
+    complete = λ G E le nc. unclashed G E le nc;
+    complete-rightly = λ G E le K. rightly G E le K;
+    within = within;
+  }

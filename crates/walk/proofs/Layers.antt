@@ -17,6 +17,9 @@ use Rattle.walk.specs.Grown.{Prefix, ParentsTo, Grown, alone, more, Laye
 use Rattle.walk.proofs.Sequences.{or-false, or-cases, bool, lt-or, length-snoc, all-snoc, prefix-refl, prefix-snoc, prefix-trans, prefix-at, prefix-length}
 use Rattle.walk.proofs.Candidates.{try-cases, layer-keeps}
 
+pub settled-nodes : (b : Build) (s : State) → settled b s .nodes ≡ s .nodes
+settled-nodes b s = pick-ind (λ (c : Build). c .nodes ≡ s .nodes) (s .saturated) (λ e. refl) (λ e. refl)
+
 module _ (R : Rules) where
   module _ (most : ℕ) where
     -- while depth d + 1 is walked, from the nodes ns on, at node k
@@ -52,7 +55,14 @@ module _ (R : Rules) where
         let ns : List Node = b .nodes in
         layer-keeps R most (λ k t. Within ns (b .depth) k t) (b .last) (length ns - b .last) (length ns) (omega (arith, i .start))
         (λ k t g a l m p. within-try ns (b .depth) t k g l (i .within f k l a) m p)
-        (λ k t p. record { grown = p .grown; parents = λ j q r. omega (arith, p .parents j q r); prefix = p .prefix; new = p .new; count = p .count; full = p .full })
+        (λ k t p. record {
+          grown = p .grown;
+          parents = λ j q r. omega (arith, p .parents j q r);
+          prefix = p .prefix;
+          new = p .new;
+          count = p .count;
+          full = p .full;
+        })
         (opened b)
         (record {
           grown = i .grown;
@@ -81,25 +91,22 @@ module _ (R : Rules) where
 
   pub deeper-nodes : (most : ℕ) (b : Build) → deeper R most b .nodes ≡ walked R most b .nodes
   unfolding deeper
-  deeper-nodes most b = by (walked R most b)
-    where
-      by : (s : State) → settled b s .nodes ≡ s .nodes
-      by s = pick-ind (λ (c : Build). c .nodes ≡ s .nodes) (s .saturated) (λ e. refl) (λ e. refl)
+  deeper-nodes most b = settled-nodes b (walked R most b)
 
   pub deeper-saturated : (most : ℕ) (b : Build) → deeper R most b .saturated ≡ walked R most b .saturated
   unfolding deeper
-  deeper-saturated most b = by (walked R most b)
-    where
-      by : (s : State) → settled b s .saturated ≡ s .saturated
-      by s = pick-ind (λ (c : Build). c .saturated ≡ s .saturated) (s .saturated) (λ e. sym e) (λ e. sym e)
+  deeper-saturated most b =
+      let t = walked R most b .saturated in
+      pick-ind (λ (c : Build). c .saturated ≡ t) t (λ e. sym e) (λ e. sym e)
 
   -- a depth walked to its end is completed, one that is cut off is not
   pub deeper-depth : (most : ℕ) (b : Build)
-      → (deeper R most b .saturated ≡ false → deeper R most b .depth ≡ suc (b .depth)) × (deeper R most b .saturated ≡ true → deeper R most b .depth ≡ b .depth)
+      → (deeper R most b .saturated ≡ false → deeper R most b .depth ≡ suc (b .depth))
+      × (deeper R most b .saturated ≡ true → deeper R most b .depth ≡ b .depth)
   unfolding deeper
   deeper-depth most b =
-      pick-ind (λ (c : Build). (c .saturated ≡ false → c .depth ≡ suc (b .depth)) × (c .saturated ≡ true → c .depth ≡ b .depth)) (walked R most b .saturated)
-      (λ e. ((λ z. clash refl z), (λ z. refl))) (λ e. ((λ z. refl), (λ z. clash z refl)))
+      pick-ind (λ (c : Build). (c .saturated ≡ false → c .depth ≡ suc (b .depth)) × (c .saturated ≡ true → c .depth ≡ b .depth))
+      (walked R most b .saturated) (λ e. ((λ z. clash refl z), (λ z. refl))) (λ e. ((λ z. refl), (λ z. clash z refl)))
 
   -- one depth keeps the layers
   pub deeper-layered : (most : ℕ) (b : Build) → Layered R b → b .saturated ≡ false → Layered R (deeper R most b)
@@ -131,7 +138,8 @@ module _ (R : Rules) where
   pub deeper-count : (most : ℕ) (b : Build) → Layered R b → b .saturated ≡ false → length (b .nodes) ≤ most → length (deeper R most b .nodes) ≤ most
   deeper-count most b i f l = rw (deeper-nodes most b) (walked-within most b i f .count l)
 
-  pub deeper-full : (most : ℕ) (b : Build) → Layered R b → b .saturated ≡ false → deeper R most b .saturated ≡ true → most ≤ length (deeper R most b .nodes)
+  pub deeper-full : (most : ℕ) (b : Build) → Layered R b → b .saturated ≡ false → deeper R most b .saturated ≡ true
+      → most ≤ length (deeper R most b .nodes)
   deeper-full most b i f e = rw (deeper-nodes most b) (walked-within most b i f .full (sym (deeper-saturated most b) ∙ e))
 
   pub begin-layered : Layered R begin

@@ -21,9 +21,9 @@ use Rattle.exact.proofs.Prints.{fingerprint-power}
 use Rattle.walk.specs.Walk.{Build, prod}
 use Rattle.walk.specs.Words.{Over}
 use Rattle.walk.specs.AtWidth.{actBy, atWidth, built, ListOf, NoSharedPrint}
-use Rattle.walk.specs.Demand3.{Complete3}
+use Rattle.walk.specs.Demand3.{Answers}
 use Rattle.walk.proofs.Exactly.{product-of, over-reverse, list-over}
-use Rattle.walk.proofs.Demand3.{complete-no-clash}
+use Rattle.walk.proofs.Demand3.{demand}
 use Rattle.walk.proofs.Samples.{samples}
 
 -- X, 4096, of the identity
@@ -74,8 +74,8 @@ no-shared G l m a b p q e = by (class l a) (class m b)
     by (inr s) (inl t) = apart (sym (fingerprint-power 1 (product-lowest 1 m) low t) ∙ sym e ∙ fingerprint-power 1 (product-lowest 1 l) low-x s)
 
 -- every hypothesis is met
-pub holds : Complete3 1 2 8 2
-holds = complete-no-clash 1 2 (omega arith) 8 2 (omega arith) (no-shared 8)
+pub holds : Answers 1 2 8 2
+holds = demand 1 2 (omega arith) .complete 8 2 (omega arith) (no-shared 8)
 
 pub unsaturated : built 1 2 8 2 .saturated ≡ false
 unsaturated = ap (λ (b : Build). b .saturated) (samples .two-entries)

@@ -16,7 +16,7 @@ use Rattle.walk.specs.Walk.{Rules, State, Build, skipped, child, try, tr
 use Rattle.walk.specs.Grown.{Prefix}
 use Rattle.walk.proofs.Sequences.{prefix-refl, prefix-snoc, prefix-trans}
 use Rattle.walk.proofs.Candidates.{grownBy, filled, try-later, layer-later, try-saturated}
-use Rattle.walk.proofs.Layers.{deeper-nodes}
+use Rattle.walk.proofs.Layers.{settled-nodes, deeper-nodes}
 
 -- the walk with the smaller limit has come just as far, or is saturated and its nodes are the first of the other's
 abbrev Ahead : State → State → Type 0
@@ -50,19 +50,19 @@ module _ (R : Rules) where
     layer-ahead : (s t : State) (k m : ℕ) → Ahead s t → Ahead (layer R E s k m) (layer R E′ t k m)
     unfolding layer
     layer-ahead s t k zero r = r
-    layer-ahead s t k (suc m) r = layer-ahead (tryAll R E s k (R .generators)) (tryAll R E′ t k (R .generators)) (suc k) m (tryAll-ahead s t k (R .generators) r)
+    layer-ahead s t k (suc m) r =
+        layer-ahead (tryAll R E s k (R .generators)) (tryAll R E′ t k (R .generators)) (suc k) m (tryAll-ahead s t k (R .generators) r)
 
     -- one depth: the same width after it, or the smaller one is saturated and its nodes are the first of the other's
-    pub deeper-ahead : (b : Build) → (deeper R E b ≡ deeper R E′ b) ⊎ ((deeper R E b .saturated ≡ true) × Prefix (deeper R E b .nodes) (deeper R E′ b .nodes))
+    pub deeper-ahead : (b : Build)
+        → (deeper R E b ≡ deeper R E′ b) ⊎ ((deeper R E b .saturated ≡ true) × Prefix (deeper R E b .nodes) (deeper R E′ b .nodes))
     unfolding deeper
     deeper-ahead b = by (walked R E b) (walked R E′ b) (layer-ahead (opened b) (opened b) (b .last) (length (b .nodes) - b .last) (inl refl))
       where
-        nodes-are : (s : State) → settled b s .nodes ≡ s .nodes
-        nodes-are s = pick-ind (λ (c : Build). c .nodes ≡ s .nodes) (s .saturated) (λ e. refl) (λ e. refl)
-
-        by : (s t : State) → Ahead s t → (settled b s ≡ settled b t) ⊎ ((settled b s .saturated ≡ true) × Prefix (settled b s .nodes) (settled b t .nodes))
+        by : (s t : State) → Ahead s t
+            → (settled b s ≡ settled b t) ⊎ ((settled b s .saturated ≡ true) × Prefix (settled b s .nodes) (settled b t .nodes))
         by s t (inl e) = inl (ap (settled b) e)
-        by s t (inr p) = inr (rw (p .0), rw (nodes-are s, nodes-are t) (p .1))
+        by s t (inr p) = inr (rw (p .0), rw (settled-nodes b s, settled-nodes b t) (p .1))
 
   -- the depths only append
   deeper-prefix : (E : ℕ) (b : Build) → Prefix (b .nodes) (deeper R E b .nodes)

@@ -71,11 +71,14 @@ module _ (n : ℕ) where
         test-is : upToPhase n (product n l) x ≡ upToPhase n (prod (atWidth n basis) (reverse l)) x
         test-is = ap (λ (y : Exact). upToPhase n y x) (product-of n basis small l)
 
-        to : stepsFit (atWidth n basis) (reverse l) && upToPhase n (prod (atWidth n basis) (reverse l)) x ≡ true → (steps n l ≡ allFit) × (upToPhase n (product n l) x ≡ true)
-        to e =
-            let b = both-true (stepsFit (atWidth n basis) (reverse l)) (upToPhase n (prod (atWidth n basis) (reverse l)) x) e in
-            (ok-true (steps n l) (sym fits-are ∙ b .0), test-is ∙ b .1)
+        fit : Bool
+        fit = stepsFit (atWidth n basis) (reverse l)
 
-        from : (steps n l ≡ allFit) × (upToPhase n (product n l) x ≡ true) → stepsFit (atWidth n basis) (reverse l) && upToPhase n (prod (atWidth n basis) (reverse l)) x ≡ true
-        from p =
-            and-both (stepsFit (atWidth n basis) (reverse l)) (upToPhase n (prod (atWidth n basis) (reverse l)) x) (fits-are ∙ ap ok (p .0)) (sym test-is ∙ p .1)
+        equal : Bool
+        equal = upToPhase n (prod (atWidth n basis) (reverse l)) x
+
+        to : fit && equal ≡ true → (steps n l ≡ allFit) × (upToPhase n (product n l) x ≡ true)
+        to e = let b = both-true fit equal e in (ok-true (steps n l) (sym fits-are ∙ b .0), test-is ∙ b .1)
+
+        from : (steps n l ≡ allFit) × (upToPhase n (product n l) x ≡ true) → fit && equal ≡ true
+        from p = and-both fit equal (fits-are ∙ ap ok (p .0)) (sym test-is ∙ p .1)

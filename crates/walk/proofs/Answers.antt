@@ -35,7 +35,8 @@ module _ {A : Type 0} (f : A → Bool) (d : A) where
   lowest-least (n ∷ ns) (suc k) h e =
       pick-ind (λ i. i ≤ suc k) (f n) (λ q. omega arith) (λ q. omega (arith, lowest-least ns k (le-of-suc-le-suc h) e))
 
-  lowest-prefix : {ns ms : List A} → Prefix ns ms → lowest f ns < length ns → lowest f ms ≡ lowest f ns
+  -- where more nodes follow, the node found is the same
+  pub lowest-prefix : {ns ms : List A} → Prefix ns ms → lowest f ns < length ns → lowest f ms ≡ lowest f ns
   lowest-prefix {ns} {ms} p h = subst (λ (z : List A). lowest f z ≡ lowest f ns) (sym (p .is)) (go ns h)
     where
       go : (ls : List A) → lowest f ls < length ls → lowest f (ls ++ p .rest) ≡ lowest f ls

@@ -49,7 +49,7 @@ module _ (R : Rules) where
     Present ns x = (k : ℕ) × (k < length ns) × Same (prod R (listAt ns k)) x
 
     -- Hypothesis K, of the nodes at hand: a candidate within d gates that fits and is skipped as known has a product that is a power of
-    -- omega times the product of some node present
+    -- omega times the product of some node present. (One that was appended is such a node itself.)
     abbrev pub KnownIsPresent : ℕ → List Node → Type 0
     KnownIsPresent d ns =
         (k g : ℕ) → k < length ns → List·Memᴰ g (R .generators) → length (listAt ns k) < d → pruned R g (listAt ns k) ≡ false

@@ -52,3 +52,7 @@ valid n g =
 -- "each code valid at that width and of a kind in B"
 unfoldable pub validFor : ℕ → ℕ → ℕ → Bool
 validFor n basis g = member basis (kindNumber g) && valid n g
+
+-- "Its parent and gate both read 4294967295.": what node 0 of a table has in the place of a parent and of a code
+abbrev pub mark : ℕ
+mark = 4294967295

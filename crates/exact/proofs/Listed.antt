@@ -21,6 +21,10 @@ module _ (n : ℕ) where
   after-append x [] m = refl
   after-append x (g ∷ l) m = after-append (act n (gateOf n g) x) l m
 
+  pub product-nil : product n [] ≡ identity
+  unfolding product
+  product-nil = refl
+
   pub product-append : (l m : List ℕ) → product n (l ++ m) ≡ after n (product n l) m
   unfolding product
   product-append l m = after-append identity l m

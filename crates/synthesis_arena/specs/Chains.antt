@@ -7,7 +7,7 @@ use Prim.Native.Nat.{ℕ, zero, suc, _-_, _≤_, _<_}
 use lib.Dec.{eqb, ltb}
 use lib.ListN.{length, getD, drop}
 use Rattle.ints.specs.Lists.{pick, all}
-use Rattle.circuit.specs.Codes.{validFor}
+use Rattle.circuit.specs.Codes.{validFor, mark}
 use Rattle.exact.specs.Answers.{Answer, given, refused}
 use Rattle.synthesis_arena.specs.declared.NodeDepth.{NodeDepth}
 use Rattle.synthesis_arena.specs.declared.NodeDepth.the-variants as d
@@ -15,9 +15,6 @@ use Rattle.synthesis_arena.specs.declared.NodeCircuit.{NodeCircuit}
 use Rattle.synthesis_arena.specs.declared.NodeCircuit.the-variants as c
 
 -- ---- the definition
-
-abbrev pub mark : ℕ
-mark = 4294967295
 
 -- "Node 0 is the empty list. Its parent and gate both read 4294967295."
 unfoldable pub marked : List ℕ → List ℕ → Bool

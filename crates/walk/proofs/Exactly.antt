@@ -1,0 +1,141 @@
+-- The walk at a width and a basis meets the laws, by the laws of exact matrices; within 13 gates every step fits; and lists, products and
+-- fingerprints as the entries have them, oldest gate first, are those of the walk, newest first. Assumes nothing.
+use mathlib.Core.Path.{_≡_, refl, sym, ap, _∙_, subst}
+use mathlib.Core.Bool.{true}
+use mathlib.Core.List.{List, [], _∷_, _++_, reverse, reverse-cons, reverse-reverse, List·Memᴰ}
+use Prim.Native.Nat.{ℕ, _≤_, _<_}
+use native.Mathlib.Nat.{le-trans}
+use native.Mathlib.Omega.{arith}
+use borrow.Author.Tests.{eqb-true, eq-eqb}
+use lib.ListN.{length, length-reverse}
+use Rattle.ints.specs.Lists.{all}
+use Rattle.ints.proofs.Bools.{clash, and-left, and-right, and-both}
+use Rattle.cyclotomic.specs.Zomega.{limit}
+use Rattle.circuit.specs.Sets.{member}
+use Rattle.circuit.specs.Codes.{kindNumber, valid, validFor}
+use Rattle.generators.specs.Generators.{generators}
+use Rattle.generators.proofs.Generated.{lists}
+use Rattle.exact.specs.Matrix.{Exact, Lowest, PowerOf}
+use Rattle.exact.specs.Rows.{gateOf}
+use Rattle.exact.specs.Lists.{product}
+use Rattle.exact.specs.Fingerprint.{fingerprint}
+use Rattle.exact.proofs.Values.{equal-same}
+use Rattle.exact.proofs.Acts.{act-lowest, act-swap, act-back, power-of, power-refl, power-sym, power-trans, act-power}
+use Rattle.exact.proofs.Coded.{proper, inverse-undoes, disjoint-apart, valid-below}
+use Rattle.exact.proofs.Listed.{product-nil, product-snoc}
+use Rattle.exact.proofs.Phases.{power-of-test, test-of-power}
+use Rattle.exact.proofs.Prints.{fingerprint-power}
+use Rattle.exact.proofs.Bounds.{below-square, step-fits, steps-within}
+use Rattle.walk.specs.Walk.{Node, listAt, prod}
+use Rattle.walk.specs.Grown.{Grown}
+use Rattle.walk.specs.Words.{Laws, Over, AllFit, NoClash}
+use Rattle.walk.specs.AtWidth.{samePrint, atWidth, ListOf, NoSharedPrint}
+use Rattle.walk.proofs.Nodes.{fresh}
+
+module _ (n : ℕ) where
+  -- ---- one fingerprint
+
+  print-same : (x y : Exact) → samePrint n x y ≡ true → fingerprint n x ≡ fingerprint n y
+  unfolding samePrint
+  print-same x y e = eqb-true (fingerprint n x) (fingerprint n y) e
+
+  same-print : (x y : Exact) → fingerprint n x ≡ fingerprint n y → samePrint n x y ≡ true
+  unfolding samePrint
+  same-print x y e = eq-eqb (fingerprint n x) (fingerprint n y) e
+
+module _ (n basis : ℕ) (small : n ≤ 5) where
+  -- ---- the generators are the codes that are valid at the width and of a kind in the basis
+
+  generator-code : (g : ℕ) → List·Memᴰ g (generators n basis) → validFor n basis g ≡ true
+  generator-code g m = lists n basis (omega arith) .sound g m
+
+  code-generator : (g : ℕ) → validFor n basis g ≡ true → List·Memᴰ g (generators n basis)
+  code-generator g v = lists n basis (omega arith) .complete g v
+
+  generator-below : (g : ℕ) → List·Memᴰ g (generators n basis) → g < 49152
+  unfolding validFor
+  generator-below g m = valid-below n g (and-right (member basis (kindNumber g)) (valid n g) (generator-code g m))
+
+  -- ---- the laws
+
+  pub laws : Laws (atWidth n basis) (PowerOf n)
+  laws = record {
+    Lowest = Lowest n;
+    one-lowest = record { lowest = λ h. absurd (omega arith) };
+    act-lowest = λ g x. act-lowest n (gateOf n g) x;
+    same-refl = power-refl n;
+    same-sym = λ s. power-sym n s;
+    same-trans = λ s t. power-trans n s t;
+    act-same = λ g s. act-power n (gateOf n g) (proper n g) s;
+    inverse-undoes = λ g h x e. power-of n (act-back n x (proper n g) (inverse-undoes n g h e));
+    disjoint-swaps = λ g h x e. power-of n (equal-same n (act-swap n (gateOf n g) (gateOf n h) x (proper n g) (proper n h) (disjoint-apart n g h e)));
+    same-known = λ {x} {y} l m s. same-print n x y (fingerprint-power n l m s);
+    known-then = λ {x} {y} {z} o l m e s. same-print n x z (print-same n x y e ∙ fingerprint-power n l m s);
+    same-answers = λ {x} {y} l m s. same-print n x y (fingerprint-power n l m s);
+    answers-known = λ {x} {y} {z} o l m e s. same-print n x y (print-same n x z e ∙ sym (fingerprint-power n l m s));
+    equal-same = power-of-test n;
+    same-equal = λ l m s. test-of-power n l m s;
+    bound = 49152;
+    below = generator-below;
+  }
+
+  -- a matrix in lowest denominator is one that the laws speak of
+  pub query-lowest : {x : Exact} → Lowest n x → laws .Lowest x
+  unfolding laws
+  query-lowest h = h
+
+  -- ---- lists, oldest gate first
+
+  pub product-is : (l : List ℕ) → product n (reverse l) ≡ prod (atWidth n basis) l
+  product-is [] = product-nil n
+  product-is (g ∷ l) = ap (product n) (reverse-cons g l) ∙ product-snoc n (reverse l) g ∙ ap (act-of g) (product-is l)
+    where
+      act-of : ℕ → Exact → Exact
+      act-of g = atWidth n basis .act g
+
+  pub product-of : (l : List ℕ) → product n l ≡ prod (atWidth n basis) (reverse l)
+  product-of l = ap (product n) (sym (reverse-reverse l)) ∙ product-is (reverse l)
+
+  over-append : (l m : List ℕ) → Over (atWidth n basis) l → Over (atWidth n basis) m → Over (atWidth n basis) (l ++ m)
+  over-append [] m a b = b
+  over-append (g ∷ l) m a b = (a .0, over-append l m (a .1) b)
+
+  pub over-reverse : (l : List ℕ) → Over (atWidth n basis) l → Over (atWidth n basis) (reverse l)
+  over-reverse [] a = a
+  over-reverse (g ∷ l) a =
+      subst (Over (atWidth n basis)) (sym (reverse-cons g l)) (over-append (reverse l) (g ∷ []) (over-reverse l (a .1)) (a .0, tt))
+
+  pub list-over : (l : List ℕ) → ListOf n basis l → Over (atWidth n basis) l
+  unfolding all
+  list-over [] h = tt
+  list-over (g ∷ l) h =
+      (code-generator g (and-left (validFor n basis g) (all (validFor n basis) l) h), list-over l (and-right (validFor n basis g) (all (validFor n basis) l) h))
+
+  pub over-list : (l : List ℕ) → Over (atWidth n basis) l → ListOf n basis l
+  unfolding all
+  over-list [] h = refl
+  over-list (g ∷ l) h = and-both (validFor n basis g) (all (validFor n basis) l) (generator-code g (h .0)) (over-list l (h .1))
+
+  -- ---- the two conditions
+
+  -- 2^13 is below 127²
+  pub all-fit : (G : ℕ) → G ≤ 13 → AllFit (atWidth n basis) G
+  all-fit G le g l m o h =
+      let q : length (reverse l) < 13 = omega (arith, length-reverse l) in
+      let r = steps-within n limit 13 (below-square limit 13 (omega arith)) g (reverse l) q in
+      ap (λ (x : Exact). atWidth n basis .fits g x) (sym (product-is l)) ∙ step-fits n (gateOf n g) (product n (reverse l)) (r .0) (le-trans (r .1) (omega arith))
+
+  pub no-clash : (G : ℕ) → NoSharedPrint n basis G → NoClash (atWidth n basis) (PowerOf n) G
+  no-clash G h l m a b p q e =
+      subst (λ (x : Exact). PowerOf n x (prod (atWidth n basis) m)) (product-is l)
+      (subst (λ (y : Exact). PowerOf n (product n (reverse l)) y) (product-is m)
+      (h (reverse l) (reverse m) (over-list (reverse l) (over-reverse l a)) (over-list (reverse m) (over-reverse m b))
+      (omega (arith, length-reverse l)) (omega (arith, length-reverse m))
+      (ap (fingerprint n) (product-is l) ∙ print-same n (prod (atWidth n basis) l) (prod (atWidth n basis) m) e ∙ ap (fingerprint n) (sym (product-is m)))))
+
+  -- ---- no two nodes have one fingerprint
+
+  pub prints-distinct : {ns : List Node} → Grown (atWidth n basis) ns → (j k : ℕ) → j < k → k < length ns
+      → fingerprint n (prod (atWidth n basis) (listAt ns j)) ≡ fingerprint n (prod (atWidth n basis) (listAt ns k)) → ⊥
+  prints-distinct {ns} b j k l h e =
+      clash (same-print n (prod (atWidth n basis) (listAt ns j)) (prod (atWidth n basis) (listAt ns k)) e) (fresh (atWidth n basis) b k h j l)

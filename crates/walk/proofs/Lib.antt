@@ -1,0 +1,13 @@
+pub mod Sequences
+pub mod Candidates
+pub mod Nodes
+pub mod Layers
+pub mod Prefixes
+pub mod Completeness
+pub mod Known
+pub mod Answers
+pub mod Exactly
+pub mod Demand3
+pub mod Samples
+pub mod NotEmpty
+pub mod Rechecks

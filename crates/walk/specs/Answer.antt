@@ -1,0 +1,37 @@
+-- What a width answers: the lowest node that answers, its list, the recheck. Assumes nothing.
+use mathlib.Core.Bool.{Bool, true, _&&_}
+use mathlib.Core.List.{List, [], _∷_}
+use mathlib.Core.Option.{Option, none, some}
+use Prim.Native.Nat.{ℕ, zero, suc}
+use lib.Dec.{ltb}
+use lib.ListN.{length}
+use Rattle.ints.specs.Lists.{pick}
+use Rattle.walk.specs.Walk.{Rules, Node, listAt, prod}
+
+-- the number of the first that passes the test, or how many there are
+abbrev pub lowest : {A : Type 0} → (A → Bool) → List A → ℕ
+lowest f [] = zero
+lowest f (x ∷ xs) = pick (f x) zero (suc (lowest f xs))
+
+module _ (R : Rules) where
+  -- every step of the list, newest gate first, fits
+  abbrev pub stepsFit : List ℕ → Bool
+  stepsFit [] = true
+  stepsFit (g ∷ l) = stepsFit l && R .fits g (prod R l)
+
+  -- "The list's matrix is formed anew; if it doesn't fit or is not equal up to phase, the answer is none."
+  unfoldable pub recheck : List ℕ → R .Mat → Bool
+  recheck l x = stepsFit l && R .equal (prod R l) x
+
+  -- the lowest node that passes a test, its list, rechecked against the matrix asked
+  unfoldable pub answerBy : (Node → Bool) → List Node → R .Mat → Option (List ℕ)
+  answerBy test ns x =
+      let k : ℕ = lowest test ns in
+      pick (ltb k (length ns)) (pick (recheck (listAt ns k) x) (some (listAt ns k)) none) none
+
+  abbrev pub answersTo : R .Mat → Node → Bool
+  answersTo x n = R .answers (prod R (n .list)) x
+
+  -- "The lowest node of that width with its fingerprint is found." The list is newest gate first
+  abbrev pub answer : List Node → R .Mat → Option (List ℕ)
+  answer ns x = answerBy (answersTo x) ns x

@@ -1,0 +1,82 @@
+-- The walk of document 01 at a width and a basis: over exact matrices, where an entry is known, and answers, by its fingerprint. And the words
+-- of demand 3, with lists as the entries have them, oldest gate first. Assumes nothing.
+use mathlib.Core.Path.{_≡_}
+use mathlib.Core.Bool.{Bool, true}
+use mathlib.Core.List.{List, reverse}
+use mathlib.Core.Option.{Option, none, some}
+use Prim.Native.Nat.{ℕ, _≤_}
+use lib.Dec.{eqb}
+use lib.ListN.{length}
+use Rattle.ints.specs.Lists.{all}
+use Rattle.circuit.specs.Codes.{validFor}
+use Rattle.circuit.specs.Pairs.{inverse, disjoint}
+use Rattle.generators.specs.Generators.{generators}
+use Rattle.exact.specs.Matrix.{Exact, identity, PowerOf}
+use Rattle.exact.specs.Rows.{act, gateOf}
+use Rattle.exact.specs.Lists.{product}
+use Rattle.exact.specs.Fits.{stepFits}
+use Rattle.exact.specs.Phase.{upToPhase}
+use Rattle.exact.specs.Fingerprint.{fingerprint}
+use Rattle.walk.specs.Walk.{Rules, Node, Build, walk}
+use Rattle.walk.specs.Answer.{answerBy, answer}
+use Rattle.walk.specs.Words.{KnownIsPresent}
+
+-- a gate by its code
+abbrev pub actBy : ℕ → ℕ → Exact → Exact
+actBy n g x = act n (gateOf n g) x
+
+abbrev pub fitsBy : ℕ → ℕ → Exact → Bool
+fitsBy n g x = stepFits n (gateOf n g) x
+
+-- one fingerprint
+unfoldable pub samePrint : ℕ → Exact → Exact → Bool
+samePrint n x y = eqb (fingerprint n x) (fingerprint n y)
+
+-- what the walk is handed at width n with a basis
+abbrev pub atWidth : ℕ → ℕ → Rules
+atWidth n basis = record {
+  Mat = Exact;
+  one = identity;
+  act = actBy n;
+  fits = fitsBy n;
+  known = samePrint n;
+  answers = samePrint n;
+  equal = upToPhase n;
+  inverse = inverse;
+  disjoint = disjoint;
+  generators = generators n basis;
+}
+
+-- the width as a build with gate limit G and entry limit E leaves it
+abbrev pub built : ℕ → ℕ → ℕ → ℕ → Build
+built n basis G E = walk (atWidth n basis) G E
+
+-- "Its list is read by walking parents, oldest gate first."
+abbrev pub oldestFirst : Option (List ℕ) → Option (List ℕ)
+oldestFirst none = none
+oldestFirst (some l) = some (reverse l)
+
+-- what nodes answer, whichever test finds the node
+abbrev pub answeredBy : ℕ → ℕ → (Node → Bool) → List Node → Exact → Option (List ℕ)
+answeredBy n basis test ns x = oldestFirst (answerBy (atWidth n basis) test ns x)
+
+-- what the width of a build answers
+abbrev pub answered : ℕ → ℕ → ℕ → ℕ → Exact → Option (List ℕ)
+answered n basis G E x = oldestFirst (answer (atWidth n basis) (built n basis G E .nodes) x)
+
+-- "A list of a basis at a width: any number of gates, none included, each code valid at that width and of a kind in B."
+abbrev pub ListOf : ℕ → ℕ → List ℕ → Type 0
+ListOf n basis l = all (validFor n basis) l ≡ true
+
+-- "no two lists of its basis at the matrix's width within that limit share a fingerprint, unless one's product is a power of omega times the
+-- other's": PowerOf n x y says that y is a power of omega times x
+abbrev pub NoSharedPrint : ℕ → ℕ → ℕ → Type 0
+NoSharedPrint n basis G =
+    (l m : List ℕ) → ListOf n basis l → ListOf n basis m → length l ≤ G → length m ≤ G
+    → fingerprint n (product n l) ≡ fingerprint n (product n m) → PowerOf n (product n l) (product n m)
+
+-- what suffices, and can be looked up in a given table: each candidate of its completed depths that was skipped as known has a product that is
+-- a power of omega times the product of a node present
+abbrev pub SkippedRightly : ℕ → ℕ → ℕ → ℕ → Type 0
+SkippedRightly n basis G E =
+    KnownIsPresent (atWidth n basis) (PowerOf n) (built n basis G E .depth) (built n basis G E .nodes)

@@ -1,0 +1,1 @@
+// The walk of one width, its answers, and demand 3 over them: definitions and laws, no functions.

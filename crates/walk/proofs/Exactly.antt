@@ -25,7 +25,8 @@ use Rattle.exact.proofs.Coded.{proper, inverse-undoes, disjoint-apart, valid-be
 use Rattle.exact.proofs.Listed.{product-nil, product-snoc}
 use Rattle.exact.proofs.Phases.{power-of-test, test-of-power}
 use Rattle.exact.proofs.Prints.{fingerprint-power}
-use Rattle.exact.proofs.Bounds.{below-square, step-fits, steps-within}
+use Rattle.exact.proofs.Keeps.{step-fits}
+use Rattle.exact.proofs.Bounds.{below-square, steps-within}
 use Rattle.walk.specs.Walk.{Node, listAt, prod}
 use Rattle.walk.specs.Grown.{Grown}
 use Rattle.walk.specs.Words.{Laws, Over, AllFit, NoClash}

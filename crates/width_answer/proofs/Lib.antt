@@ -1,1 +1,4 @@
 pub mod Rechecked
+pub mod Copies
+pub mod Noded
+pub mod Widths

@@ -1,14 +1,14 @@
 -- What one node answers, by what its chain's list and the recheck told. Assumes nothing.
-use mathlib.Core.Path.{_≡_, refl, sym, ap, _∙_}
-use mathlib.Core.Bool.{Bool, true, false}
+use mathlib.Core.Path.{_≡_, sym, ap, _∙_}
+use mathlib.Core.Bool.{true, false}
 use mathlib.Core.List.{List, _++_}
 use Prim.Native.Nat.{ℕ, _≤_, _-_}
 use native.Mathlib.Omega.{arith}
 use lib.ListN.{length, take, drop, length-take}
-use Rattle.ints.specs.Lists.{all, pick}
-use Rattle.circuit.specs.Codes.{valid, validFor}
+use Rattle.ints.specs.Lists.{all}
+use Rattle.circuit.specs.Codes.{valid}
 use Rattle.exact.specs.Matrix.{Exact}
-use Rattle.synthesis_arena.specs.Chains.{Chain, good, bad, chainOf, circuitOf, toldCircuit}
+use Rattle.synthesis_arena.specs.Chains.{good, chainOf, circuitOf, toldCircuit}
 use Rattle.synthesis_arena.specs.Chains as arena
 use Rattle.synthesis_arena.specs.declared.NodeCircuit.{NodeCircuit}
 use Rattle.synthesis_arena.specs.declared.NodeCircuit.the-variants.{Length, Bad}

@@ -1,6 +1,6 @@
 -- The recheck of a list, by how its steps went and by what the places hold. Assumes nothing.
 use mathlib.Core.Path.{_≡_, refl, sym, ap, _∙_}
-use mathlib.Core.Bool.{Bool, true, false, _&&_}
+use mathlib.Core.Bool.{Bool, true, false}
 use mathlib.Core.List.{List, [], _∷_}
 use Prim.Native.Nat.{ℕ}
 use lib.IntN.{ℤ}
@@ -18,7 +18,7 @@ use Rattle.exact.proofs.Phases.{up-trans, phased-test, phased-equal}
 use Rattle.exact.proofs.Values.{equal-sym}
 use Rattle.places.specs.Places.{held}
 use Rattle.lists.specs.Walk.{HoldsProduct}
-use Rattle.width_answer.specs.Answers.{fitsAll, rechecked}
+use Rattle.width_answer.specs.Answers.{rechecked}
 
 -- ---- codes of a basis are valid
 

@@ -1,8 +1,6 @@
 -- `copy_codes` meets its contract: the first places hold the other slice's, the later ones what they held. The measure is how many places are
 -- left.
-use mathlib.Core.Path.{_≡_, refl}
-use mathlib.Core.List.{_++_}
-use Prim.Native.Nat.{_-_, _≤_}
+use Prim.Native.Nat.{_-_}
 use native.Mathlib.Omega.{arith}
 use lib.ListN.{length}
 use borrow.Author.Needs.{needs}

@@ -4,3 +4,4 @@ pub mod Noded
 pub mod Widths
 pub mod Meaning
 pub mod Told
+pub mod NodeTold

@@ -39,7 +39,7 @@ second (given m) = 0
 second none = 0
 second (refused a i) = i
 
-kind-of : {a b : Reply} {l m : List ℕ} → outcome a l ≡ outcome b m → kind a ≡ kind b
+pub kind-of : {a b : Reply} {l m : List ℕ} → outcome a l ≡ outcome b m → kind a ≡ kind b
 kind-of e = ap (λ (o : Outcome). kind (o .reply)) e
 
 -- what is not equal up to phase is not answered, whether it fits or not

@@ -1,0 +1,74 @@
+-- The recheck of a list, by how its steps went and by what the places hold. Assumes nothing.
+use mathlib.Core.Path.{_≡_, refl, sym, ap, _∙_}
+use mathlib.Core.Bool.{Bool, true, false, _&&_}
+use mathlib.Core.List.{List, [], _∷_}
+use mathlib.Core.Logic.{_↔_}
+use Prim.Native.Nat.{ℕ}
+use lib.IntN.{ℤ}
+use Rattle.ints.specs.Lists.{all}
+use Rattle.ints.proofs.Bools.{clash, iff, both-true, and-both}
+use Rattle.circuit.specs.Codes.{valid, validFor, kindNumber}
+use Rattle.circuit.specs.Sets.{member}
+use Rattle.exact.specs.Matrix.{Exact, Equal}
+use Rattle.exact.specs.Lists.{product}
+use Rattle.exact.specs.Fits.{Steps, allFit, unfitAt, steps}
+use Rattle.exact.specs.Phase.{upToPhase}
+use Rattle.exact.specs.Answers.{given, refused, bySteps, listAnswer}
+use Rattle.exact.proofs.Answered.{isGiven, number, list-refused}
+use Rattle.exact.proofs.Phases.{up-trans, phased-test, phased-equal}
+use Rattle.exact.proofs.Values.{equal-sym}
+use Rattle.places.specs.Places.{held}
+use Rattle.lists.specs.Walk.{HoldsProduct}
+use Rattle.width_answer.specs.Answers.{fitsAll, rechecked}
+
+-- ---- codes of a basis are valid
+
+pub valid-all : (n basis : ℕ) (l : List ℕ) → all (validFor n basis) l ≡ true → all (valid n) l ≡ true
+unfolding all validFor
+valid-all n basis [] h = refl
+valid-all n basis (g ∷ l) h =
+    let t = both-true (validFor n basis g) (all (validFor n basis) l) h in
+    and-both (valid n g) (all (valid n) l) (both-true (member basis (kindNumber g)) (valid n g) (t .0) .1) (valid-all n basis l (t .1))
+
+-- ---- the test sees equal matrices alike
+
+up-equal : (n : ℕ) {x y : Exact} → Equal n x y → (z : Exact) → upToPhase n x z ≡ upToPhase n y z
+up-equal n {x} {y} w z =
+    iff (upToPhase n x z) (upToPhase n y z)
+    (up-trans n y x z (phased-test n y x (phased-equal n (equal-sym n w))))
+    (up-trans n x y z (phased-test n x y (phased-equal n w)))
+
+-- ---- the recheck, by its two parts
+
+fits-all : (s : Steps) → fitsAll s ≡ true → s ≡ allFit
+fits-all allFit e = refl
+fits-all (unfitAt i) e = clash e refl
+
+pub rechecked-exactly : (n : ℕ) (l : List ℕ) (x : Exact) → (rechecked n l x ≡ true) ↔ ((steps n l ≡ allFit) × (upToPhase n (product n l) x ≡ true))
+unfolding rechecked
+rechecked-exactly n l x = (to, λ p. and-both (fitsAll (steps n l)) (upToPhase n (product n l) x) (ap fitsAll (p .0)) (p .1))
+  where
+    to : fitsAll (steps n l) && upToPhase n (product n l) x ≡ true → (steps n l ≡ allFit) × (upToPhase n (product n l) x ≡ true)
+    to e = let b = both-true (fitsAll (steps n l)) (upToPhase n (product n l) x) e in (fits-all (steps n l) (b .0), b .1)
+
+-- ---- the recheck, by the answer to the list
+
+module _ (n : ℕ) (codes : List ℕ) where
+  list-given : {k : ℕ} → given k ≡ listAnswer n codes → (steps n codes ≡ allFit) × (k ≡ product n codes .k)
+  unfolding listAnswer
+  list-given {k} = by (steps n codes)
+    where
+      by : (s : Steps) → given k ≡ bySteps (product n codes .k) s → (s ≡ allFit) × (k ≡ product n codes .k)
+      by allFit e = (refl, ap number e)
+      by (unfitAt j) e = clash refl (ap isGiven e)
+
+  pub recheck-unfit : {i a : ℕ} (x : Exact) → refused a i ≡ listAnswer n codes → false ≡ rechecked n codes x
+  unfolding rechecked
+  recheck-unfit x e = rw (list-refused n codes (sym e))
+
+  pub recheck-test : {k : ℕ} (l : List ℤ) (x : Exact) → given k ≡ listAnswer n codes → HoldsProduct n codes l → {r : Bool} → r ≡ upToPhase n (held n k l) x
+      → r ≡ rechecked n codes x
+  unfolding rechecked
+  recheck-test l x e w t =
+      let g = list-given e in
+      t ∙ ap (λ (j : ℕ). upToPhase n (held n j l) x) (g .1) ∙ up-equal n (w .equal) x ∙ rw (g .0)

@@ -8,7 +8,7 @@ use borrow.Author.Tests.{eq-eqb}
 use lib.Dec.{eqb}
 use lib.ListN.{length, getD, take}
 use lib.IntN.{ℤ}
-use Rattle.ints.specs.Lists.{pick, all}
+use Rattle.ints.specs.Lists.{all}
 use Rattle.ints.proofs.Bools.{and-both, and-right, and-left, clash}
 use Rattle.circuit.specs.Sets.{member}
 use Rattle.circuit.specs.Codes.{kindNumber, valid, validFor, mark}

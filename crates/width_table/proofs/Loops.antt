@@ -1,7 +1,7 @@
 -- The three loops: at each head the arrays hold some nodes, from which what is left of the walk gives the whole walk's result. Assumes nothing.
 use mathlib.Core.Path.{_≡_, refl, sym, ap, _∙_, subst}
-use mathlib.Core.Bool.{Bool, true, false, _||_}
-use mathlib.Core.List.{List, [], _∷_, _++_, List·Memᴰ, List·Memᴰ·head, List·Memᴰ·tail}
+use mathlib.Core.Bool.{Bool, true, false}
+use mathlib.Core.List.{List, [], _∷_, List·Memᴰ, List·Memᴰ·head, List·Memᴰ·tail}
 use Prim.Native.Nat.{ℕ, zero, suc, _+_, _-_, _≤_, _<_}
 use native.Mathlib.Nat.{not-suc-le-zero, le-of-suc-le-suc, le-refl}
 use native.Mathlib.Numerals.{add-one}
@@ -16,11 +16,11 @@ use Rattle.circuit.specs.Sets.{member}
 use Rattle.circuit.specs.Codes.{kindNumber, valid, validFor, mark}
 use Rattle.generators.specs.Generators.{generators}
 use Rattle.generators.proofs.Generated.{lists}
-use Rattle.walk.specs.Walk.{Rules, Node, State, Build, root, listAt, parentAt, child, try, tryAll, layer, opened, settled, walked, deeper, ended, depths, begin, isNil, walk}
+use Rattle.walk.specs.Walk.{Rules, Node, State, Build, root, listAt, child, try, tryAll, layer, settled, walked, deeper, ended, depths, begin, isNil, walk}
 use Rattle.walk.specs.AtWidth.{atWidth}
-use Rattle.walk.specs.Grown.{Prefix, Grown, alone, more, ParentsTo}
-use Rattle.walk.proofs.Sequences.{length-snoc, all-snoc, prefix-snoc, prefix-at, prefix-length}
-use Rattle.walk.proofs.Candidates.{try-cases, try-later, layer-keeps, layer-later, tryAll-saturated, layer-saturated}
+use Rattle.walk.specs.Grown.{Grown, alone, more, ParentsTo}
+use Rattle.walk.proofs.Sequences.{length-snoc, all-snoc, prefix-snoc, prefix-at}
+use Rattle.walk.proofs.Candidates.{try-cases, try-later, layer-keeps, tryAll-saturated, layer-saturated}
 use Rattle.width_table.specs.Table.{printOf, parentOf, unsaturated, Column, Columns, Live, Start, After, Whole}
 use Rattle.width_table.proofs.Columns.{column-root}
 
@@ -93,8 +93,21 @@ module _ (n basis E k d : ℕ) (f0 u0 c0 own : List ℕ) (goal : State) where
   module _ {j : ℕ} {f u c : List ℕ} {count : ℕ} (r : Run j f u c count) where
     abbrev pub run-live : d ≤ 64 → E ≤ length f0 → E ≤ length u0 → E ≤ length c0 → Live n basis E f u c count k (suc k)
     run-live deep a b e = record {
-      f0 = f0; u0 = u0; c0 = c0; ns = r .ns; d = d; columns = r .columns; grown = r .kept .grown; low = r .kept .low; few = r .kept .few;
-      flat = r .kept .flat; short = r .kept .short; deep = deep; room-f = a; room-u = b; room-c = e;
+      f0 = f0;
+      u0 = u0;
+      c0 = c0;
+      ns = r .ns;
+      d = d;
+      columns = r .columns;
+      grown = r .kept .grown;
+      low = r .kept .low;
+      few = r .kept .few;
+      flat = r .kept .flat;
+      short = r .kept .short;
+      deep = deep;
+      room-f = a;
+      room-u = b;
+      room-c = e;
     }
 
     pub run-lt : k < count
@@ -163,8 +176,21 @@ module _ (n basis E hi d : ℕ) (f0 u0 c0 : List ℕ) (goal : State) where
 
     abbrev pub run₂-live : k < hi → d ≤ 64 → E ≤ length f0 → E ≤ length u0 → E ≤ length c0 → Live n basis E f u c count k (suc k)
     run₂-live l deep a b e = record {
-      f0 = f0; u0 = u0; c0 = c0; ns = r .ns; d = d; columns = r .columns; grown = r .kept .grown; low = r .kept .low; few = r .kept .few;
-      flat = λ j q. r .kept .flat j (omega arith); short = r .kept .short; deep = deep; room-f = a; room-u = b; room-c = e;
+      f0 = f0;
+      u0 = u0;
+      c0 = c0;
+      ns = r .ns;
+      d = d;
+      columns = r .columns;
+      grown = r .kept .grown;
+      low = r .kept .low;
+      few = r .kept .few;
+      flat = λ j q. r .kept .flat j (omega arith);
+      short = r .kept .short;
+      deep = deep;
+      room-f = a;
+      room-u = b;
+      room-c = e;
     }
 
     run₂-cons : k < hi → layer (atWidth n basis) E (tryAll (atWidth n basis) E (unsaturated (r .ns)) k (generators n basis)) (suc k) (hi - suc k) ≡ goal
@@ -232,9 +258,21 @@ module _ (n basis E G : ℕ) (f0 u0 c0 : List ℕ) (goal : Build) where
   module _ {lo d : ℕ} {f u c : List ℕ} {count : ℕ} (r : Run₃ lo d f u c count) where
     abbrev pub run₃-live : d ≤ 64 → E ≤ length f0 → E ≤ length u0 → E ≤ length c0 → Live n basis E f u c count lo count
     run₃-live deep a b e = record {
-      f0 = f0; u0 = u0; c0 = c0; ns = r .ns; d = d; columns = r .columns; grown = r .grown; low = r .low; few = r .few;
-      flat = λ j q. r .flat j (omega (arith, r .columns .count-is)); short = λ j q. omega (arith, r .flat j q);
-      deep = deep; room-f = a; room-u = b; room-c = e;
+      f0 = f0;
+      u0 = u0;
+      c0 = c0;
+      ns = r .ns;
+      d = d;
+      columns = r .columns;
+      grown = r .grown;
+      low = r .low;
+      few = r .few;
+      flat = λ j q. r .flat j (omega (arith, r .columns .count-is));
+      short = λ j q. omega (arith, r .flat j q);
+      deep = deep;
+      room-f = a;
+      room-u = b;
+      room-c = e;
     }
 
     whole : {t : Build} → t ≡ goal → {f′ u′ c′ : List ℕ} {count′ d′ : ℕ} {b : Bool} → Columns n basis f0 u0 c0 (t .nodes) f′ u′ c′ count′ → d′ ≡ t .depth → b ≡ t .saturated

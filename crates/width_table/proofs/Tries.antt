@@ -6,7 +6,7 @@ use mathlib.Core.List.{List, [], _∷_, _++_}
 use Prim.Native.Nat.{ℕ, zero, suc, _+_, _≤_, _<_}
 use native.Mathlib.Omega.{arith}
 use borrow.Author.Tests.{lt-ltb, le-ltb, eq-eqb, eqb-true}
-use lib.Dec.{ltb, eqb}
+use lib.Dec.{ltb}
 use lib.ListN.{length, getD, set}
 use Rattle.circuit.specs.Codes.{mark}
 use Rattle.circuit.specs.Pairs.{inverse, disjoint}
@@ -29,7 +29,7 @@ use Rattle.walk.specs.Grown.{Link}
 use Rattle.walk.proofs.Nodes.{first, link}
 use Rattle.walk.proofs.Candidates.{filled, grownBy}
 use Rattle.walk.proofs.Sequences.{bool, any-true, any-at, length-snoc}
-use Rattle.width_table.specs.Table.{prunedAt, printAfter, printOf, parentOf, unsaturated, Column, Columns, Room, Live, After}
+use Rattle.width_table.specs.Table.{prunedAt, printAfter, printOf, unsaturated, Column, Room, Live, After}
 use Rattle.width_table.proofs.Columns.{column-at, column-length, column-snoc}
 
 -- ---- a candidate by its last two gates

@@ -3,12 +3,10 @@
 ghost use mathlib.Core.Path.{_≡_};
 ghost use mathlib.Core.Bool.{true, false};
 ghost use Prim.Native.Nat.{ℕ, suc, _-_, _<_, _≤_};
-ghost use lib.ListN.{length, getD};
-ghost use Rattle.ints.specs.Lists.{all};
+ghost use lib.ListN.{length};
 ghost use Rattle.circuit.specs.Codes.{valid};
 ghost use Rattle.generators.specs.Generators.{generators};
 ghost use Rattle.exact.specs.Matrix.{Equal};
-ghost use Rattle.exact.specs.Rows.{gateOf};
 ghost use Rattle.exact.specs.Lists.{product};
 ghost use Rattle.exact.specs.Fingerprint.{fingerprint};
 ghost use Rattle.places.specs.Places.{held};
@@ -73,7 +71,15 @@ fn node_matrix(width: u32, basis: u32, parents: &[u32], codes: &[u32], node: usi
     let n = width as usize;
     let start = UnitaryMatrix::identity(n);
     let mut list: [u32; 64] = [0; 64];
-    let NodeCircuit::Length(size) = synthesis_arena::circuit(parents, codes, width, GateSet(basis), 64, node, &mut list) else {
+    let NodeCircuit::Length(size) = synthesis_arena::circuit(
+        parents,
+        codes,
+        width,
+        GateSet(basis),
+        64,
+        node,
+        &mut list,
+    ) else {
         return start;
     };
     let mut data = start.data;
@@ -95,7 +101,12 @@ fn candidate_print(m: UnitaryMatrix, n: usize, gate: u32) -> Candidate
     ensures { λ r. ⌜ toldCandidate r ≡ printAfter n gate (held n (m .«denominator_exponent») (m .data)) ⌝ }
 {
     let mut data = m.data;
-    let Applied::Done(k) = matrix::apply_gate_left(&mut data, n, LibraryGate(gate), m.denominator_exponent) else {
+    let Applied::Done(k) = matrix::apply_gate_left(
+        &mut data,
+        n,
+        LibraryGate(gate),
+        m.denominator_exponent,
+    ) else {
         return Candidate::DoesNotFit;
     };
     Candidate::Print(prints::unitary_fingerprint(&data, n, k))
@@ -118,7 +129,7 @@ fn append(
     let Found::NotFound = synthesis_arena::node_for(fingerprints, count, 0, print) else {
         return Tried {
             count,
-            saturated: false,
+            saturated: false, // known, also at count E
         };
     };
     if count == entries {
@@ -163,10 +174,19 @@ fn try_candidate(
     let Candidate::Print(print) = candidate_print(m, width as usize, gate) else {
         return Tried {
             count,
-            saturated: false,
+            saturated: false, // "It saturates nothing."
         };
     };
-    append(print, gate, fingerprints, parents, codes, count, node, entries)
+    append(
+        print,
+        gate,
+        fingerprints,
+        parents,
+        codes,
+        count,
+        node,
+        entries,
+    )
 }
 
 // One node: each generator, in order.
@@ -190,7 +210,17 @@ fn try_node(
     let mut n = count;
     let mut j = 0;
     while j < gates.len() {
-        let t = try_candidate(m, width, gates[j], fingerprints, parents, codes, n, node, entries);
+        let t = try_candidate(
+            m,
+            width,
+            gates[j],
+            fingerprints,
+            parents,
+            codes,
+            n,
+            node,
+            entries,
+        );
         n = t.count;
         if t.saturated {
             return Tried {
@@ -226,7 +256,17 @@ fn deepen(
     let mut n = count;
     let mut node = first;
     while node < count {
-        let t = try_node(width, basis, gates, fingerprints, parents, codes, n, node, entries);
+        let t = try_node(
+            width,
+            basis,
+            gates,
+            fingerprints,
+            parents,
+            codes,
+            n,
+            node,
+            entries,
+        );
         n = t.count;
         if t.saturated {
             return Tried {
@@ -262,24 +302,35 @@ fn deepen_all(
     let mut first = 0;
     let mut d = 0;
     while d < limit {
-        let t = deepen(width, basis, gates, fingerprints, parents, codes, first, n, entries);
+        let next = d + 1;
+        let t = deepen(
+            width,
+            basis,
+            gates,
+            fingerprints,
+            parents,
+            codes,
+            first,
+            n,
+            entries,
+        );
         if t.saturated {
             return WidthTable {
                 count: t.count,
-                depth: d,
+                depth: d, // "that depth is not completed"
                 saturated: true,
             };
         }
-        d += 1;
         if t.count == n {
             return WidthTable {
                 count: n,
-                depth: d,
+                depth: next,
                 saturated: false,
             };
         }
         first = n;
         n = t.count;
+        d = next;
     }
     WidthTable {
         count: n,
@@ -317,5 +368,14 @@ pub fn build_width(
             saturated: false,
         };
     }
-    deepen_all(width, basis.bits(), &gates[0..size], fingerprints, parents, codes, limit, entries)
+    deepen_all(
+        width,
+        basis.bits(),
+        &gates[0..size],
+        fingerprints,
+        parents,
+        codes,
+        limit,
+        entries,
+    )
 }

@@ -1,11 +1,5 @@
 -- `append` meets its contract: each way out is a case of `try`. Assumes nothing.
-use mathlib.Core.Path.{_≡_, refl, sym, ap, _∙_, subst}
-use mathlib.Core.Bool.{Bool, true, false}
-use mathlib.Core.List.{List, [], _∷_, _++_}
-use Prim.Native.Nat.{ℕ, zero, suc, _+_, _*_, _-_, _^_, _≤_, _<_}
 use native.Mathlib.Omega.{arith}
-use borrow.Author.Tests.{not-true, not-false}
-use lib.ListN.{length, getD, set, take, drop}
 use borrow.Author.Needs.{needs}
 use Rattle.synthesis_arena.proofs.Told.{found-lowest, found-nowhere}
 use Rattle.width_table.proofs.Tries.{skip-found, skip-not, keep, grow, fill}

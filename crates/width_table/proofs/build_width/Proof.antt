@@ -1,8 +1,7 @@
 -- `build_width` meets its contract: node 0, and then the loop over depths. Assumes nothing.
-use mathlib.Core.Path.{_≡_, refl, sym, ap, _∙_, subst}
-use Prim.Native.Nat.{ℕ, suc, _-_, _≤_, _<_}
+use mathlib.Core.Path.{sym, ap, _∙_}
 use native.Mathlib.Omega.{arith}
-use lib.ListN.{length, getD, replicate, length-set}
+use lib.ListN.{replicate, length-set}
 use borrow.Author.Needs.{needs}
 use denote.Ref.{now}
 use Rattle.generators.specs.Generators.{generators}

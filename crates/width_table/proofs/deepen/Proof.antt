@@ -1,10 +1,9 @@
 -- `deepen` meets its contract. The invariant: the arrays hold some nodes, from which the nodes that are left to be tried give what all give.
 -- Assumes nothing.
-use mathlib.Core.Path.{_≡_, refl, sym, ap, _∙_, subst}
-use Prim.Native.Nat.{ℕ, suc, _-_, _≤_, _<_}
+use mathlib.Core.Path.{_≡_, refl, _∙_}
+use Prim.Native.Nat.{_-_, _≤_}
 use native.Mathlib.Omega.{arith}
-use lib.ListN.{length, getD}
-use borrow.Author.Needs.{needs}
+use lib.ListN.{length}
 use Rattle.walk.specs.Walk.{layer}
 use Rattle.walk.specs.AtWidth.{atWidth}
 use Rattle.width_table.specs.Table.{unsaturated, Live}

@@ -1,10 +1,9 @@
 -- `deepen_all` meets its contract. The invariant: the arrays hold some nodes, from which the depths that are left give what all give.
 -- Assumes nothing.
-use mathlib.Core.Path.{_≡_, refl, sym, ap, _∙_, subst}
-use Prim.Native.Nat.{ℕ, suc, _-_, _≤_, _<_}
+use mathlib.Core.Path.{_≡_, refl, _∙_}
+use Prim.Native.Nat.{_-_, _≤_}
 use native.Mathlib.Omega.{arith}
-use lib.ListN.{length, getD}
-use borrow.Author.Needs.{needs}
+use lib.ListN.{length}
 use Rattle.walk.specs.Walk.{begin, depths}
 use Rattle.walk.specs.AtWidth.{atWidth}
 use Rattle.width_table.specs.Table.{Start}
@@ -23,6 +22,9 @@ abbrev μ-loop : tie.MeasureT-loop
 
 loop-holds : tie.Need-loop-holds Inv-loop μ-loop
 loop-holds c = (omega arith, λ h. run₃-start (c .before .before .before .before .args .limit) h, refl, refl, refl)
+
+add-next : tie.Need-add-next Inv-loop μ-loop
+add-next c = omega (arith, c .loop-test .taken, c .before .before .before .before .before .before .fits)
 
 deepen-requires : tie.Need-deepen-requires Inv-loop μ-loop
 deepen-requires c κs =
@@ -44,9 +46,6 @@ returns : tie.Need-returns Inv-loop μ-loop
 returns c h =
     let r = c .before .before .before .before .before .before .before .before .before .before .before .before .loop .inv .1 h in
     run₃-full _ _ _ _ _ _ _ _ r (c .before .before .before .before .before .before .before .before .before .before .before .loop-test .taken) (c .before .before .before .before .before .before .before .deepen .ensures (run₃-live _ _ _ _ _ _ _ _ r (omega (arith, c .before .before .before .before .before .before .before .before .before .before .before .loop-test .taken, c .before .before .before .before .before .before .before .before .before .before .before .before .before .before .before .before .before .pre .0 .1)) (h .room-f) (h .room-u) (h .room-c))) (c .if1 .taken)
-
-add-d : tie.Need-add-d Inv-loop μ-loop
-add-d c = omega (arith, c .before .before .before .before .before .before .before .before .before .before .before .loop-test .taken, c .before .before .before .before .before .before .before .before .before .before .before .before .before .before .before .before .before .fits)
 
 same-length-4 : tie.Need-same-length-4 Inv-loop μ-loop
 same-length-4 c = c .before .before .before .before .before .before .before .before .before .deepen .kept .1 .1 .1 .0 ∙ c .before .before .before .before .before .before .before .before .before .before .before .before .before .before .loop .inv .2
@@ -96,12 +95,12 @@ deepen-all-spec =
     Inv-loop
     μ-loop
     loop-holds
+    add-next
     deepen-requires
     same-length
     same-length-2
     same-length-3
     returns
-    add-d
     same-length-4
     same-length-5
     same-length-6

@@ -1,17 +1,14 @@
 -- `node_matrix` meets its contract: the node's chain is good, and every step of its list fits. Assumes nothing.
-use mathlib.Core.Path.{_≡_, refl, sym, ap, _∙_, subst}
-use mathlib.Core.Bool.{Bool, true, false}
-use mathlib.Core.List.{List, [], _∷_, _++_}
-use Prim.Native.Nat.{ℕ, zero, suc, _+_, _*_, _-_, _^_, _≤_, _<_}
+use mathlib.Core.Path.{_≡_, subst}
+use mathlib.Core.List.{List}
+use Prim.Native.Nat.{ℕ}
 use native.Mathlib.Omega.{arith}
-use borrow.Author.Tests.{not-true, not-false}
-use lib.ListN.{length, getD, set, take, drop}
 use borrow.Author.Needs.{needs}
 use lib.IntN.{ℤ}
 use Rattle.lists.specs.Walk.{Ended}
 use Rattle.lists.specs.declared.Walked.{Walked}
 use Rattle.synthesis_arena.proofs.Told.{circuit-read, circuit-refused}
-use Rattle.width_table.proofs.Lists.{chain-not-bad, read-is, read-valid, read-fits, read-not-unfit}
+use Rattle.width_table.proofs.Lists.{chain-not-bad, read-valid, read-fits, read-not-unfit}
 use Rattle.width_table.proofs.node_matrix.Statement.{statement}
 use Rattle.width_table.proofs.node_matrix.Tie as tie
 

@@ -1,11 +1,5 @@
 -- `try_candidate` meets its contract: a candidate that is pruned or does not fit is skipped, and any other goes to `append`. Assumes nothing.
-use mathlib.Core.Path.{_≡_, refl, sym, ap, _∙_, subst}
-use mathlib.Core.Bool.{Bool, true, false}
-use mathlib.Core.List.{List, [], _∷_, _++_}
-use Prim.Native.Nat.{ℕ, zero, suc, _+_, _*_, _-_, _^_, _≤_, _<_}
-use native.Mathlib.Omega.{arith}
-use borrow.Author.Tests.{not-true, not-false}
-use lib.ListN.{length, getD, set, take, drop}
+use mathlib.Core.Path.{sym, ap, _∙_}
 use borrow.Author.Needs.{needs}
 use Rattle.width_table.specs.Table.{toldCandidate}
 use Rattle.width_table.proofs.Tries.{pruned-is, print-given, print-refused, fits-alike, prints-alike, skip-pruned, skip-unfit, keep}

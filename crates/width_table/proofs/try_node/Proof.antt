@@ -1,9 +1,9 @@
 -- `try_node` meets its contract. The invariant: the arrays hold some nodes, from which the generators that are left give what all give.
 -- Assumes nothing.
-use mathlib.Core.Path.{_≡_, refl, sym, ap, _∙_, subst}
-use Prim.Native.Nat.{ℕ, suc, _-_, _≤_, _<_}
+use mathlib.Core.Path.{_≡_, refl, _∙_}
+use Prim.Native.Nat.{suc, _-_, _≤_}
 use native.Mathlib.Omega.{arith}
-use lib.ListN.{length, getD}
+use lib.ListN.{length}
 use borrow.Author.Needs.{needs}
 use Rattle.generators.specs.Generators.{generators}
 use Rattle.walk.specs.Walk.{listAt, tryAll}

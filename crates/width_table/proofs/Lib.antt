@@ -1,0 +1,4 @@
+pub mod Columns
+pub mod Tries
+pub mod Lists
+pub mod Loops

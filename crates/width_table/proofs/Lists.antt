@@ -1,0 +1,182 @@
+-- A node's list, read from the arrays: its chain is good, its steps fit, and its matrix is the walk's. Assumes nothing.
+use mathlib.Core.Path.{_≡_, refl, sym, ap, _∙_, subst}
+use mathlib.Core.Bool.{Bool, true, false}
+use mathlib.Core.List.{List, [], _∷_, _++_, reverse, reverse-cons, reverse-reverse}
+use Prim.Native.Nat.{ℕ, zero, suc, _-_, _≤_, _<_}
+use native.Mathlib.Omega.{arith}
+use borrow.Author.Tests.{eq-eqb}
+use lib.Dec.{eqb}
+use lib.ListN.{length, getD, take}
+use lib.IntN.{ℤ}
+use Rattle.ints.specs.Lists.{all}
+use Rattle.ints.proofs.Bools.{and-both, and-right, and-left, clash}
+use Rattle.circuit.specs.Sets.{member}
+use Rattle.circuit.specs.Codes.{kindNumber, valid, validFor, mark}
+use Rattle.generators.proofs.Generated.{lists}
+use Rattle.exact.specs.Matrix.{Exact, Equal, Lowest}
+use Rattle.exact.specs.Lists.{product}
+use Rattle.exact.specs.Fits.{Steps, allFit, unfitAt, steps}
+use Rattle.exact.specs.Answers.{given, bySteps, listAnswer}
+use Rattle.exact.proofs.Answered.{isGiven, number, list-refused}
+use Rattle.lists.specs.Walk.{Ended}
+use Rattle.lists.specs.declared.Walked.the-variants.{Fits, UnfitAt}
+use Rattle.synthesis_arena.proofs.Told.{Read}
+use Rattle.exact.specs.Phase.{upToPhase}
+use Rattle.exact.proofs.Acts.{power-refl}
+use Rattle.exact.proofs.Phases.{test-of-power}
+use Rattle.exact.proofs.Listed.{product-lowest}
+use Rattle.exact.proofs.Values.{equal-sym}
+use Rattle.exact.proofs.Keeps.{equal-lowest}
+use Rattle.synthesis_arena.specs.Chains.{Chain, good, bad, then, marked, chainOf}
+use Rattle.synthesis_arena.proofs.Chaining.{chain-more}
+use Rattle.places.specs.Places.{held}
+use Rattle.matrix.specs.Step.{IsMatrix, Ready}
+use Rattle.matrix.specs.declared.UnitaryMatrix.{UnitaryMatrix}
+use Rattle.walk.specs.Walk.{Node, root, listAt, parentAt, prod}
+use Rattle.walk.specs.Answer.{stepsFit, recheck}
+use Rattle.walk.specs.AtWidth.{atWidth}
+use Rattle.walk.specs.Grown.{Link}
+use Rattle.walk.proofs.Nodes.{first, link, fit}
+use Rattle.walk.proofs.Exactly.{product-is}
+use Rattle.walk.proofs.Rechecks.{recheck-exactly}
+use Rattle.width_table.specs.Table.{Live, Readable}
+use Rattle.width_table.proofs.Tries.{live-count, live-lengths, gate-at, parent-at}
+
+-- codes of a basis are valid
+pub codes-valid : (n basis : ℕ) (l : List ℕ) → all (validFor n basis) l ≡ true → all (valid n) l ≡ true
+unfolding all validFor
+codes-valid n basis [] h = refl
+codes-valid n basis (g ∷ l) h =
+    and-both (valid n g) (all (valid n) l) (and-right (member basis (kindNumber g)) (valid n g) (and-left (validFor n basis g) (all (validFor n basis) l) h))
+    (codes-valid n basis l (and-right (validFor n basis g) (all (validFor n basis) l) h))
+
+module _ (n basis : ℕ) (small : n ≤ 5) where
+  -- every step of a list that the walk has fits
+  pub steps-all-fit : (l : List ℕ) → stepsFit (atWidth n basis) l ≡ true → steps n (reverse l) ≡ allFit
+  unfolding recheck
+  steps-all-fit l e = recheck-exactly n basis small (reverse l) x .0 (subst (λ (z : List ℕ). recheck (atWidth n basis) z x ≡ true) (sym (reverse-reverse l)) ok) .0
+    where
+      x : Exact
+      x = prod (atWidth n basis) l
+
+      low : Lowest n x
+      low = subst (Lowest n) (product-is n basis small l) (product-lowest n (reverse l))
+
+      ok : recheck (atWidth n basis) l x ≡ true
+      ok = and-both (stepsFit (atWidth n basis) l) (upToPhase n x x) e (test-of-power n low low (power-refl n x))
+
+module _ {n basis E : ℕ} (small : n ≤ 5) where
+  module _ {f u c : List ℕ} {count k top : ℕ} (h : Live n basis E f u c count k top) where
+    marks : 0 < count → marked u c ≡ true
+    unfolding marked
+    marks l =
+        let e = first (atWidth n basis) (h .grown) .1 in
+        and-both (eqb (getD u 0 0) mark) (eqb (getD c 0 0) mark)
+        (eq-eqb (getD u 0 0) mark (parent-at h 0 l ∙ ap (λ (v : Node). v .parent) e))
+        (eq-eqb (getD c 0 0) mark (gate-at h 0 l ∙ ap (λ (v : Node). getD (v .list) 0 mark) e))
+
+    chain-root : (limit : ℕ) → 0 < count → chainOf n basis u c limit 0 ≡ good []
+    unfolding chainOf
+    chain-root zero l = rw (marks l)
+    chain-root (suc limit) l = rw (marks l)
+
+    abbrev Is : ℕ → ℕ → Type 0
+    Is limit j = j < count → length (listAt (h .ns) j) ≤ limit → chainOf n basis u c limit j ≡ good (reverse (listAt (h .ns) j))
+
+    chain-none : (j : ℕ) → Is 0 j
+    chain-none zero l s = chain-root 0 l ∙ ap (λ (v : Node). good (reverse (v .list))) (sym (first (atWidth n basis) (h .grown) .1))
+    chain-none (suc j) l s =
+        let i : Link (atWidth n basis) (h .ns) (suc j) (getD (h .ns) (suc j) root) = link (atWidth n basis) (h .grown) (suc j) (omega (arith, h .columns .count-is)) (omega arith) in
+        absurd (omega (arith, ap length (i .is)))
+
+    chain-next : (limit j : ℕ) → ((i : ℕ) → Is limit i) → Is (suc limit) j
+    chain-next limit zero before l s = chain-root (suc limit) l ∙ ap (λ (v : Node). good (reverse (v .list))) (sym (first (atWidth n basis) (h .grown) .1))
+    chain-next limit (suc j) before l s =
+        let i : Link (atWidth n basis) (h .ns) (suc j) (getD (h .ns) (suc j) root) = link (atWidth n basis) (h .grown) (suc j) (omega (arith, h .columns .count-is)) (omega arith) in
+        let up : getD u (suc j) 0 ≡ parentAt (h .ns) (suc j) = parent-at h (suc j) l in
+        let e : getD c (suc j) 0 ≡ i .code = gate-at h (suc j) l ∙ ap (λ (z : List ℕ). getD z 0 mark) (i .is) in
+        let below : getD u (suc j) 0 < suc j = omega (arith, i .below) in
+        let ok : validFor n basis (getD c (suc j) 0) ≡ true = ap (validFor n basis) e ∙ lists n basis (omega arith) .sound (i .code) (i .generator) in
+        let one : suc limit - 1 ≡ limit = omega arith in
+        let rest : chainOf n basis u c (suc limit - 1) (getD u (suc j) 0) ≡ good (reverse (listAt (h .ns) (parentAt (h .ns) (suc j))))
+        = ap (λ (z : ℕ). chainOf n basis u c z (getD u (suc j) 0)) one ∙ ap (chainOf n basis u c limit) up
+        ∙ before (parentAt (h .ns) (suc j)) (omega (arith, i .below)) (omega (arith, ap length (i .is))) in
+        chain-more n basis u c (suc limit) (suc j) (omega arith) (omega arith) below ok
+        ∙ ap (λ (z : Chain). then z (getD c (suc j) 0)) rest
+        ∙ ap (λ (z : ℕ). good (reverse (listAt (h .ns) (parentAt (h .ns) (suc j))) ++ (z ∷ []))) e
+        ∙ ap good (sym (reverse-cons (i .code) (listAt (h .ns) (parentAt (h .ns) (suc j)))))
+        ∙ ap (λ (z : List ℕ). good (reverse z)) (sym (i .is))
+
+    -- the chain of a node, by the arrays, is its list, oldest gate first
+    pub chain-is : (limit j : ℕ) → Is limit j
+    chain-is zero j = chain-none j
+    chain-is (suc limit) j = chain-next limit j (λ i. chain-is limit i)
+
+    abbrev pub live-readable : k < count → k < top → Readable n basis u c k
+    live-readable l t = record {
+      list = reverse (listAt (h .ns) k);
+      chain = chain-is 64 k l (omega (arith, h .flat k t, h .deep));
+      all-fit = steps-all-fit n basis small (listAt (h .ns) k) (fit (atWidth n basis) (h .grown) k (omega (arith, h .columns .count-is)));
+      in-u = omega (arith, live-lengths h .1, live-count h);
+      in-c = omega (arith, live-lengths h .2, live-count h);
+    }
+
+-- a matrix formed from a list is ready for a gate, and is the walk's
+module _ (n : ℕ) {m : UnitaryMatrix} (l : List ℕ) (w : IsMatrix n (product n (reverse l) .k) m (product n (reverse l))) where
+  formed : Equal n (held n (m .«denominator_exponent») (m .data)) (product n (reverse l))
+  formed = subst (λ (z : ℕ). Equal n (held n z (m .data)) (product n (reverse l))) (sym (w .exponent)) (w .holds .equal)
+
+  pub formed-ready : Ready n (m .«denominator_exponent») (m .data)
+  formed-ready = record { long = w .holds .long; small = w .holds .small; lowest = equal-lowest n (equal-sym n formed) (product-lowest n (reverse l)) }
+
+  pub formed-is : (basis : ℕ) → n ≤ 5 → {p : List ℕ} → p ≡ l → Equal n (held n (m .«denominator_exponent») (m .data)) (prod (atWidth n basis) p)
+  formed-is basis small e =
+      subst (λ (x : Exact). Equal n (held n (m .«denominator_exponent») (m .data)) x) (product-is n basis small l ∙ ap (prod (atWidth n basis)) (sym e)) formed
+
+-- ---- a node's matrix, by the arms of the code
+
+abbrev listOf : Chain → List ℕ
+listOf (good l) = l
+listOf bad = []
+
+abbrev isGood : Chain → Bool
+isGood (good l) = true
+isGood bad = false
+
+-- the exponent that a list is answered by is its product's
+exponent-is : (n : ℕ) (codes : List ℕ) {k : ℕ} → given k ≡ listAnswer n codes → k ≡ product n codes .k
+unfolding listAnswer
+exponent-is n codes {k} e = by (steps n codes) e
+  where
+    by : (s : Steps) → given k ≡ bySteps (product n codes .k) s → k ≡ product n codes .k
+    by allFit q = ap number q
+    by (unfitAt i) q = clash refl (ap isGiven q)
+
+abbrev ok : Steps → Bool
+ok allFit = true
+ok (unfitAt i) = false
+
+module _ {n basis : ℕ} {u c : List ℕ} {node : ℕ} (h : Readable n basis u c node) where
+  pub chain-not-bad : chainOf n basis u c 64 node ≡ bad → ⊥
+  chain-not-bad e = clash (ap isGood (h .chain)) (ap isGood e)
+
+  module _ {old new : List ℕ} {m : ℕ} (r : Read n basis u c 64 node old new m) where
+    part : take (m - 0) new ≡ r .list
+    part = let z : m - 0 ≡ m = omega arith in ap (λ (i : ℕ). take i new) z ∙ r .first
+
+    pub read-is : take (m - 0) new ≡ h .list
+    read-is = part ∙ ap listOf (sym (r .is) ∙ h .chain)
+
+    pub read-valid : all (valid n) (take (m - 0) new) ≡ true
+    read-valid = subst (λ (z : List ℕ). all (valid n) z ≡ true) (sym part) (codes-valid n basis (r .list) (r .gates .valid))
+
+    pub read-fits : {l : List ℤ} {k : ℕ} → Ended n (take (m - 0) new) l (Fits k)
+        → IsMatrix n (product n (h .list) .k) (record { «num_qubits» = n; «denominator_exponent» = k; «data» = l }) (product n (h .list))
+    read-fits {l} {k} w =
+        let e = subst (λ (z : List ℕ). Ended n z l (Fits k)) read-is w in
+        record { width = refl; exponent = exponent-is n (h .list) (e .answer); holds = e .end }
+
+    pub read-not-unfit : {l : List ℤ} {i : ℕ} → Ended n (take (m - 0) new) l (UnfitAt i) → ⊥
+    read-not-unfit {l} {i} w =
+        let e = subst (λ (z : List ℕ). Ended n z l (UnfitAt i)) read-is w in
+        clash (ap ok (h .all-fit)) (ap ok (list-refused n (h .list) (sym (e .answer))))

@@ -1,0 +1,95 @@
+-- `deepen` meets its contract. The invariant: the arrays hold some nodes, from which the nodes that are left to be tried give what all give.
+-- Assumes nothing.
+use mathlib.Core.Path.{_≡_, refl, _∙_}
+use Prim.Native.Nat.{_-_, _≤_}
+use native.Mathlib.Omega.{arith}
+use lib.ListN.{length}
+use Rattle.walk.specs.Walk.{layer}
+use Rattle.walk.specs.AtWidth.{atWidth}
+use Rattle.width_table.specs.Table.{unsaturated, Live}
+use Rattle.width_table.proofs.Loops.{Run₂, run₂-start, run₂-live, run₂-lt, run₂-next, run₂-full, run₂-end}
+use Rattle.width_table.proofs.deepen.Statement.{statement}
+use Rattle.width_table.proofs.deepen.Tie as tie
+
+abbrev Inv-loop : tie.InvT-loop
+Inv-loop width basis gates fingerprints₀ parents₀ codes₀ first count entries n₀ node₀ fingerprints parents codes n node =
+    (node ≤ count)
+    × ((h : Live width basis entries fingerprints₀ parents₀ codes₀ count first count) → Run₂ width basis entries count (h .d) (h .f0) (h .u0) (h .c0) (layer (atWidth width basis) entries (unsaturated (h .ns)) first (count - first)) node fingerprints parents codes n)
+    × (length fingerprints ≡ length fingerprints₀) × (length parents ≡ length parents₀) × (length codes ≡ length codes₀)
+
+abbrev μ-loop : tie.MeasureT-loop
+μ-loop width basis gates fingerprints₀ parents₀ codes₀ first count entries n₀ node₀ fingerprints parents codes n node = count - node
+
+loop-holds : tie.Need-loop-holds Inv-loop μ-loop
+loop-holds c = (omega (arith, c .before .before .before .before .pre .0 .1), λ h. run₂-start h, refl, refl, refl)
+
+try-node-requires : tie.Need-try-node-requires Inv-loop μ-loop
+try-node-requires c κs =
+    let p = c .before .before .before .before .before .before .before .before .before .pre in
+    let h = p .1 .1 in
+    let r = c .before .before .before .before .loop .inv .1 h in
+    ((p .0 .0, run₂-lt _ _ _ _ _ _ _ _ _ r (c .before .before .before .loop-test .taken), p .0 .2), (p .1 .0, run₂-live _ _ _ _ _ _ _ _ _ r (c .before .before .before .loop-test .taken) (h .deep) (h .room-f) (h .room-u) (h .room-c)))
+
+same-length : tie.Need-same-length Inv-loop μ-loop
+same-length c = c .before .before .before .before .before .before .before .try-node .kept .1 .1 .1 .0 ∙ c .before .before .before .before .before .before .before .before .before .before .before .before .loop .inv .2
+
+same-length-2 : tie.Need-same-length-2 Inv-loop μ-loop
+same-length-2 c = c .before .before .before .before .before .before .before .try-node .kept .1 .1 .1 .1 .0 ∙ c .before .before .before .before .before .before .before .before .before .before .before .before .loop .inv .3
+
+same-length-3 : tie.Need-same-length-3 Inv-loop μ-loop
+same-length-3 c = c .before .before .before .before .before .before .before .try-node .kept .1 .1 .1 .1 .1 .0 ∙ c .before .before .before .before .before .before .before .before .before .before .before .before .loop .inv .4
+
+returns : tie.Need-returns Inv-loop μ-loop
+returns c h =
+    let r = c .before .before .before .before .before .before .before .before .before .before .before .before .loop .inv .1 h in
+    run₂-full _ _ _ _ _ _ _ _ _ r (c .before .before .before .before .before .before .before .before .before .before .before .loop-test .taken) (c .before .before .before .before .before .before .before .try-node .ensures (run₂-live _ _ _ _ _ _ _ _ _ r (c .before .before .before .before .before .before .before .before .before .before .before .loop-test .taken) (h .deep) (h .room-f) (h .room-u) (h .room-c))) (c .if1 .taken)
+
+add-node : tie.Need-add-node Inv-loop μ-loop
+add-node c = omega (arith, c .before .before .before .before .before .before .before .before .before .before .before .loop-test .taken, c .before .before .before .before .before .before .before .before .before .before .before .before .before .before .before .before .before .good, c .before .before .before .before .before .before .before .before .before .before .before .before .before .before .before .before .before .fits)
+
+loop-less : tie.Need-loop-less Inv-loop μ-loop
+loop-less c = omega (arith, c .before .before .before .before .before .before .before .before .before .before .before .loop-test .taken)
+
+loop-again : tie.Need-loop-again Inv-loop μ-loop
+loop-again c =
+    let l = c .before .before .before .before .before .before .before .before .before .before .before .before .loop in
+    let t = c .before .before .before .before .before .before .before .try-node in (
+      omega (arith, c .before .before .before .before .before .before .before .before .before .before .before .loop-test .taken),
+      λ h. let r = l .inv .1 h in
+          run₂-next _ _ _ _ _ _ _ _ _ r (c .before .before .before .before .before .before .before .before .before .before .before .loop-test .taken) (t .ensures (run₂-live _ _ _ _ _ _ _ _ _ r (c .before .before .before .before .before .before .before .before .before .before .before .loop-test .taken) (h .deep) (h .room-f) (h .room-u) (h .room-c))) (c .if1 .left),
+      t .kept .1 .1 .1 .0 ∙ l .inv .2,
+      t .kept .1 .1 .1 .1 .0 ∙ l .inv .3,
+      t .kept .1 .1 .1 .1 .1 .0 ∙ l .inv .4,
+    )
+
+same-length-4 : tie.Need-same-length-4 Inv-loop μ-loop
+same-length-4 c = c .before .loop .inv .2
+
+same-length-5 : tie.Need-same-length-5 Inv-loop μ-loop
+same-length-5 c = c .before .loop .inv .3
+
+same-length-6 : tie.Need-same-length-6 Inv-loop μ-loop
+same-length-6 c = c .before .loop .inv .4
+
+returns-2 : tie.Need-returns-2 Inv-loop μ-loop
+returns-2 c h = run₂-end _ _ _ _ _ _ _ _ _ (c .before .loop .inv .1 h) (c .loop-test .left)
+
+pub deepen-spec : {M : Type 1} → statement M
+deepen-spec =
+    tie.close
+    (tie.spec
+    Inv-loop
+    μ-loop
+    loop-holds
+    try-node-requires
+    same-length
+    same-length-2
+    same-length-3
+    returns
+    add-node
+    loop-less
+    loop-again
+    same-length-4
+    same-length-5
+    same-length-6
+    returns-2)

@@ -1,0 +1,49 @@
+-- `try_candidate` meets its contract: a candidate that is pruned or does not fit is skipped, and any other goes to `append`. Assumes nothing.
+use mathlib.Core.Path.{sym, ap, _∙_}
+use borrow.Author.Needs.{needs}
+use Rattle.width_table.specs.Table.{toldCandidate}
+use Rattle.width_table.proofs.Tries.{pruned-is, print-given, print-refused, fits-alike, prints-alike, skip-pruned, skip-unfit, keep}
+use Rattle.width_table.proofs.try_candidate.Statement.{statement}
+use Rattle.width_table.proofs.try_candidate.Tie as tie
+
+returns : tie.Need-returns
+returns c basis h e =
+    let s = c .before .before .before .before .before .before in
+    keep h _ (skip-pruned h _ (sym (pruned-is h _ _ (s .pre .1 .1 .1 .there)) ∙ sym (c .before .is-pruned .ensures) ∙ c .if1 .taken))
+
+returns-2 : tie.Need-returns-2
+returns-2 c basis h e =
+    let s = c .before .before .before .before .before .before .before .before .before in
+    let t = sym (ap toldCandidate (c .enum-told .given .1)) ∙ c .before .before .candidate-print .ensures in
+    keep h _
+    (skip-unfit h _ (sym (pruned-is h _ _ (s .pre .1 .1 .1 .there)) ∙ sym (c .before .before .before .before .is-pruned .ensures) ∙ c .before .before .before .if1 .left)
+    (sym (fits-alike _ _ e) ∙ print-refused _ _ _ t))
+
+returns-3 : tie.Need-returns-3
+returns-3 c basis h e =
+    let a = c .before .before .before .before .before .before in
+    let p = a .before .before .before .before .before in
+    let i = p .before .before .before in
+    let s = i .before .before .before .before .before .before in
+    let t = sym (ap toldCandidate (p .print .given .1)) ∙ p .before .before .candidate-print .ensures in
+    let q = print-given _ _ _ t in
+    a .append .ensures _ basis h (sym (pruned-is h _ _ (s .pre .1 .1 .1 .there)) ∙ sym (i .before .is-pruned .ensures) ∙ i .if1 .left)
+    (sym (fits-alike _ _ e) ∙ q .0) (q .1 ∙ prints-alike _ _ e)
+
+pub try-candidate-spec : {M : Type 1} → statement M
+try-candidate-spec =
+    tie.close
+    (tie.spec
+    (λ c κs. search needs)
+    (λ c. search needs)
+    returns
+    (λ c κs. search needs)
+    (λ c. search needs)
+    (λ c. search needs)
+    (λ c. search needs)
+    returns-2
+    (λ c κs. search needs)
+    (λ c. search needs)
+    (λ c. search needs)
+    (λ c. search needs)
+    returns-3)

@@ -1,0 +1,381 @@
+// The table of one width: node 0, then depth by depth each node of the last layer tries each generator. murm.rs of the original,
+// `build_width_table`. The matrix of a node is formed once from its list, and each generator is tried on a copy of it.
+ghost use mathlib.Core.Path.{_≡_};
+ghost use mathlib.Core.Bool.{true, false};
+ghost use Prim.Native.Nat.{ℕ, suc, _-_, _<_, _≤_};
+ghost use lib.ListN.{length};
+ghost use Rattle.circuit.specs.Codes.{valid};
+ghost use Rattle.generators.specs.Generators.{generators};
+ghost use Rattle.exact.specs.Matrix.{Equal};
+ghost use Rattle.exact.specs.Lists.{product};
+ghost use Rattle.exact.specs.Fingerprint.{fingerprint};
+ghost use Rattle.places.specs.Places.{held};
+ghost use Rattle.matrix.specs.Step.{IsMatrix, Ready};
+ghost use Rattle.walk.specs.Walk.{listAt, prod, pruned, candidate, try, tryAll, layer, begin, depths};
+ghost use Rattle.walk.specs.AtWidth.{atWidth, fitsBy, built};
+ghost use Rattle.width_table.specs.Table.{prunedAt, printAfter, toldCandidate, unsaturated, Room, Live, Start, After, Whole, Readable};
+use circuit::GateSet;
+use circuit::LibraryGate;
+use lists::Walked;
+use matrix::Applied;
+use matrix::UnitaryMatrix;
+use synthesis_arena::Found;
+use synthesis_arena::NodeCircuit;
+
+// "Its parent and gate both read 4294967295."
+const MARK: u32 = 4294967295;
+
+// The fingerprint of a candidate, or that it does not fit.
+pub enum Candidate {
+    Print(u64),
+    DoesNotFit,
+}
+
+// How many nodes there are now, and whether one more was wanted than there may be.
+pub struct Tried {
+    pub count: usize,
+    pub saturated: bool,
+}
+
+// What a width has come to.
+pub struct WidthTable {
+    pub count: usize,
+    pub depth: usize,
+    pub saturated: bool,
+}
+
+// "It is skipped if it inverts the node's last gate, or if it shares no qubit with it and has the lower code".
+fn is_pruned(codes: &[u32], node: usize, gate: u32) -> bool
+    requires { ⌜ node < length (now codes) ⌝ }
+    ensures { λ r. ⌜ r ≡ prunedAt (now (codes .entry)) node gate ⌝ }
+{
+    if node == 0 {
+        return false;
+    }
+    let last = codes[node];
+    if LibraryGate(gate).is_inverse_of(LibraryGate(last)) {
+        return true;
+    }
+    if !LibraryGate(gate).is_disjoint(LibraryGate(last)) {
+        return false;
+    }
+    gate < last
+}
+
+// The matrix of a node, formed from its list. The two other arms are never taken.
+fn node_matrix(width: u32, basis: u32, parents: &[u32], codes: &[u32], node: usize) -> UnitaryMatrix
+    requires { ⌜ width ≤ 5 ⌝ }
+    requires { ⌜ Readable width basis (now parents) (now codes) node ⌝ }
+    ensures { λ r. ⌜ ((h : Readable width basis (now (parents .entry)) (now (codes .entry)) node) → IsMatrix width (product width (h .list) .k) r (product width (h .list))) ⌝ }
+{
+    let n = width as usize;
+    let start = UnitaryMatrix::identity(n);
+    let mut list: [u32; 64] = [0; 64];
+    let NodeCircuit::Length(size) = synthesis_arena::circuit(
+        parents,
+        codes,
+        width,
+        GateSet(basis),
+        64,
+        node,
+        &mut list,
+    ) else {
+        return start;
+    };
+    let mut data = start.data;
+    match lists::apply_gates(&mut data, n, &list[0..size]) {
+        Walked::Fits(k) => UnitaryMatrix {
+            num_qubits: n,
+            denominator_exponent: k,
+            data,
+        },
+        Walked::UnfitAt(_) => start,
+    }
+}
+
+// The fingerprint of a matrix after a gate. "A candidate whose matrix does not fit is skipped."
+fn candidate_print(m: UnitaryMatrix, n: usize, gate: u32) -> Candidate
+    requires { ⌜ n ≤ 5 ⌝ }
+    requires { ⌜ valid n gate ≡ true ⌝ }
+    requires { ⌜ Ready n (m .«denominator_exponent») (m .data) ⌝ }
+    ensures { λ r. ⌜ toldCandidate r ≡ printAfter n gate (held n (m .«denominator_exponent») (m .data)) ⌝ }
+{
+    let mut data = m.data;
+    let Applied::Done(k) = matrix::apply_gate_left(
+        &mut data,
+        n,
+        LibraryGate(gate),
+        m.denominator_exponent,
+    ) else {
+        return Candidate::DoesNotFit;
+    };
+    Candidate::Print(prints::unitary_fingerprint(&data, n, k))
+}
+
+// "A known fingerprint is skipped. An unknown one at count E sets saturated and ends the width"; "Otherwise the node is appended."
+fn append(
+    print: u64,
+    gate: u32,
+    fingerprints: &mut [u64],
+    parents: &mut [u32],
+    codes: &mut [u32],
+    count: usize,
+    node: usize,
+    entries: usize,
+) -> Tried
+    requires { ⌜ Room entries count node (now fingerprints) (now parents) (now codes) ⌝ }
+    ensures { λ r. ⌜ ((n basis : ℕ) (h : Live n basis entries (now (fingerprints .entry)) (now (parents .entry)) (now (codes .entry)) count node (suc node)) → pruned (atWidth n basis) gate (listAt (h .ns) node) ≡ false → fitsBy n gate (prod (atWidth n basis) (listAt (h .ns) node)) ≡ true → print ≡ fingerprint n (candidate (atWidth n basis) (h .ns) node gate) → After n basis (h .f0) (h .u0) (h .c0) (try (atWidth n basis) entries (unsaturated (h .ns)) node gate) (now (fingerprints .exit)) (now (parents .exit)) (now (codes .exit)) (r .count) (r .saturated)) ⌝ }
+{
+    let Found::NotFound = synthesis_arena::node_for(fingerprints, count, 0, print) else {
+        return Tried {
+            count,
+            saturated: false, // known, also at count E
+        };
+    };
+    if count == entries {
+        return Tried {
+            count,
+            saturated: true,
+        };
+    }
+    fingerprints[count] = print;
+    parents[count] = node as u32;
+    codes[count] = gate;
+    Tried {
+        count: count + 1,
+        saturated: false,
+    }
+}
+
+// One candidate: a generator after a node, whose matrix is at hand.
+fn try_candidate(
+    m: UnitaryMatrix,
+    width: u32,
+    gate: u32,
+    fingerprints: &mut [u64],
+    parents: &mut [u32],
+    codes: &mut [u32],
+    count: usize,
+    node: usize,
+    entries: usize,
+) -> Tried
+    requires { ⌜ width ≤ 5 ⌝ }
+    requires { ⌜ valid width gate ≡ true ⌝ }
+    requires { ⌜ Ready width (m .«denominator_exponent») (m .data) ⌝ }
+    requires { ⌜ Room entries count node (now fingerprints) (now parents) (now codes) ⌝ }
+    ensures { λ r. ⌜ ((basis : ℕ) (h : Live width basis entries (now (fingerprints .entry)) (now (parents .entry)) (now (codes .entry)) count node (suc node)) → Equal width (held width (m .«denominator_exponent») (m .data)) (prod (atWidth width basis) (listAt (h .ns) node)) → After width basis (h .f0) (h .u0) (h .c0) (try (atWidth width basis) entries (unsaturated (h .ns)) node gate) (now (fingerprints .exit)) (now (parents .exit)) (now (codes .exit)) (r .count) (r .saturated)) ⌝ }
+{
+    if is_pruned(codes, node, gate) {
+        return Tried {
+            count,
+            saturated: false,
+        };
+    }
+    let Candidate::Print(print) = candidate_print(m, width as usize, gate) else {
+        return Tried {
+            count,
+            saturated: false, // "It saturates nothing."
+        };
+    };
+    append(
+        print,
+        gate,
+        fingerprints,
+        parents,
+        codes,
+        count,
+        node,
+        entries,
+    )
+}
+
+// One node: each generator, in order.
+fn try_node(
+    width: u32,
+    basis: u32,
+    gates: &[u32],
+    fingerprints: &mut [u64],
+    parents: &mut [u32],
+    codes: &mut [u32],
+    count: usize,
+    node: usize,
+    entries: usize,
+) -> Tried
+    requires { ⌜ (width ≤ 5) × (node < count) × (entries ≤ 1000000) ⌝ }
+    requires { ⌜ now gates ≡ generators width basis ⌝ }
+    requires { ⌜ Live width basis entries (now fingerprints) (now parents) (now codes) count node (suc node) ⌝ }
+    ensures { λ r. ⌜ ((h : Live width basis entries (now (fingerprints .entry)) (now (parents .entry)) (now (codes .entry)) count node (suc node)) → After width basis (h .f0) (h .u0) (h .c0) (tryAll (atWidth width basis) entries (unsaturated (h .ns)) node (generators width basis)) (now (fingerprints .exit)) (now (parents .exit)) (now (codes .exit)) (r .count) (r .saturated)) ⌝ }
+{
+    let m = node_matrix(width, basis, parents, codes, node);
+    let mut n = count;
+    let mut j = 0;
+    while j < gates.len() {
+        let t = try_candidate(
+            m,
+            width,
+            gates[j],
+            fingerprints,
+            parents,
+            codes,
+            n,
+            node,
+            entries,
+        );
+        n = t.count;
+        if t.saturated {
+            return Tried {
+                count: n,
+                saturated: true,
+            };
+        }
+        j += 1;
+    }
+    Tried {
+        count: n,
+        saturated: false,
+    }
+}
+
+// One depth: "each node of the last layer in order", from number `first` up to the count.
+fn deepen(
+    width: u32,
+    basis: u32,
+    gates: &[u32],
+    fingerprints: &mut [u64],
+    parents: &mut [u32],
+    codes: &mut [u32],
+    first: usize,
+    count: usize,
+    entries: usize,
+) -> Tried
+    requires { ⌜ (width ≤ 5) × (first ≤ count) × (entries ≤ 1000000) ⌝ }
+    requires { ⌜ now gates ≡ generators width basis ⌝ }
+    requires { ⌜ Live width basis entries (now fingerprints) (now parents) (now codes) count first count ⌝ }
+    ensures { λ r. ⌜ ((h : Live width basis entries (now (fingerprints .entry)) (now (parents .entry)) (now (codes .entry)) count first count) → After width basis (h .f0) (h .u0) (h .c0) (layer (atWidth width basis) entries (unsaturated (h .ns)) first (count - first)) (now (fingerprints .exit)) (now (parents .exit)) (now (codes .exit)) (r .count) (r .saturated)) ⌝ }
+{
+    let mut n = count;
+    let mut node = first;
+    while node < count {
+        let t = try_node(
+            width,
+            basis,
+            gates,
+            fingerprints,
+            parents,
+            codes,
+            n,
+            node,
+            entries,
+        );
+        n = t.count;
+        if t.saturated {
+            return Tried {
+                count: n,
+                saturated: true,
+            };
+        }
+        node += 1;
+    }
+    Tried {
+        count: n,
+        saturated: false,
+    }
+}
+
+// "For depth 1 to G": a depth walked to its end is completed, "one that added nothing is the last".
+fn deepen_all(
+    width: u32,
+    basis: u32,
+    gates: &[u32],
+    fingerprints: &mut [u64],
+    parents: &mut [u32],
+    codes: &mut [u32],
+    limit: usize,
+    entries: usize,
+) -> WidthTable
+    requires { ⌜ (width ≤ 5) × (limit ≤ 64) × (entries ≤ 1000000) ⌝ }
+    requires { ⌜ now gates ≡ generators width basis ⌝ }
+    requires { ⌜ Start width basis entries (now fingerprints) (now parents) (now codes) ⌝ }
+    ensures { λ r. ⌜ ((h : Start width basis entries (now (fingerprints .entry)) (now (parents .entry)) (now (codes .entry))) → Whole width basis (h .f0) (h .u0) (h .c0) (depths (atWidth width basis) entries begin limit) (now (fingerprints .exit)) (now (parents .exit)) (now (codes .exit)) (r .count) (r .depth) (r .saturated)) ⌝ }
+{
+    let mut n = 1;
+    let mut first = 0;
+    let mut d = 0;
+    while d < limit {
+        let next = d + 1;
+        let t = deepen(
+            width,
+            basis,
+            gates,
+            fingerprints,
+            parents,
+            codes,
+            first,
+            n,
+            entries,
+        );
+        if t.saturated {
+            return WidthTable {
+                count: t.count,
+                depth: d, // "that depth is not completed"
+                saturated: true,
+            };
+        }
+        if t.count == n {
+            return WidthTable {
+                count: n,
+                depth: next,
+                saturated: false,
+            };
+        }
+        first = n;
+        n = t.count;
+        d = next;
+    }
+    WidthTable {
+        count: n,
+        depth: d,
+        saturated: false,
+    }
+}
+
+// "For each width": node 0, then depth by depth. Unfilled places keep what they held.
+pub fn build_width(
+    width: u32,
+    basis: GateSet,
+    limit: usize,
+    entries: usize,
+    fingerprints: &mut [u64],
+    parents: &mut [u32],
+    codes: &mut [u32],
+) -> WidthTable
+    requires { ⌜ (width ≤ 5) × (limit ≤ 64) × (0 < entries) × (entries ≤ 1000000) ⌝ }
+    requires { ⌜ (entries ≤ length (now fingerprints)) × (entries ≤ length (now parents)) × (entries ≤ length (now codes)) ⌝ }
+    ensures { λ r. ⌜ Whole width (basis .0) (now (fingerprints .entry)) (now (parents .entry)) (now (codes .entry)) (built width (basis .0) limit entries) (now (fingerprints .exit)) (now (parents .exit)) (now (codes .exit)) (r .count) (r .depth) (r .saturated) ⌝ }
+{
+    let mut gates: [u32; 105] = [0; 105];
+    let size = generators::library_gates(width, basis, &mut gates);
+    let n = width as usize;
+    let one = UnitaryMatrix::identity(n);
+    let data = one.data;
+    fingerprints[0] = prints::unitary_fingerprint(&data, n, 0);
+    parents[0] = MARK;
+    codes[0] = MARK;
+    if size == 0 {
+        return WidthTable {
+            count: 1,
+            depth: 0,
+            saturated: false,
+        };
+    }
+    deepen_all(
+        width,
+        basis.bits(),
+        &gates[0..size],
+        fingerprints,
+        parents,
+        codes,
+        limit,
+        entries,
+    )
+}

@@ -1,5 +1,5 @@
 // The table of one width: node 0, then depth by depth each node of the last layer tries each generator. murm.rs of the original,
-// `build_width_table`. The matrix of a node is formed once from its list, and each generator is tried on a copy of it.
+// `Murm::build`, the part for one width. The matrix of a node is formed once from its list, and each generator is tried on a copy of it.
 ghost use mathlib.Core.Path.{_≡_};
 ghost use mathlib.Core.Bool.{true, false};
 ghost use Prim.Native.Nat.{ℕ, suc, _-_, _<_, _≤_};

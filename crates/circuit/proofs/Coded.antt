@@ -1,8 +1,13 @@
--- A code and its parts: each gives the other back. Assumes nothing.
-use mathlib.Core.Path.{_≡_}
+-- A code and its parts: each gives the other back. Codes of a basis are valid. Assumes nothing.
+use mathlib.Core.Path.{_≡_, refl}
+use mathlib.Core.Bool.{true}
+use mathlib.Core.List.{List, [], _∷_}
 use Prim.Native.Nat.{ℕ, _<_}
 use native.Mathlib.Omega.{arith}
-use Rattle.circuit.specs.Codes.{codeOf, kindNumber, first, second, third}
+use Rattle.ints.specs.Lists.{all}
+use Rattle.ints.proofs.Bools.{and-both, and-right, both-true}
+use Rattle.circuit.specs.Sets.{member}
+use Rattle.circuit.specs.Codes.{codeOf, kindNumber, first, second, third, valid, validFor}
 
 pub code-whole : (g : ℕ) → codeOf (kindNumber g) (first g) (second g) (third g) ≡ g
 code-whole g = omega arith
@@ -19,3 +24,11 @@ module _ (k a b c : ℕ) (ha : a < 16) (hb : b < 16) (hc : c < 16) where
 
   pub code-third : third (codeOf k a b c) ≡ c
   code-third = omega arith
+
+-- codes of a basis are valid
+pub basis-valid : (n basis : ℕ) (l : List ℕ) → all (validFor n basis) l ≡ true → all (valid n) l ≡ true
+unfolding all validFor
+basis-valid n basis [] h = refl
+basis-valid n basis (g ∷ l) h =
+    let t = both-true (validFor n basis g) (all (validFor n basis) l) h in
+    and-both (valid n g) (all (valid n) l) (and-right (member basis (kindNumber g)) (valid n g) (t .0)) (basis-valid n basis l (t .1))

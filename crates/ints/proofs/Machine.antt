@@ -1,17 +1,19 @@
 -- A signed integer's range, in the terms of `Int`: what a cast, a sum, a difference or a negation of signed numbers asks.
 -- Assumes nothing.
 use mathlib.Core.Path.{_≡_, refl, ap, _∙_}
+use mathlib.Core.Bool.{true}
 use mathlib.Core.List.{List}
 use Prim.Native.Nat.{ℕ, zero, suc, _+_, _^_, _<_, _≤_}
 use native.Mathlib.Omega.{arith}
-use lib.IntN.{ℤ, pos, negsuc, natAbs, negℤ}
-use lib.Signed.{mag}
+use borrow.Author.Tests.{ltb-true}
+use lib.IntN.{ℤ, pos, negsuc, natAbs, negℤ, subℕ, _-ℤ_}
+use lib.Signed.{mag, ltZ}
 use lib.Pow.{pow-pos}
 use mir.Syntax.{Width}
 use mir.Val.{SFits, hbits, toZ, ofZ}
 use mir.Facts.{toZ-ofZ, sfits-widen}
 use lib.Dec.{T, leb}
-use Rattle.ints.proofs.Int.{Ex, up, dn, ups, dns, value, sound}
+use Rattle.ints.proofs.Int.{Ex, up, dn, ups, dns, value, sound, sub-is, same-is}
 
 -- z is at least −H and below H
 pub record Within (H : ℕ) (z : ℤ) : Type 0 where
@@ -53,3 +55,8 @@ pub abs-neg : (z : ℤ) → natAbs (negℤ z) ≡ natAbs z
 abs-neg (pos zero) = refl
 abs-neg (pos (suc n)) = refl
 abs-neg (negsuc n) = refl
+
+-- a number below 0 is −(n + 1), and −1 less it is n
+pub minus-one-less : (x : ℤ) → ltZ x (pos 0) ≡ true → negsuc 0 -ℤ x ≡ pos (mag x)
+minus-one-less (pos n) h = absurd (omega (arith, ltb-true n 0 h))
+minus-one-less (negsuc n) h = same-is (subℕ (suc n) 1) (pos n) (omega (arith, sub-is (suc n) 1))

@@ -25,11 +25,15 @@ use Rattle.matrix.specs.Step.{Holds, Ready, Stepped}
 use Rattle.matrix.specs.declared.Applied.{Applied}
 use Rattle.matrix.specs.declared.Applied.the-variants.{Done, DoesNotFit}
 use Rattle.lists.specs.Walk.{HoldsProduct, Ended}
+use Rattle.lists.specs.declared.Walked.{Walked}
 use Rattle.lists.specs.declared.Walked.the-variants.{Fits, UnfitAt}
 
 -- the answer is known by an equation
 pub at-answer : {n k : ℕ} {g : Gate} {l l′ : List ℤ} {r s : Applied} → r ≡ s → Stepped n k g l l′ r → Stepped n k g l l′ s
 at-answer {n} {k} {g} {l} {l′} e w = subst (λ (x : Applied). Stepped n k g l l′ x) e w
+
+pub ended-at : {n : ℕ} {codes : List ℕ} {l : List ℤ} {r s : Walked} → r ≡ s → Ended n codes l r → Ended n codes l s
+ended-at {n} {codes} {l} e w = subst (λ (x : Walked). Ended n codes l x) e w
 
 -- i steps later
 abbrev later : ℕ → Steps → Steps

@@ -10,7 +10,7 @@ use lib.Dec.{eqb}
 use lib.ListN.{getD}
 use borrow.Author.Tests.{eq-eqb, ne-eqb, eqb-true, eqb-false}
 use Rattle.ints.specs.Lists.{pick}
-use Rattle.synthesis_arena.specs.Lookup.{Lookup, found, none, lowestOf, lowestFrom, Lowest, Nowhere, LooksUp}
+use Rattle.synthesis_arena.specs.Lookup.{Lookup, found, none, lowestOf, lowestFrom, LowestNode, Nowhere, LooksUp}
 
 -- ---- one node of the scan
 
@@ -37,7 +37,7 @@ module _ (fps : List ℕ) (count i f : ℕ) where
 
 module _ (fps : List ℕ) (count from f : ℕ) where
   abbrev Says : Lookup → Type 0
-  Says (found node) = Lowest fps count from f node
+  Says (found node) = LowestNode fps count from f node
   Says none = Nowhere fps count from f
 
   -- none of the nodes from the start to below i has the fingerprint

@@ -5,7 +5,7 @@ use Prim.Native.Nat.{ℕ}
 use native.Mathlib.Omega.{arith}
 use lib.ListN.{length, take, drop}
 use lib.Seq.{take-at, drop-at}
-use Rattle.synthesis_arena.specs.Lookup.{lowestFrom, toldFound, Lowest, Nowhere}
+use Rattle.synthesis_arena.specs.Lookup.{lowestFrom, toldFound, LowestNode, Nowhere}
 use Rattle.exact.specs.Answers.{given, refused}
 use Rattle.synthesis_arena.specs.Chains.{Chain, good, bad, chainOf, Outcome, outcome, circuitOf, toldCircuit, Gates}
 use Rattle.synthesis_arena.specs.declared.Found.{Found}
@@ -18,7 +18,7 @@ use Rattle.synthesis_arena.proofs.Chaining.{gates-of}
 -- ---- of `node_for`
 
 module _ (fps : List ℕ) (count from f : ℕ) {r : Found} (told : toldFound r ≡ lowestFrom fps count from f) where
-  pub found-lowest : {node : ℕ} → r ≡ At node → Lowest fps count from f node
+  pub found-lowest : {node : ℕ} → r ≡ At node → LowestNode fps count from f node
   found-lowest {node} e = looks-up fps count from f .is-found node .0 (sym told ∙ ap toldFound e)
 
   pub found-nowhere : r ≡ NotFound → Nowhere fps count from f

@@ -29,7 +29,7 @@ toldFound (At node) = found node
 toldFound NotFound = none
 
 -- a node has the fingerprint, is below the count and not below the start, and none before it has
-pub record Lowest (fingerprints : List ℕ) (count from fingerprint node : ℕ) : Type 0 where
+pub record LowestNode (fingerprints : List ℕ) (count from fingerprint node : ℕ) : Type 0 where
   pub has : getD fingerprints node 0 ≡ fingerprint
   pub below : node < count
   pub not-before : from ≤ node
@@ -41,5 +41,5 @@ pub record Nowhere (fingerprints : List ℕ) (count from fingerprint : ℕ) : Ty
 
 -- the definition, said of nodes
 pub record LooksUp (fingerprints : List ℕ) (count from fingerprint : ℕ) : Type 0 where
-  pub is-found : (node : ℕ) → (lowestFrom fingerprints count from fingerprint ≡ found node) ↔ Lowest fingerprints count from fingerprint node
+  pub is-found : (node : ℕ) → (lowestFrom fingerprints count from fingerprint ≡ found node) ↔ LowestNode fingerprints count from fingerprint node
   pub is-none : (lowestFrom fingerprints count from fingerprint ≡ none) ↔ Nowhere fingerprints count from fingerprint

@@ -10,7 +10,7 @@ use circuit::GateSet;
 use circuit::LibraryGate;
 
 // "Its parent and gate both read 4294967295."
-const MARK: u32 = 4294967295;
+pub const MARK: u32 = 4294967295;
 
 // A node with a fingerprint, or that there is none.
 pub enum Found {

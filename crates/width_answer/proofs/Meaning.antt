@@ -10,7 +10,7 @@ use Rattle.exact.specs.Lists.{product}
 use Rattle.exact.specs.Fits.{Steps, allFit, unfitAt, steps}
 use Rattle.exact.specs.Phase.{upToPhase}
 use Rattle.exact.specs.Fingerprint.{fingerprint}
-use Rattle.synthesis_arena.specs.Lookup.{Lookup, found, lowestFrom, Lowest}
+use Rattle.synthesis_arena.specs.Lookup.{Lookup, found, lowestFrom, LowestNode}
 use Rattle.synthesis_arena.specs.Lookup as lookup
 use Rattle.synthesis_arena.specs.Chains.{Chain, good, bad, chainOf, Gates}
 use Rattle.synthesis_arena.proofs.Lookups.{looks-up}
@@ -63,7 +63,7 @@ module _ (fps parents codes : List ℕ) (count n basis limit : ℕ) (x : Exact) 
 
     -- ---- from what holds to the answer
 
-    at-node : {node : ℕ} → Lowest fps count 0 (fingerprint n x) node → {k : Chain} → chainOf n basis parents codes limit node ≡ k → answer ≡ ofChain n x out k
+    at-node : {node : ℕ} → LowestNode fps count 0 (fingerprint n x) node → {k : Chain} → chainOf n basis parents codes limit node ≡ k → answer ≡ ofChain n x out k
     unfolding answerOf
     at-node {node} w e = rw (looks-up fps count 0 (fingerprint n x) .is-found node .1 w, e)
 
@@ -94,7 +94,7 @@ module _ (fps parents codes : List ℕ) (count n basis limit : ℕ) (x : Exact) 
         by lookup.none e = no-list (not-found (looks-up fps count 0 (fingerprint n x) .is-none .0 e))
         by (found node) e = at (chainOf n basis parents codes limit node) refl
           where
-            w : Lowest fps count 0 (fingerprint n x) node
+            w : LowestNode fps count 0 (fingerprint n x) node
             w = looks-up fps count 0 (fingerprint n x) .is-found node .0 e
 
             at : (k : Chain) → chainOf n basis parents codes limit node ≡ k → View

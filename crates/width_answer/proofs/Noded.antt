@@ -14,7 +14,7 @@ use Rattle.synthesis_arena.specs.declared.NodeCircuit.{NodeCircuit}
 use Rattle.synthesis_arena.specs.declared.NodeCircuit.the-variants.{Length, Bad}
 use Rattle.synthesis_arena.proofs.Told.{circuit-read, circuit-refused}
 use Rattle.width_answer.specs.Answers.{rechecked, given, none, refused, outcome, ofChain}
-use Rattle.width_answer.proofs.Rechecked.{valid-all}
+use Rattle.circuit.proofs.Coded.{basis-valid}
 
 -- the part of an array from 0 up to m, as the code takes it
 abbrev part : ℕ → List ℕ → List ℕ
@@ -41,7 +41,7 @@ module _ (n basis : ℕ) (parents codes : List ℕ) (limit node : ℕ) where
           short = omega (arith, w .size, w .gates .short);
           size = z;
           within = omega (arith, z, length-take (m - 0) new);
-          all-valid = ap (all (valid n)) first ∙ valid-all n basis (w .list) (w .gates .valid);
+          all-valid = ap (all (valid n)) first ∙ basis-valid n basis (w .list) (w .gates .valid);
         }
 
     pub node-bad : r ≡ Bad → (x : Exact) (out : List ℕ) → outcome (refused 13 0) out ≡ ofChain n x out (chainOf n basis parents codes limit node)

@@ -5,10 +5,7 @@ use mathlib.Core.List.{List, [], _∷_}
 use mathlib.Core.Logic.{_↔_}
 use Prim.Native.Nat.{ℕ}
 use lib.IntN.{ℤ}
-use Rattle.ints.specs.Lists.{all}
 use Rattle.ints.proofs.Bools.{clash, iff, both-true, and-both}
-use Rattle.circuit.specs.Codes.{valid, validFor, kindNumber}
-use Rattle.circuit.specs.Sets.{member}
 use Rattle.exact.specs.Matrix.{Exact, Equal}
 use Rattle.exact.specs.Lists.{product}
 use Rattle.exact.specs.Fits.{Steps, allFit, unfitAt, steps}
@@ -20,15 +17,6 @@ use Rattle.exact.proofs.Values.{equal-sym}
 use Rattle.places.specs.Places.{held}
 use Rattle.lists.specs.Walk.{HoldsProduct}
 use Rattle.width_answer.specs.Answers.{fitsAll, rechecked}
-
--- ---- codes of a basis are valid
-
-pub valid-all : (n basis : ℕ) (l : List ℕ) → all (validFor n basis) l ≡ true → all (valid n) l ≡ true
-unfolding all validFor
-valid-all n basis [] h = refl
-valid-all n basis (g ∷ l) h =
-    let t = both-true (validFor n basis g) (all (validFor n basis) l) h in
-    and-both (valid n g) (all (valid n) l) (both-true (member basis (kindNumber g)) (valid n g) (t .0) .1) (valid-all n basis l (t .1))
 
 -- ---- the test sees equal matrices alike
 

@@ -13,7 +13,7 @@ use Rattle.exact.specs.Fits.{Steps, allFit, unfitAt, steps}
 use Rattle.exact.specs.Phase.{upToPhase}
 use Rattle.exact.specs.Unitary.{Unitary}
 use Rattle.exact.specs.Fingerprint.{fingerprint}
-use Rattle.synthesis_arena.specs.Lookup.{Lookup, found, lowestFrom, Lowest, Nowhere}
+use Rattle.synthesis_arena.specs.Lookup.{Lookup, found, lowestFrom, LowestNode, Nowhere}
 use Rattle.synthesis_arena.specs.Lookup as lookup
 use Rattle.synthesis_arena.specs.Chains.{Chain, good, bad, chainOf, Fault, Gates}
 use Rattle.width_answer.specs.declared.Answered.{Answered}
@@ -75,7 +75,7 @@ module _ (fingerprints parents codes : List ℕ) (count n basis limit : ℕ) (x 
   -- a node is the lowest with the fingerprint of x, its walk gives the list, every step fits, and the product is equal up to phase to x
   pub record Answers (l : List ℕ) : Type 0 where
     pub node : ℕ
-    pub lowest : Lowest fingerprints count 0 (fingerprint n x) node
+    pub lowest : LowestNode fingerprints count 0 (fingerprint n x) node
     pub gates : Gates n basis limit parents codes node l
     pub fits : steps n l ≡ allFit
     pub equal : upToPhase n (product n l) x ≡ true
@@ -83,13 +83,13 @@ module _ (fingerprints parents codes : List ℕ) (count n basis limit : ℕ) (x 
   -- no node has the fingerprint, or the list of the lowest that has "doesn't fit or is not equal up to phase"
   pub data NoList : Type 0 where
     not-found : Nowhere fingerprints count 0 (fingerprint n x) → NoList
-    does-not-fit : (node i : ℕ) (l : List ℕ) → Lowest fingerprints count 0 (fingerprint n x) node → Gates n basis limit parents codes node l → steps n l ≡ unfitAt i → NoList
-    not-equal : (node : ℕ) (l : List ℕ) → Lowest fingerprints count 0 (fingerprint n x) node → Gates n basis limit parents codes node l → upToPhase n (product n l) x ≡ false → NoList
+    does-not-fit : (node i : ℕ) (l : List ℕ) → LowestNode fingerprints count 0 (fingerprint n x) node → Gates n basis limit parents codes node l → steps n l ≡ unfitAt i → NoList
+    not-equal : (node : ℕ) (l : List ℕ) → LowestNode fingerprints count 0 (fingerprint n x) node → Gates n basis limit parents codes node l → upToPhase n (product n l) x ≡ false → NoList
 
   -- the walk from the lowest node with the fingerprint meets a fault
   pub record BadFound : Type 0 where
     pub node : ℕ
-    pub lowest : Lowest fingerprints count 0 (fingerprint n x) node
+    pub lowest : LowestNode fingerprints count 0 (fingerprint n x) node
     pub fault : Fault n basis limit parents codes node
 
   -- the definition, said by these: what is answered, and what the lent list then holds

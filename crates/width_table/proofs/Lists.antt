@@ -10,8 +10,8 @@ use lib.ListN.{length, getD, take}
 use lib.IntN.{ℤ}
 use Rattle.ints.specs.Lists.{all}
 use Rattle.ints.proofs.Bools.{and-both, and-right, and-left, clash}
-use Rattle.circuit.specs.Sets.{member}
-use Rattle.circuit.specs.Codes.{kindNumber, valid, validFor, mark}
+use Rattle.circuit.specs.Codes.{valid, validFor, mark}
+use Rattle.circuit.proofs.Coded.{basis-valid}
 use Rattle.generators.proofs.Generated.{lists}
 use Rattle.exact.specs.Matrix.{Exact, Equal, Lowest}
 use Rattle.exact.specs.Lists.{product}
@@ -41,14 +41,6 @@ use Rattle.walk.proofs.Exactly.{product-is}
 use Rattle.walk.proofs.Rechecks.{recheck-exactly}
 use Rattle.width_table.specs.Table.{Live, Readable}
 use Rattle.width_table.proofs.Tries.{live-count, live-lengths, gate-at, parent-at}
-
--- codes of a basis are valid
-pub codes-valid : (n basis : ℕ) (l : List ℕ) → all (validFor n basis) l ≡ true → all (valid n) l ≡ true
-unfolding all validFor
-codes-valid n basis [] h = refl
-codes-valid n basis (g ∷ l) h =
-    and-both (valid n g) (all (valid n) l) (and-right (member basis (kindNumber g)) (valid n g) (and-left (validFor n basis g) (all (validFor n basis) l) h))
-    (codes-valid n basis l (and-right (validFor n basis g) (all (validFor n basis) l) h))
 
 module _ (n basis : ℕ) (small : n ≤ 5) where
   -- every step of a list that the walk has fits
@@ -168,7 +160,7 @@ module _ {n basis : ℕ} {u c : List ℕ} {node : ℕ} (h : Readable n basis u c
     read-is = part ∙ ap listOf (sym (r .is) ∙ h .chain)
 
     pub read-valid : all (valid n) (take (m - 0) new) ≡ true
-    read-valid = subst (λ (z : List ℕ). all (valid n) z ≡ true) (sym part) (codes-valid n basis (r .list) (r .gates .valid))
+    read-valid = subst (λ (z : List ℕ). all (valid n) z ≡ true) (sym part) (basis-valid n basis (r .list) (r .gates .valid))
 
     pub read-fits : {l : List ℤ} {k : ℕ} → Ended n (take (m - 0) new) l (Fits k)
         → IsMatrix n (product n (h .list) .k) (record { «num_qubits» = n; «denominator_exponent» = k; «data» = l }) (product n (h .list))

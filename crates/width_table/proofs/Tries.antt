@@ -22,7 +22,7 @@ use Rattle.exact.proofs.Prints.{fingerprint-equal}
 use Rattle.ints.specs.Lists.{pick}
 use Rattle.cyclotomic.specs.Told.{doesNotFit}
 use Rattle.ints.proofs.Bools.{clash}
-use Rattle.synthesis_arena.specs.Lookup.{Lowest, Nowhere}
+use Rattle.synthesis_arena.specs.Lookup.{LowestNode, Nowhere}
 use Rattle.walk.specs.Walk.{Node, State, any, root, gate, listAt, parentAt, prod, pruned, knows, candidate, skipped, child, try}
 use Rattle.walk.specs.AtWidth.{samePrint, fitsBy, atWidth}
 use Rattle.walk.specs.Grown.{Link}
@@ -152,7 +152,7 @@ module _ {n basis E : ℕ} {f u c : List ℕ} {count k top : ℕ} (h : Live n ba
       at-known j l e =
           column-at (h .columns .prints) (h .columns .count-is) j (omega (arith, h .columns .count-is)) ∙ eqb-true _ _ e ∙ sym ey
 
-      pub skip-found : R-pruned ≡ false → R-fits ≡ true → (j : ℕ) → Lowest f count 0 y j → skipped (atWidth n basis) (h .ns) k g ≡ true
+      pub skip-found : R-pruned ≡ false → R-fits ≡ true → (j : ℕ) → LowestNode f count 0 y j → skipped (atWidth n basis) (h .ns) k g ≡ true
       skip-found e q j w =
           skip-by e q true (any-at (knows (atWidth n basis) (candidate (atWidth n basis) (h .ns) k g)) root (h .ns) j
           (omega (arith, w .below, h .columns .count-is)) (known-at j (w .below) (w .has)))

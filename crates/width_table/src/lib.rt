@@ -20,10 +20,8 @@ use lists::Walked;
 use matrix::Applied;
 use matrix::UnitaryMatrix;
 use synthesis_arena::Found;
+use synthesis_arena::MARK;
 use synthesis_arena::NodeCircuit;
-
-// "Its parent and gate both read 4294967295."
-const MARK: u32 = 4294967295;
 
 // The fingerprint of a candidate, or that it does not fit.
 pub enum Candidate {

@@ -1,22 +1,18 @@
 -- `size` meets its contract: below 0 the number is −(n + 1) with n = −1 − x, and its size is n + 1. Assumes nothing.
 use mathlib.Core.Bool.{true, false}
 use mathlib.Core.Path.{_≡_}
-use Prim.Native.Nat.{ℕ, suc, _+_, _<_, _^_}
+use Prim.Native.Nat.{ℕ, _+_, _<_, _^_}
 use native.Mathlib.Omega.{arith}
 use borrow.Author.Tests.{ltb-true}
 use lib.Dec.{T}
-use lib.IntN.{ℤ, pos, negsuc, natAbs, subℕ, _-ℤ_}
+use lib.IntN.{ℤ, pos, negsuc, natAbs, _-ℤ_}
 use lib.Signed.{mag, ltZ, nonNeg}
 use mir.Facts.{toZ-ofZ}
 use mir.Syntax.{w32, w64}
 use mir.Val.{SFits, Fits, hbits, toZ, ofZ}
-use Rattle.ints.proofs.Int.{sub-is, same-is}
+use Rattle.ints.proofs.Machine.{minus-one-less}
 use Rattle.circuits_text.proofs.size.Statement.{statement}
 use Rattle.circuits_text.proofs.size.Tie as tie
-
-minus : (x : ℤ) → ltZ x (pos 0) ≡ true → negsuc 0 -ℤ x ≡ pos (mag x)
-minus (pos n) h = absurd (omega (arith, ltb-true n 0 h))
-minus (negsuc n) h = same-is (subℕ (suc n) 1) (pos n) (omega (arith, sub-is (suc n) 1))
 
 negative : (x : ℤ) → ltZ x (pos 0) ≡ true → mag x + 1 ≡ natAbs x
 negative (pos n) h = absurd (omega (arith, ltb-true n 0 h))
@@ -31,7 +27,7 @@ module _ (c : tie.Then1) where
   below = rw (toZ-ofZ (c .before .fits .x)) at (c .if1 .taken)
 
   number : negsuc 0 -ℤ toZ w32 (ofZ w32 (c .before .args .x)) ≡ pos (mag (c .before .args .x))
-  number = rw (toZ-ofZ (c .before .fits .x)) (minus (c .before .args .x) below)
+  number = rw (toZ-ofZ (c .before .fits .x)) (minus-one-less (c .before .args .x) below)
 
   fits : SFits w32 (pos (mag (c .before .args .x)))
   fits = record { sfits = c .before .fits .x .sfits }

@@ -9,8 +9,7 @@ use lib.ListN.{length, take}
 use borrow.Author.Needs.{needs}
 use Rattle.places.proofs.Placed.{area-le}
 use Rattle.exact.specs.Answers.{refused}
-use Rattle.lists.specs.Walk.{Ended}
-use Rattle.lists.specs.declared.Walked.{Walked}
+use Rattle.lists.proofs.Walking.{ended-at}
 use Rattle.murm.specs.Entries.{byteCount, firstInvalid, outcome}
 use Rattle.murm.proofs.Bytes.{byte-count}
 use Rattle.murm.proofs.Checks.{all-valid}
@@ -52,13 +51,9 @@ apply-gates-requires c κs =
     let e = c .before .before .before in
     (sized (e .before .before .before) .0, (all-valid _ _ (codes-valid e), c .before .before .identity .ensures .0 .holds))
 
--- how the list ended, where the answer is known
-ended : {n : ℕ} {codes : List ℕ} {l : List ℤ} {r s : Walked} → r ≡ s → Ended n codes l r → Ended n codes l s
-ended {n} {codes} {l} e w = subst (λ (x : Walked). Ended n codes l x) e w
-
 part-copy-places-end : tie.Need-part-copy-places-end
 part-copy-places-end c =
-    let w = ended (c .before .before .before .k .given .1) (c .before .before .before .before .before .apply-gates .ensures .0) in
+    let w = ended-at (c .before .before .before .k .given .1) (c .before .before .before .before .before .apply-gates .ensures .0) in
     let a = c .before .before .before .before .before .before .before .before .before .before .before .before in
     omega (arith, w .end .long, a .area .ensures, area-le (a .before .before .before .args .width) (sized a .0))
 
@@ -66,7 +61,7 @@ returns-4 : tie.Need-returns-4
 returns-4 c =
     let e = c .before .before .before .before .before .before .before .before .before .before .before .before in
     let s = e .before .before .before .before .before .before .args in
-    let w = ended (c .before .before .before .before .before .before .k .given .1) (c .before .before .before .before .before .before .before .before .apply-gates .ensures .0) in
+    let w = ended-at (c .before .before .before .before .before .before .k .given .1) (c .before .before .before .before .before .before .before .before .apply-gates .ensures .0) in
     let l = c .before .before .before .before .before .before .before .before .apply-gates .last .0 in
     let a = e .before .before .before in
     let size : 4 * (a .area .result) - 0 ≡ byteCount (s .width) = omega (arith, sized a .1) in
@@ -76,7 +71,7 @@ returns-4 c =
 returns-5 : tie.Need-returns-5
 returns-5 c =
     let s = c .before .before .before .before .before .before .before .before .before .before .before .before .before .args in
-    let w = ended (c .before .j .given .1) (c .before .before .before .apply-gates .ensures .0) in
+    let w = ended-at (c .before .j .given .1) (c .before .before .before .apply-gates .ensures .0) in
     let e = c .before .before .before .before .before .before .before in
     list-8 (s .width) (s .codes .now) (s .out .now) (sized (e .before .before .before) .0) (exact (e .before .before)) (codes-valid e) _ (w .answer)
 

@@ -7,15 +7,10 @@ use lib.IntN.{ℤ}
 use borrow.Author.Needs.{needs}
 use Rattle.places.specs.Places.{places}
 use Rattle.places.proofs.Placed.{area-le}
-use Rattle.lists.specs.Walk.{Ended}
-use Rattle.lists.specs.declared.Walked.{Walked}
+use Rattle.lists.proofs.Walking.{ended-at}
 use Rattle.width_answer.proofs.Rechecked.{recheck-test, recheck-unfit}
 use Rattle.width_answer.proofs.recheck.Statement.{statement}
 use Rattle.width_answer.proofs.recheck.Tie as tie
-
--- how the list ended, where the answer is known
-ended : {n : ℕ} {codes : List ℕ} {l : List ℤ} {r s : Walked} → r ≡ s → Ended n codes l r → Ended n codes l s
-ended {n} {codes} {l} e w = subst (λ (x : Walked). Ended n codes l x) e w
 
 -- the matrix is all there
 whole : (n size : ℕ) → n ≤ 5 → size ≡ places → 4 * (2 ^ n * 2 ^ n) ≤ size
@@ -23,23 +18,23 @@ whole n size h e = omega (arith, area-le n h)
 
 slice-aggregate-equivalent-up-to-global-phase : tie.Need-slice-aggregate-equivalent-up-to-global-phase
 slice-aggregate-equivalent-up-to-global-phase c =
-    let w = ended (c .before .before .k .given .1) (c .before .before .before .before .apply-gates .ensures .0) in
+    let w = ended-at (c .before .before .k .given .1) (c .before .before .before .before .apply-gates .ensures .0) in
     sym (w .end .long)
 
 equivalent-up-to-global-phase-requires : tie.Need-equivalent-up-to-global-phase-requires
 equivalent-up-to-global-phase-requires c κs =
-    let w = ended (c .before .before .k .given .1) (c .before .before .before .before .apply-gates .ensures .0) in
+    let w = ended-at (c .before .before .k .given .1) (c .before .before .before .before .apply-gates .ensures .0) in
     let p = c .before .before .before .before .before .before .before .before .before .pre in
     (p .0, ((whole _ _ (p .0) (w .end .long), p .1 .1 .0), (w .end .small, p .1 .1 .1)))
 
 returns : tie.Need-returns
 returns c =
-    let w = ended (c .before .before .before .k .given .1) (c .before .before .before .before .before .apply-gates .ensures .0) in
+    let w = ended-at (c .before .before .before .k .given .1) (c .before .before .before .before .before .apply-gates .ensures .0) in
     recheck-test _ _ _ _ (w .answer) (w .end) (c .equivalent-up-to-global-phase .ensures)
 
 returns-2 : tie.Need-returns-2
 returns-2 c =
-    let w = ended (c .enum-told .given .1) (c .before .before .apply-gates .ensures .0) in
+    let w = ended-at (c .enum-told .given .1) (c .before .before .apply-gates .ensures .0) in
     recheck-unfit _ _ _ (w .answer)
 
 pub recheck-spec : {M : Type 1} → statement M

@@ -5,16 +5,11 @@ use Prim.Native.Nat.{ℕ}
 use native.Mathlib.Omega.{arith}
 use borrow.Author.Needs.{needs}
 use lib.IntN.{ℤ}
-use Rattle.lists.specs.Walk.{Ended}
-use Rattle.lists.specs.declared.Walked.{Walked}
+use Rattle.lists.proofs.Walking.{ended-at}
 use Rattle.synthesis_arena.proofs.Told.{circuit-read, circuit-refused}
 use Rattle.width_table.proofs.Lists.{chain-not-bad, read-valid, read-fits, read-not-unfit}
 use Rattle.width_table.proofs.node_matrix.Statement.{statement}
 use Rattle.width_table.proofs.node_matrix.Tie as tie
-
--- how the list ended, where the answer is known
-ended : {n : ℕ} {codes : List ℕ} {l : List ℤ} {r s : Walked} → r ≡ s → Ended n codes l r → Ended n codes l s
-ended {n} {codes} {l} e w = subst (λ (x : Walked). Ended n codes l x) e w
 
 returns : tie.Need-returns
 returns c h = absurd (chain-not-bad h (circuit-refused _ _ _ _ _ _ _ _ (c .before .before .before .circuit .ensures) (c .enum-told .given .1) .is-bad))
@@ -38,14 +33,14 @@ returns-2 c h =
     let g = c .before .before .before in
     let k = g .before .before .before .before .before .before in
     let r = circuit-read _ _ _ _ _ _ _ _ (k .before .before .before .circuit .ensures) (k .size .given .1) in
-    read-fits h r (ended (c .before .k .given .1) (g .apply-gates .ensures .0))
+    read-fits h r (ended-at (c .before .k .given .1) (g .apply-gates .ensures .0))
 
 returns-3 : tie.Need-returns-3
 returns-3 c h =
     let g = c .before .before in
     let k = g .before .before .before .before .before .before in
     let r = circuit-read _ _ _ _ _ _ _ _ (k .before .before .before .circuit .ensures) (k .size .given .1) in
-    absurd (read-not-unfit h r (ended (c .enum-told2 .given .1) (g .apply-gates .ensures .0)))
+    absurd (read-not-unfit h r (ended-at (c .enum-told2 .given .1) (g .apply-gates .ensures .0)))
 
 pub node-matrix-spec : {M : Type 1} → statement M
 node-matrix-spec =

@@ -1,24 +1,20 @@
 -- `sign_extended` meets its contract: below 0 the number is −(n + 1) with n = −1 − x, and its word is 2^64 − 1 − n. Assumes nothing.
 use mathlib.Core.Path.{_≡_}
 use mathlib.Core.Bool.{true, false}
-use Prim.Native.Nat.{ℕ, suc, _-_, _<_, _^_}
+use Prim.Native.Nat.{ℕ, _-_, _<_, _^_}
 use native.Mathlib.Omega.{arith}
 use borrow.Author.Tests.{ltb-true}
 use lib.Dec.{T}
-use lib.IntN.{ℤ, pos, negsuc, natAbs, subℕ, _-ℤ_}
+use lib.IntN.{ℤ, pos, negsuc, natAbs, _-ℤ_}
 use lib.Signed.{mag, ltZ, nonNeg}
 use mir.Syntax.{w64}
 use mir.Val.{SFits, Fits, hbits, toZ, ofZ}
 use mir.Facts.{toZ-ofZ}
-use Rattle.ints.proofs.Int.{sub-is, same-is}
+use Rattle.ints.proofs.Machine.{minus-one-less}
 use Rattle.cyclotomic.specs.Zomega.{near}
 use Rattle.words.specs.Words.{word}
 use Rattle.words.proofs.sign_extended.Statement.{statement}
 use Rattle.words.proofs.sign_extended.Tie as tie
-
-minus : (x : ℤ) → ltZ x (pos 0) ≡ true → negsuc 0 -ℤ x ≡ pos (mag x)
-minus (pos n) h = absurd (omega (arith, ltb-true n 0 h))
-minus (negsuc n) h = same-is (subℕ (suc n) 1) (pos n) (omega (arith, sub-is (suc n) 1))
 
 negative : (x : ℤ) → mag x < 2 ^ hbits near → ltZ x (pos 0) ≡ true → 18446744073709551615 - mag x ≡ word x
 unfolding word
@@ -39,7 +35,7 @@ module _ (c : tie.Then1) where
   below = rw (toZ-ofZ (c .before .fits .x)) at (c .if1 .taken)
 
   number : negsuc 0 -ℤ toZ near (ofZ near (c .before .args .x)) ≡ pos (mag (c .before .args .x))
-  number = rw (toZ-ofZ (c .before .fits .x)) (minus (c .before .args .x) below)
+  number = rw (toZ-ofZ (c .before .fits .x)) (minus-one-less (c .before .args .x) below)
 
   fits : SFits near (pos (mag (c .before .args .x)))
   fits = record { sfits = c .before .fits .x .sfits }

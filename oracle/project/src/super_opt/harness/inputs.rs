@@ -152,7 +152,8 @@ enum Style {
     Growing,
 }
 
-/// Random lists of every width and style, up to the most gates.
+/// Random lists of every width and style, up to the most gates. At width 0 no
+/// code is valid, so those are of codes of width 5.
 fn random() -> Vec<List> {
     let with_h = [0, 1, 3, 6, 10, 13, 16, 20, 26].map(Style::WithH);
     let styles = [&with_h[..], &[Style::Any, Style::Clifford, Style::Growing]].concat();
@@ -174,6 +175,10 @@ fn random() -> Vec<List> {
                 lists.push(list(width, random_codes(width, style, count, &mut random)));
             }
         }
+    }
+    for _ in 0..100 {
+        let count = random.below(MOST_GATES + 1);
+        lists.push(list(0, random_codes(5, Style::Any, count, &mut random)));
     }
     lists
 }

@@ -13,7 +13,8 @@ use Rattle.exact.specs.Answers.{given, refused, listAnswer}
 use Rattle.exact.specs.Fingerprint.{fingerprint}
 use Rattle.places.specs.Places.{read, held}
 use Rattle.matrix.specs.Step.{Holds}
-use Rattle.murm.specs.Entries.{byteCount, firstInvalid, anyBelow, coefficients, outcome, listed, fingerprinted}
+use Rattle.tables.specs.Checks.{byteCount, anyBelow}
+use Rattle.murm.specs.Entries.{firstInvalid, coefficients, outcome, listed, fingerprinted}
 use Rattle.murm.proofs.Bytes.{places-are}
 
 module _ (n : ℕ) (codes : List ℕ) (bytes : List ℤ) where

@@ -18,7 +18,8 @@ use Rattle.exact.proofs.Phases.{row-lt, col-lt, flat-lt, at-flat}
 use Rattle.places.specs.Places.{entry, read, held}
 use Rattle.places.proofs.Placed.{area-le, read-at, at-small}
 use Rattle.matrix.specs.Step.{Holds}
-use Rattle.murm.specs.Entries.{byteCount, bytesOf, coefficients}
+use Rattle.tables.specs.Checks.{byteCount}
+use Rattle.murm.specs.Entries.{bytesOf, coefficients}
 
 -- ---- sizes
 

@@ -18,7 +18,8 @@ use Rattle.ints.proofs.Bools.{clash, and-left, and-right, or-false, or-assoc, n
 use Rattle.ints.proofs.Machine.{range}
 use Rattle.cyclotomic.specs.Zomega.{limit, near, eqZ}
 use Rattle.circuit.specs.Codes.{valid}
-use Rattle.murm.specs.Entries.{firstInvalid, anyBelow}
+use Rattle.tables.specs.Checks.{anyBelow}
+use Rattle.murm.specs.Entries.{firstInvalid}
 use Rattle.murm.specs.Work.{PastLimit, InRange}
 
 -- ---- codes: the first i are valid

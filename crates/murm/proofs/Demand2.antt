@@ -23,7 +23,8 @@ use Rattle.exact.proofs.Keeps.{equal-lowest}
 use Rattle.exact.proofs.TooLarge.{too-large-exactly}
 use Rattle.exact.proofs.Answered.{isGiven, number, refused-list, list-refused}
 use Rattle.places.specs.Places.{held}
-use Rattle.murm.specs.Entries.{Outcome, outcome, byteCount, firstInvalid, formed, listed}
+use Rattle.tables.specs.Checks.{byteCount}
+use Rattle.murm.specs.Entries.{Outcome, outcome, firstInvalid, formed, listed}
 use Rattle.murm.specs.Demands.{Demand2}
 use Rattle.murm.proofs.Bytes.{coefficients-held}
 use Rattle.murm.proofs.Checks.{valid-first}

@@ -13,7 +13,8 @@ use Rattle.exact.specs.Paper.{paperProduct}
 use Rattle.exact.specs.Fits.{FirstPast}
 use Rattle.exact.specs.Answers.{given, refused}
 use Rattle.places.specs.Places.{held}
-use Rattle.murm.specs.Entries.{outcome, byteCount, listed}
+use Rattle.tables.specs.Checks.{byteCount}
+use Rattle.murm.specs.Entries.{outcome, listed}
 
 -- Demand 2, its first half: "a list's matrix is its exact product in lowest denominator, refused as too large exactly where a step passes
 -- 127". The last is said of a width, bytes and codes that no earlier row refuses, and of the first such step

@@ -15,26 +15,28 @@ use Rattle.exact.specs.Answers.{Answer, given, refused, listAnswer}
 use Rattle.exact.specs.Phase.{flat}
 use Rattle.exact.specs.Fingerprint.{fingerprint}
 use Rattle.places.specs.Places.{read, held}
+use Rattle.width_answer.specs.Answers.{Reply}
+use Rattle.width_answer.specs.Answers as a
+use Rattle.tables.specs.Checks.{byteCount, firstRow, queryRows, Arrays}
+use Rattle.tables.specs.Tables.{Table, BuildReply, table, refusal, Query, listRow, repliedBy}
+use Rattle.murm_config.specs.Told.{toldMurm}
 use Rattle.murm.specs.declared.Listed.{Listed}
 use Rattle.murm.specs.declared.Listed.the-variants as l
 use Rattle.murm.specs.declared.Fingerprinted.{Fingerprinted}
 use Rattle.murm.specs.declared.Fingerprinted.the-variants as f
+use Rattle.murm.specs.declared.QueryCheck.{QueryCheck}
+use Rattle.murm.specs.declared.QueryCheck.the-variants as q
+use Rattle.murm.specs.declared.Building.{Building}
+use Rattle.murm.specs.declared.Building.the-variants as b
+use Rattle.murm.specs.declared.Synthesized.{Synthesized}
+use Rattle.murm.specs.declared.Synthesized.the-variants as s
 
 -- ---- sizes and tests of document 01's table "Checked, and where"
-
--- "exactly 4 × 4^n"
-abbrev pub byteCount : ℕ → ℕ
-byteCount n = 4 * 4 ^ n
 
 -- the position of the first code that is not valid; the number of codes if all are
 abbrev pub firstInvalid : ℕ → List ℕ → ℕ
 firstInvalid n [] = 0
 firstInvalid n (g ∷ l) = pick (valid n g) (suc (firstInvalid n l)) 0
-
--- "a coefficient of -128": one below the limit's negative
-unfoldable pub anyBelow : List ℤ → Bool
-anyBelow [] = false
-anyBelow (x ∷ l) = eqZ x (negsuc limit) || anyBelow l
 
 -- ---- "a list becomes a matrix"
 
@@ -77,14 +79,20 @@ toldListed (l.DoesNotFit i) = refused 8 i
 
 -- ---- the fingerprint of a matrix that may be asked of a table
 
--- The query's rows 6, 9, 10, 11 are tried in this order
+-- a query's rows, each with its number
+abbrev pub toldQueryCheck : QueryCheck → ℕ
+toldQueryCheck q.Allowed = 0
+toldQueryCheck q.WidthTooLarge = 6
+toldQueryCheck q.LengthNotExact = 9
+toldQueryCheck q.OutOfRange = 10
+toldQueryCheck q.NotLowest = 11
+
+-- by the number of the first row that holds
+abbrev pub printedBy : ℕ → ℕ → List ℤ → ℕ → Answer
+printedBy n k bytes r = pick (eqb r 0) (given (fingerprint n (held n k bytes))) (refused r 0)
+
 unfoldable pub fingerprinted : ℕ → ℕ → List ℤ → Answer
-fingerprinted n k bytes =
-    pick (ltb 5 n) (refused 6 0)
-    (pick (eqb (length bytes) (byteCount n))
-    (pick (anyBelow bytes) (refused 10 0)
-    (pick (ltb 0 k && allDivisible n (read n bytes)) (refused 11 0) (given (fingerprint n (held n k bytes)))))
-    (refused 9 0))
+fingerprinted n k bytes = printedBy n k bytes (firstRow (queryRows n k bytes))
 
 abbrev pub toldFingerprinted : Fingerprinted → Answer
 toldFingerprinted (f.Fingerprint p) = given p
@@ -92,3 +100,28 @@ toldFingerprinted f.WidthTooLarge = refused 6 0
 toldFingerprinted f.LengthNotExact = refused 9 0
 toldFingerprinted f.OutOfRange = refused 10 0
 toldFingerprinted f.NotLowest = refused 11 0
+
+-- ---- a table
+
+abbrev pub toldBuilding : Building → BuildReply
+toldBuilding (b.Table m) = table (toldMurm m)
+toldBuilding b.WidthLimit = refusal 1 0
+toldBuilding b.NoEntries = refusal 2 0
+toldBuilding b.Basis = refusal 3 0
+toldBuilding b.TooLarge = refusal 4 0
+toldBuilding b.ArrayTooShort = refusal 5 0
+
+abbrev pub toldSynthesized : Synthesized → Reply
+toldSynthesized (s.Circuit m) = a.given m
+toldSynthesized s.Nothing = a.none
+toldSynthesized s.ArrayTooShort = a.refused 5 0
+toldSynthesized s.WidthTooLarge = a.refused 6 0
+toldSynthesized s.LengthNotExact = a.refused 9 0
+toldSynthesized s.OutOfRange = a.refused 10 0
+toldSynthesized s.NotLowest = a.refused 11 0
+toldSynthesized s.ListTooShort = a.refused 12 0
+toldSynthesized s.BadTable = a.refused 13 0
+
+-- what is answered once the checks up to 11 are passed
+abbrev pub askedOf : Table → Arrays → Query → List ℕ → a.Outcome
+askedOf t m q out = repliedBy t m q out (firstRow (listRow t out ∷ []))

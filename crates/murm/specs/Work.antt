@@ -6,7 +6,7 @@ use Prim.Native.Nat.{ℕ, _≤_, _<_}
 use lib.IntN.{ℤ, pos, negsuc, natAbs}
 use lib.ListN.{length, getD}
 use Rattle.cyclotomic.specs.Zomega.{limit, eqZ}
-use Rattle.murm.specs.Entries.{anyBelow}
+use Rattle.tables.specs.Checks.{anyBelow}
 
 -- whether a coefficient is -128; a byte that is not is within the limit
 pub record PastLimit (x : ℤ) (r : Bool) : Type 0 where

@@ -1,4 +1,5 @@
-// The public entries: each decides every input. murm.rs of the original: `library_circuit_matrix`; matrix.rs: `unitary_fingerprint`.
+// The public entries: each decides every input. murm.rs of the original: `library_circuit_matrix`, `Murm::build`, `Murm::synthesize`;
+// matrix.rs: `unitary_fingerprint`.
 ghost use mathlib.Core.Path.{_≡_};
 ghost use mathlib.Core.Bool.{_&&_};
 ghost use Prim.Native.Nat.{_*_, _^_, _≤_};
@@ -6,7 +7,11 @@ ghost use lib.Dec.{ltb};
 ghost use lib.ListN.{length};
 ghost use Rattle.exact.specs.Matrix.{allDivisible};
 ghost use Rattle.places.specs.Places.{read};
-ghost use Rattle.murm.specs.Entries.{firstInvalid, outcome, listed, toldListed, fingerprinted, toldFingerprinted};
+ghost use Rattle.width_answer.specs.Answers.{outcome as replied};
+ghost use Rattle.tables.specs.Checks.{firstRow, queryRows, arrays, roomRow};
+ghost use Rattle.tables.specs.Tables.{left, buildOf, query, recordRow, partAsked, synthesized};
+ghost use Rattle.murm_config.specs.Told.{toldConfig, toldMurm};
+ghost use Rattle.murm.specs.Entries.{firstInvalid, outcome, listed, toldListed, fingerprinted, toldFingerprinted, toldQueryCheck, toldBuilding, askedOf, toldSynthesized};
 ghost use Rattle.murm.specs.Work.{PastLimit, InRange};
 use circuit::LibraryGate;
 use cyclotomic::Coefficient;
@@ -14,6 +19,10 @@ use cyclotomic::LIMIT;
 use cyclotomic::Wide;
 use lists::Walked;
 use matrix::UnitaryMatrix;
+use murm_config::LimitCheck;
+use murm_config::Murm;
+use murm_config::MurmConfig;
+use width_answer::Answered;
 
 // What a list became: its exponent, or why it was refused, with the position where there is one.
 pub enum Listed {
@@ -118,23 +127,209 @@ fn is_divisible(entries: &[Coefficient], n: usize, k: u16) -> bool
     rows::all_divisible(entries, n)
 }
 
-// The fingerprint of a matrix given by its bytes, with the checks of a query.
-pub fn library_fingerprint(width: u32, exponent: u16, entries: &[Coefficient]) -> Fingerprinted
-    ensures { λ r. ⌜ toldFingerprinted r ≡ fingerprinted width exponent (now (entries .entry)) ⌝ }
+// Whether a matrix may be asked; else which of the rows 6, 9, 10, 11 is the first to refuse it.
+pub enum QueryCheck {
+    Allowed,
+    WidthTooLarge,
+    LengthNotExact,
+    OutOfRange,
+    NotLowest,
+}
+
+// The checks of a query.
+pub fn check_query(width: u32, exponent: u16, entries: &[Coefficient]) -> QueryCheck
+    ensures { λ r. ⌜ toldQueryCheck r ≡ firstRow (queryRows width exponent (now (entries .entry))) ⌝ }
 {
     if width > 5 {
-        return Fingerprinted::WidthTooLarge;
+        return QueryCheck::WidthTooLarge;
     }
     let n = width as usize;
     let size = 4 * places::area(n);
     if entries.len() != size {
-        return Fingerprinted::LengthNotExact;
+        return QueryCheck::LengthNotExact;
     }
     if !in_range(entries) {
-        return Fingerprinted::OutOfRange;
+        return QueryCheck::OutOfRange;
     }
     if is_divisible(entries, n, exponent) {
-        return Fingerprinted::NotLowest;
+        return QueryCheck::NotLowest;
     }
-    Fingerprinted::Fingerprint(prints::unitary_fingerprint(entries, n, exponent))
+    QueryCheck::Allowed
+}
+
+// The fingerprint of a matrix given by its bytes, with the checks of a query.
+pub fn library_fingerprint(width: u32, exponent: u16, entries: &[Coefficient]) -> Fingerprinted
+    ensures { λ r. ⌜ toldFingerprinted r ≡ fingerprinted width exponent (now (entries .entry)) ⌝ }
+{
+    match check_query(width, exponent, entries) {
+        QueryCheck::Allowed => Fingerprinted::Fingerprint(prints::unitary_fingerprint(
+            entries,
+            width as usize,
+            exponent,
+        )),
+        QueryCheck::WidthTooLarge => Fingerprinted::WidthTooLarge,
+        QueryCheck::LengthNotExact => Fingerprinted::LengthNotExact,
+        QueryCheck::OutOfRange => Fingerprinted::OutOfRange,
+        QueryCheck::NotLowest => Fingerprinted::NotLowest,
+    }
+}
+
+// What a build comes to: the table's record, or why it was refused.
+pub enum Building {
+    Table(Murm),
+    WidthLimit,
+    NoEntries,
+    Basis,
+    TooLarge,
+    ArrayTooShort,
+}
+
+// "a table is built": rows 1, 2, 3, 4, 5. A refusal leaves the three arrays as they were.
+pub fn build(
+    config: MurmConfig,
+    fingerprints: &mut [u64],
+    parents: &mut [u32],
+    codes: &mut [u32],
+) -> Building
+    ensures { λ r. ⌜ left (toldBuilding r) (arrays (now (fingerprints .exit)) (now (parents .exit)) (now (codes .exit))) ≡ buildOf (toldConfig config) (arrays (now (fingerprints .entry)) (now (parents .entry)) (now (codes .entry))) ⌝ }
+{
+    match murm_config::limits(config) {
+        LimitCheck::Accepted => {
+            if murm_config::too_short(config, fingerprints.len(), parents.len(), codes.len()) {
+                return Building::ArrayTooShort;
+            }
+            Building::Table(murm_widths::build_widths(config, fingerprints, parents, codes))
+        }
+        LimitCheck::WidthLimit => Building::WidthLimit,
+        LimitCheck::NoEntries => Building::NoEntries,
+        LimitCheck::Basis => Building::Basis,
+        LimitCheck::TooLarge => Building::TooLarge,
+    }
+}
+
+// What a table answers: a list, by how many gates it has; none; or why it was refused.
+pub enum Synthesized {
+    Circuit(usize),
+    Nothing,
+    ArrayTooShort,
+    WidthTooLarge,
+    LengthNotExact,
+    OutOfRange,
+    NotLowest,
+    ListTooShort,
+    BadTable,
+}
+
+// The part of a width from 1 to Q is asked.
+fn ask_part(
+    table: Murm,
+    fingerprints: &[u64],
+    parents: &[u32],
+    codes: &[u32],
+    width: u32,
+    exponent: u16,
+    matrix: &[Coefficient],
+    out: &mut [u32],
+) -> Synthesized
+    requires { ⌜ (0 < width) × (width ≤ table .config .«max_qubits») × (recordRow (toldMurm table) .holds ≡ false) ⌝ }
+    requires { ⌜ roomRow (toldConfig (table .config)) (arrays (now fingerprints) (now parents) (now codes)) .holds ≡ false ⌝ }
+    requires { ⌜ firstRow (queryRows width exponent (now matrix)) ≡ 0 ⌝ }
+    requires { ⌜ table .config .«max_gates» ≤ length (now out) ⌝ }
+    ensures { λ r. ⌜ replied (toldSynthesized r) (now (out .exit)) ≡ partAsked (toldMurm table) (arrays (now (fingerprints .entry)) (now (parents .entry)) (now (codes .entry))) (query width exponent (now (matrix .entry))) (now (out .entry)) ⌝ }
+{
+    let e = table.config.max_entries_per_qubit as usize;
+    let a = (width as usize - 1) * e;
+    let end = a + e;
+    let row = murm_config::width_table(table, width);
+    match width_answer::answer_width(
+        &fingerprints[a..end],
+        &parents[a..end],
+        &codes[a..end],
+        row.count,
+        width,
+        table.config.basis,
+        table.config.max_gates as usize,
+        exponent,
+        matrix,
+        out,
+    ) {
+        Answered::List(m) => Synthesized::Circuit(m),
+        Answered::Nothing => Synthesized::Nothing,
+        Answered::BadChain => Synthesized::BadTable,
+    }
+}
+
+// "Width 0 or above Q, once the checks up to 12 are passed: none."; else the width's part is asked.
+fn ask(
+    table: Murm,
+    fingerprints: &[u64],
+    parents: &[u32],
+    codes: &[u32],
+    width: u32,
+    exponent: u16,
+    matrix: &[Coefficient],
+    out: &mut [u32],
+) -> Synthesized
+    requires { ⌜ recordRow (toldMurm table) .holds ≡ false ⌝ }
+    requires { ⌜ roomRow (toldConfig (table .config)) (arrays (now fingerprints) (now parents) (now codes)) .holds ≡ false ⌝ }
+    requires { ⌜ firstRow (queryRows width exponent (now matrix)) ≡ 0 ⌝ }
+    ensures { λ r. ⌜ replied (toldSynthesized r) (now (out .exit)) ≡ askedOf (toldMurm table) (arrays (now (fingerprints .entry)) (now (parents .entry)) (now (codes .entry))) (query width exponent (now (matrix .entry))) (now (out .entry)) ⌝ }
+{
+    if out.len() < table.config.max_gates as usize {
+        return Synthesized::ListTooShort;
+    }
+    if width == 0 {
+        return Synthesized::Nothing;
+    }
+    if width > table.config.max_qubits {
+        return Synthesized::Nothing;
+    }
+    ask_part(
+        table,
+        fingerprints,
+        parents,
+        codes,
+        width,
+        exponent,
+        matrix,
+        out,
+    )
+}
+
+// "a matrix is answered": 13 of the record, then 5, 6, 9, 10, 11, 12, then 13 on the found chain. The lent list keeps its content unless a
+// list is answered, which fills its first places.
+pub fn synthesize(
+    table: Murm,
+    fingerprints: &[u64],
+    parents: &[u32],
+    codes: &[u32],
+    width: u32,
+    exponent: u16,
+    matrix: &[Coefficient],
+    out: &mut [u32],
+) -> Synthesized
+    ensures { λ r. ⌜ replied (toldSynthesized r) (now (out .exit)) ≡ synthesized (toldMurm table) (arrays (now (fingerprints .entry)) (now (parents .entry)) (now (codes .entry))) (query width exponent (now (matrix .entry))) (now (out .entry)) ⌝ }
+{
+    if murm_config::bad_record(table) {
+        return Synthesized::BadTable;
+    }
+    if murm_config::too_short(table.config, fingerprints.len(), parents.len(), codes.len()) {
+        return Synthesized::ArrayTooShort;
+    }
+    match check_query(width, exponent, matrix) {
+        QueryCheck::Allowed => ask(
+            table,
+            fingerprints,
+            parents,
+            codes,
+            width,
+            exponent,
+            matrix,
+            out,
+        ),
+        QueryCheck::WidthTooLarge => Synthesized::WidthTooLarge,
+        QueryCheck::LengthNotExact => Synthesized::LengthNotExact,
+        QueryCheck::OutOfRange => Synthesized::OutOfRange,
+        QueryCheck::NotLowest => Synthesized::NotLowest,
+    }
 }

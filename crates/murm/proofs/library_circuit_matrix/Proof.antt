@@ -10,7 +10,8 @@ use borrow.Author.Needs.{needs}
 use Rattle.places.proofs.Placed.{area-le}
 use Rattle.exact.specs.Answers.{refused}
 use Rattle.lists.proofs.Walking.{ended-at}
-use Rattle.murm.specs.Entries.{byteCount, firstInvalid, outcome}
+use Rattle.tables.specs.Checks.{byteCount}
+use Rattle.murm.specs.Entries.{firstInvalid, outcome}
 use Rattle.murm.proofs.Bytes.{byte-count}
 use Rattle.murm.proofs.Checks.{all-valid}
 use Rattle.murm.proofs.Answers.{list-6, list-9, list-7, list-8, list-held}

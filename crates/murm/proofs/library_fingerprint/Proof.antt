@@ -9,7 +9,7 @@ use borrow.Author.Needs.{needs}
 use borrow.Author.Tests.{not-true, not-false}
 use Rattle.places.proofs.Placed.{area-le}
 use Rattle.exact.specs.Answers.{given}
-use Rattle.murm.specs.Entries.{byteCount, anyBelow}
+use Rattle.tables.specs.Checks.{byteCount, anyBelow}
 use Rattle.murm.specs.Work.{InRange}
 use Rattle.murm.proofs.Bytes.{byte-count, bytes-small}
 use Rattle.murm.proofs.Answers.{print-6, print-9, print-10, print-11, print-given}

@@ -1,0 +1,45 @@
+-- The numbers and values of the structs and of each case of an enum. Assumes nothing.
+use mathlib.Core.Bool.{Bool, not, _&&_, _||_}
+use mathlib.Core.List.{List, [], _∷_}
+use Prim.Native.Nat.{ℕ, _-_}
+use lib.Dec.{eqb, ltb}
+use lib.ListN.{set, replicate}
+use Rattle.tables.specs.Checks.{Limits}
+use Rattle.tables.specs.Tables.{Width, Table, notBuilt}
+use Rattle.width_table.specs.declared.WidthTable.{WidthTable}
+use Rattle.murm_config.specs.declared.MurmConfig.{MurmConfig}
+use Rattle.murm_config.specs.declared.Murm.{Murm}
+use Rattle.murm_config.specs.declared.LimitCheck.{LimitCheck}
+use Rattle.murm_config.specs.declared.LimitCheck.the-variants as c
+
+abbrev pub toldConfig : MurmConfig → Limits
+toldConfig m = record { qubits = m .«max_qubits»; gates = m .«max_gates»; entries = m .«max_entries_per_qubit»; basis = m .basis .0 }
+
+-- the number of the row that refuses; 0 where none does
+abbrev pub toldLimitCheck : LimitCheck → ℕ
+toldLimitCheck c.Accepted = 0
+toldLimitCheck c.WidthLimit = 1
+toldLimitCheck c.NoEntries = 2
+toldLimitCheck c.Basis = 3
+toldLimitCheck c.TooLarge = 4
+
+abbrev pub toldWidth : WidthTable → Width
+toldWidth w = record { count = w .count; depth = w .depth; saturated = w .saturated }
+
+abbrev pub toldMurm : Murm → Table
+toldMurm m = record {
+  limits = toldConfig (m .config);
+  widths = toldWidth (m .width1) ∷ toldWidth (m .width2) ∷ toldWidth (m .width3) ∷ toldWidth (m .width4) ∷ toldWidth (m .width5) ∷ [];
+}
+
+-- a count at a width, by the limits
+abbrev pub badCountOf : ℕ → ℕ → ℕ → ℕ → Bool
+badCountOf qubits entries w count = not (ltb qubits w) && (eqb count 0 || ltb entries count)
+
+-- no width is built
+abbrev pub emptyOf : Limits → Table
+emptyOf l = record { limits = l; widths = replicate 5 notBuilt }
+
+-- another row for a width
+abbrev pub withWidth : Table → ℕ → Width → Table
+withWidth t w x = record { limits = t .limits; widths = set (t .widths) (w - 1) x }

@@ -1,0 +1,180 @@
+// The limits of a table, config.rs of the original, `MurmConfig`; and its record, murm.rs, `Murm`, whose nodes are in three lent arrays.
+ghost use mathlib.Core.Path.{_≡_};
+ghost use mathlib.Core.Bool.{_||_};
+ghost use Prim.Native.Nat.{_<_, _≤_};
+ghost use lib.Dec.{ltb};
+ghost use Rattle.tables.specs.Checks.{firstRow, limitRows, placesOf};
+ghost use Rattle.tables.specs.Tables.{widthAt, recordRow};
+ghost use Rattle.murm_config.specs.Told.{toldConfig, toldLimitCheck, toldWidth, toldMurm, badCountOf, withWidth, emptyOf};
+use circuit::GateSet;
+use width_table::WidthTable;
+
+// Q, G, E and B.
+pub struct MurmConfig {
+    pub max_qubits: u32,
+    pub max_gates: u32,
+    pub max_entries_per_qubit: u32,
+    pub basis: GateSet,
+}
+
+// What a build returns: the limits, and for each width its entry count, completed depth, saturated yes or no.
+pub struct Murm {
+    pub config: MurmConfig,
+    pub width1: WidthTable,
+    pub width2: WidthTable,
+    pub width3: WidthTable,
+    pub width4: WidthTable,
+    pub width5: WidthTable,
+}
+
+// Whether the limits may be built with; else which of the rows 1 to 4 is the first to refuse them.
+pub enum LimitCheck {
+    Accepted,
+    WidthLimit,
+    NoEntries,
+    Basis,
+    TooLarge,
+}
+
+pub fn limits(config: MurmConfig) -> LimitCheck
+    ensures { λ r. ⌜ toldLimitCheck r ≡ firstRow (limitRows (toldConfig config)) ⌝ }
+{
+    if config.max_qubits == 0 {
+        return LimitCheck::WidthLimit;
+    }
+    if config.max_qubits > 5 {
+        return LimitCheck::WidthLimit;
+    }
+    if config.max_entries_per_qubit == 0 {
+        return LimitCheck::NoEntries;
+    }
+    let basis = config.basis;
+    if basis.is_empty() {
+        return LimitCheck::Basis;
+    }
+    if !basis.is_supported() {
+        return LimitCheck::Basis;
+    }
+    if config.max_gates > 64 {
+        return LimitCheck::TooLarge;
+    }
+    if config.max_entries_per_qubit > 1000000 {
+        return LimitCheck::TooLarge;
+    }
+    LimitCheck::Accepted
+}
+
+// Whether an array of these three lengths is shorter than Q × E.
+pub fn too_short(config: MurmConfig, prints: usize, parents: usize, codes: usize) -> bool
+    requires { ⌜ (config .«max_qubits» ≤ 5) × (config .«max_entries_per_qubit» ≤ 1000000) ⌝ }
+    ensures { λ r. ⌜ r ≡ (ltb prints (placesOf (toldConfig config)) || (ltb parents (placesOf (toldConfig config)) || ltb codes (placesOf (toldConfig config)))) ⌝ }
+{
+    let size = config.max_qubits as usize * config.max_entries_per_qubit as usize;
+    if prints < size {
+        return true;
+    }
+    if parents < size {
+        return true;
+    }
+    codes < size
+}
+
+// A width's row of the record; for another number that of a width that was not built.
+pub fn width_table(table: Murm, width: u32) -> WidthTable
+    ensures { λ r. ⌜ toldWidth r ≡ widthAt (toldMurm table) width ⌝ }
+{
+    match width {
+        1 => table.width1,
+        2 => table.width2,
+        3 => table.width3,
+        4 => table.width4,
+        5 => table.width5,
+        _ => WidthTable {
+            count: 0,
+            depth: 0,
+            saturated: false,
+        },
+    }
+}
+
+// Whether a width up to Q has a count that is 0 or above E.
+fn bad_count(width: u32, qubits: u32, entries: u32, count: usize) -> bool
+    ensures { λ r. ⌜ r ≡ badCountOf qubits entries width count ⌝ }
+{
+    if width > qubits {
+        return false;
+    }
+    if count == 0 {
+        return true;
+    }
+    count > entries as usize
+}
+
+// "13 for a record whose limits break 1 to 4 or whose count at any width up to Q is 0 or above E".
+pub fn bad_record(table: Murm) -> bool
+    ensures { λ r. ⌜ r ≡ recordRow (toldMurm table) .holds ⌝ }
+{
+    let LimitCheck::Accepted = limits(table.config) else {
+        return true;
+    };
+    let q = table.config.max_qubits;
+    let e = table.config.max_entries_per_qubit;
+    if bad_count(1, q, e, table.width1.count) {
+        return true;
+    }
+    if bad_count(2, q, e, table.width2.count) {
+        return true;
+    }
+    if bad_count(3, q, e, table.width3.count) {
+        return true;
+    }
+    if bad_count(4, q, e, table.width4.count) {
+        return true;
+    }
+    bad_count(5, q, e, table.width5.count)
+}
+
+// The record before any width is built.
+pub fn empty(config: MurmConfig) -> Murm
+    ensures { λ r. ⌜ toldMurm r ≡ emptyOf (toldConfig config) ⌝ }
+{
+    let none = WidthTable {
+        count: 0,
+        depth: 0,
+        saturated: false,
+    };
+    Murm {
+        config,
+        width1: none,
+        width2: none,
+        width3: none,
+        width4: none,
+        width5: none,
+    }
+}
+
+// The record with another row for a width from 1 to 5.
+pub fn with_width(table: Murm, width: u32, row: WidthTable) -> Murm
+    requires { ⌜ (0 < width) × (width ≤ 5) ⌝ }
+    ensures { λ r. ⌜ toldMurm r ≡ withWidth (toldMurm table) width (toldWidth row) ⌝ }
+{
+    let mut new = table;
+    match width {
+        1 => {
+            new.width1 = row;
+        }
+        2 => {
+            new.width2 = row;
+        }
+        3 => {
+            new.width3 = row;
+        }
+        4 => {
+            new.width4 = row;
+        }
+        _ => {
+            new.width5 = row;
+        }
+    }
+    new
+}

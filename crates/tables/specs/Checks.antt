@@ -1,0 +1,77 @@
+-- Document 01's table "Checked, and where": the conditions by which a build or an answer is refused. Assumes nothing.
+use mathlib.Core.Bool.{Bool, false, not, _&&_, _||_}
+use mathlib.Core.List.{List, [], _∷_}
+use Prim.Native.Nat.{ℕ, _*_, _^_}
+use lib.IntN.{ℤ, negsuc}
+use lib.Dec.{eqb, ltb}
+use lib.ListN.{length}
+use Rattle.ints.specs.Lists.{pick}
+use Rattle.cyclotomic.specs.Zomega.{limit, eqZ}
+use Rattle.circuit.specs.Sets.{supported, subset}
+use Rattle.exact.specs.Matrix.{allDivisible}
+use Rattle.places.specs.Places.{read}
+
+-- ---- "Rows of a place are tried top down."
+
+-- a row: its condition and its number
+pub record Row : Type 0 where
+  pub holds : Bool
+  pub number : ℕ
+
+abbrev pub row : Bool → ℕ → Row
+row b a = record { holds = b; number = a }
+
+-- the number of the first row whose condition holds; 0 where none does
+unfoldable pub firstRow : List Row → ℕ
+firstRow [] = 0
+firstRow (r ∷ rs) = pick (r .holds) (r .number) (firstRow rs)
+
+-- ---- the four limits
+
+-- "Width limit Q", "Gate limit G", "Entry limit E", "Basis B"
+pub record Limits : Type 0 where
+  pub qubits : ℕ
+  pub gates : ℕ
+  pub entries : ℕ
+  pub basis : ℕ
+
+-- rows 1 to 4: "Q outside 1 to 5"; "E is 0"; "B is 0 or has a bit outside 3967"; "G above 64 or E above 1,000,000"
+abbrev pub limitRows : Limits → List Row
+limitRows l =
+    row (eqb (l .qubits) 0 || ltb 5 (l .qubits)) 1 ∷ row (eqb (l .entries) 0) 2 ∷ row (eqb (l .basis) 0 || not (subset (l .basis) supported)) 3
+    ∷ row (ltb 64 (l .gates) || ltb 1000000 (l .entries)) 4 ∷ []
+
+-- ---- the three arrays
+
+pub record Arrays : Type 0 where
+  pub prints : List ℕ
+  pub parents : List ℕ
+  pub codes : List ℕ
+
+abbrev pub arrays : List ℕ → List ℕ → List ℕ → Arrays
+arrays f u c = record { prints = f; parents = u; codes = c }
+
+-- how many places a table has
+abbrev pub placesOf : Limits → ℕ
+placesOf l = l .qubits * l .entries
+
+-- row 5: "an array shorter than Q × E"
+abbrev pub roomRow : Limits → Arrays → Row
+roomRow l a =
+    row (ltb (length (a .prints)) (placesOf l) || (ltb (length (a .parents)) (placesOf l) || ltb (length (a .codes)) (placesOf l))) 5
+
+-- ---- a query
+
+-- "exactly 4 × 4^n"
+abbrev pub byteCount : ℕ → ℕ
+byteCount n = 4 * 4 ^ n
+
+-- "a coefficient of -128": one below the limit's negative
+unfoldable pub anyBelow : List ℤ → Bool
+anyBelow [] = false
+anyBelow (x ∷ l) = eqZ x (negsuc limit) || anyBelow l
+
+-- rows 6, 9, 10, 11: "width above 5"; "bytes lent not exactly 4 × 4^n"; "a coefficient of -128"; "k > 0 and all entries divisible"
+abbrev pub queryRows : ℕ → ℕ → List ℤ → List Row
+queryRows n k bytes =
+    row (ltb 5 n) 6 ∷ row (not (eqb (length bytes) (byteCount n))) 9 ∷ row (anyBelow bytes) 10 ∷ row (ltb 0 k && allDivisible n (read n bytes)) 11 ∷ []

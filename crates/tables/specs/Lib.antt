@@ -1,0 +1,4 @@
+pub mod Checks
+pub mod Tables
+pub mod Built
+pub mod Demand3

@@ -1,0 +1,167 @@
+-- What a build leaves in three lent arrays and returns, and what a lent table answers, for every input. Assumes nothing.
+use mathlib.Core.Bool.{Bool, false, not, _&&_, _||_}
+use mathlib.Core.List.{List, [], _∷_, _++_, map}
+use Prim.Native.Nat.{ℕ, zero, suc, _*_, _-_}
+use lib.IntN.{ℤ}
+use lib.Dec.{eqb, ltb}
+use lib.ListN.{length, getD, take, drop}
+use Rattle.ints.specs.Lists.{pick}
+use Rattle.exact.specs.Matrix.{Exact}
+use Rattle.places.specs.Places.{held}
+use Rattle.walk.specs.Walk.{Node, Build, gate, any}
+use Rattle.walk.specs.AtWidth.{built}
+use Rattle.width_table.specs.Table.{printOf, parentOf}
+use Rattle.width_answer.specs.Answers.{Reply, none, refused, Outcome, outcome, answerOf}
+use Rattle.tables.specs.Checks.{Row, row, firstRow, Limits, limitRows, Arrays, roomRow, queryRows}
+
+-- ---- the record
+
+-- "Returned per width: entry count, completed depth, saturated yes or no."
+pub record Width : Type 0 where
+  pub count : ℕ
+  pub depth : ℕ
+  pub saturated : Bool
+
+-- the limits, and widths 1 to 5 in this order
+pub record Table : Type 0 where
+  pub limits : Limits
+  pub widths : List Width
+
+-- what a width that was not built has
+abbrev pub notBuilt : Width
+notBuilt = record { count = 0; depth = 0; saturated = false }
+
+-- a width's row; there is none for 0
+abbrev pub widthAt : Table → ℕ → Width
+widthAt t zero = notBuilt
+widthAt t (suc v) = getD (t .widths) v notBuilt
+
+-- the widths that a record has
+abbrev pub allWidths : List ℕ
+allWidths = 1 ∷ 2 ∷ 3 ∷ 4 ∷ 5 ∷ []
+
+-- ---- a build
+
+-- the walk of a width under the limits
+abbrev pub walkOf : Limits → ℕ → Build
+walkOf l w = built w (l .basis) (l .gates) (l .entries)
+
+-- "entry count, completed depth, saturated": the walk's; a width above Q has zeros
+abbrev pub widthOf : Build → Width
+widthOf b = record { count = length (b .nodes); depth = b .depth; saturated = b .saturated }
+
+abbrev pub rowOf : Limits → ℕ → Width
+rowOf l w = pick (ltb (l .qubits) w) notBuilt (widthOf (walkOf l w))
+
+unfoldable pub recordOf : Limits → Table
+recordOf l = record { limits = l; widths = map (rowOf l) allWidths }
+
+-- what is said of the nodes of a width, in their order: fingerprints, parents, gates
+unfoldable pub printsOf : Limits → ℕ → List ℕ
+printsOf l w = map (printOf w (l .basis)) (walkOf l w .nodes)
+
+unfoldable pub parentsOf : Limits → ℕ → List ℕ
+parentsOf l w = map parentOf (walkOf l w .nodes)
+
+unfoldable pub codesOf : Limits → ℕ → List ℕ
+codesOf l w = map gate (walkOf l w .nodes)
+
+-- new on the first places of old; "Unfilled places keep what they held"
+abbrev pub overlay : List ℕ → List ℕ → List ℕ
+overlay new old = new ++ drop (length new) old
+
+-- g worked on the n places from a on
+abbrev pub within : ℕ → ℕ → (List ℕ → List ℕ) → List ℕ → List ℕ
+within a n g xs = take a xs ++ (g (take n (drop a xs)) ++ drop n (drop a xs))
+
+-- "Width w owns the E places from (w-1) × E on": widths 1 to w filled, each by its column
+unfoldable pub filledTo : (ℕ → List ℕ) → ℕ → ℕ → List ℕ → List ℕ
+filledTo column E zero old = old
+filledTo column E (suc w) old = within (w * E) E (overlay (column (suc w))) (filledTo column E w old)
+
+-- the arrays after widths 1 to w were built
+abbrev pub builtTo : Limits → ℕ → Arrays → Arrays
+builtTo l w a = record {
+  prints = filledTo (printsOf l) (l .entries) w (a .prints);
+  parents = filledTo (parentsOf l) (l .entries) w (a .parents);
+  codes = filledTo (codesOf l) (l .entries) w (a .codes);
+}
+
+-- a table's record, or a refusal: "its number and position"
+pub data BuildReply : Type 0 where
+  table : Table → BuildReply
+  refusal : ℕ → ℕ → BuildReply
+
+-- the reply, and what the lent arrays hold after it
+pub record Left : Type 0 where
+  pub reply : BuildReply
+  pub arrays : Arrays
+
+abbrev pub left : BuildReply → Arrays → Left
+left r a = record { reply = r; arrays = a }
+
+-- rows 1, 2, 3, 4, 5 in this order
+abbrev pub buildRows : Limits → Arrays → List Row
+buildRows l a = limitRows l ++ (roomRow l a ∷ [])
+
+-- by the number of the first row that holds: "Each refusal .. leaves lent memory unchanged"
+abbrev pub leftBy : Limits → Arrays → ℕ → Left
+leftBy l a r = pick (eqb r 0) (left (table (recordOf l)) (builtTo l (l .qubits) a)) (left (refusal r 0) a)
+
+-- "Entry: a table is built"
+unfoldable pub buildOf : Limits → Arrays → Left
+buildOf l a = leftBy l a (firstRow (buildRows l a))
+
+-- ---- an answer
+
+-- "The query is a width, an exponent (16-bit) and 4 × 4^n signed bytes, four per entry, row-major."
+pub record Query : Type 0 where
+  pub width : ℕ
+  pub exponent : ℕ
+  pub bytes : List ℤ
+
+abbrev pub query : ℕ → ℕ → List ℤ → Query
+query n k bytes = record { width = n; exponent = k; bytes = bytes }
+
+-- the matrix asked
+abbrev pub matrixOf : Query → Exact
+matrixOf q = held (q .width) (q .exponent) (q .bytes)
+
+-- "whose count at any width up to Q is 0 or above E"
+abbrev pub badCount : Table → ℕ → Bool
+badCount t w = not (ltb (t .limits .qubits) w) && (eqb (widthAt t w .count) 0 || ltb (t .limits .entries) (widthAt t w .count))
+
+-- row 13: "a record whose limits break 1 to 4 or whose count at any width up to Q is 0 or above E"
+abbrev pub recordRow : Table → Row
+recordRow t = row (not (eqb (firstRow (limitRows (t .limits))) 0) || any (badCount t) allWidths) 13
+
+-- row 12: "lent list shorter than G"
+abbrev pub listRow : Table → List ℕ → Row
+listRow t out = row (ltb (length out) (t .limits .gates)) 12
+
+-- "The answer's order: 13 for a record ..; then 5, 6, 9, 10, 11, 12"
+abbrev pub answerRows : Table → Arrays → Query → List ℕ → List Row
+answerRows t a q out =
+    recordRow t ∷ roomRow (t .limits) a ∷ (queryRows (q .width) (q .exponent) (q .bytes) ++ (listRow t out ∷ []))
+
+-- "Width w owns the E places from (w-1) × E on."
+abbrev pub partOf : ℕ → ℕ → List ℕ → List ℕ
+partOf n E xs = take E (drop ((n - 1) * E) xs)
+
+-- what the part of the query's width answers
+abbrev pub partAsked : Table → Arrays → Query → List ℕ → Outcome
+partAsked t a q out =
+    answerOf (partOf (q .width) (t .limits .entries) (a .prints)) (partOf (q .width) (t .limits .entries) (a .parents))
+    (partOf (q .width) (t .limits .entries) (a .codes)) (widthAt t (q .width) .count) (q .width) (t .limits .basis) (t .limits .gates) (matrixOf q) out
+
+-- "Width 0 or above Q, once the checks up to 12 are passed: none."
+abbrev pub notAWidth : Table → Query → Bool
+notAWidth t q = eqb (q .width) 0 || ltb (t .limits .qubits) (q .width)
+
+-- by the number of the first row that holds: "Each refusal .. leaves lent memory unchanged"
+abbrev pub repliedBy : Table → Arrays → Query → List ℕ → ℕ → Outcome
+repliedBy t a q out r = pick (eqb r 0) (pick (notAWidth t q) (outcome none out) (partAsked t a q out)) (outcome (refused r 0) out)
+
+-- "Entry: a matrix is answered"
+unfoldable pub synthesized : Table → Arrays → Query → List ℕ → Outcome
+synthesized t a q out = repliedBy t a q out (firstRow (answerRows t a q out))

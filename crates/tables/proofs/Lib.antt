@@ -1,1 +1,6 @@
+pub mod Rows
+pub mod Accepted
+pub mod Filled
+pub mod FromBuild
+pub mod Counts
 pub mod Joined

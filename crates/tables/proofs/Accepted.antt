@@ -1,7 +1,6 @@
 -- What limits are that no row refuses, and that arrays have room exactly where row 5 does not refuse. Assumes nothing.
-use mathlib.Core.Path.{_≡_, refl}
+use mathlib.Core.Path.{_≡_}
 use mathlib.Core.Bool.{false, not, _||_}
-use mathlib.Core.List.{List, [], _∷_}
 use Prim.Native.Nat.{ℕ, _≤_, _<_}
 use native.Mathlib.Omega.{arith}
 use borrow.Author.Tests.{eqb-false, ltb-false, le-ltb}
@@ -9,7 +8,7 @@ use lib.Dec.{eqb, ltb}
 use lib.ListN.{length}
 use Rattle.ints.proofs.Bools.{neither}
 use Rattle.circuit.specs.Sets.{supported, subset}
-use Rattle.tables.specs.Checks.{Row, row, firstRow, Limits, limitRows, Arrays, placesOf, roomRow}
+use Rattle.tables.specs.Checks.{row, firstRow, Limits, limitRows, Arrays, placesOf, roomRow}
 use Rattle.tables.proofs.Rows.{first-none}
 
 -- the numbers of limits that are not refused
@@ -45,9 +44,11 @@ pub roomy : (l : Limits) (a : Arrays) → roomRow l a .holds ≡ false
     → (placesOf l ≤ length (a .prints)) × (placesOf l ≤ length (a .parents)) × (placesOf l ≤ length (a .codes))
 roomy l a e =
     let p = neither (ltb (length (a .prints)) (placesOf l)) (ltb (length (a .parents)) (placesOf l) || ltb (length (a .codes)) (placesOf l)) e in
-    let q = neither (ltb (length (a .parents)) (placesOf l)) (ltb (length (a .codes)) (placesOf l)) (p .1) in
-    (ltb-false (length (a .prints)) (placesOf l) (p .0), ltb-false (length (a .parents)) (placesOf l) (q .0),
-    ltb-false (length (a .codes)) (placesOf l) (q .1))
+    let q = neither (ltb (length (a .parents)) (placesOf l)) (ltb (length (a .codes)) (placesOf l)) (p .1) in (
+      ltb-false (length (a .prints)) (placesOf l) (p .0),
+      ltb-false (length (a .parents)) (placesOf l) (q .0),
+      ltb-false (length (a .codes)) (placesOf l) (q .1),
+    )
 
 -- and row 5 does not refuse arrays that have them
 pub room-is : (l : Limits) (a : Arrays) → placesOf l ≤ length (a .prints) → placesOf l ≤ length (a .parents) → placesOf l ≤ length (a .codes)

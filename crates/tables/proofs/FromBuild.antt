@@ -5,7 +5,7 @@ use mathlib.Core.List.{List, [], _∷_, map}
 use Prim.Native.Nat.{ℕ, zero, suc, _+_, _-_, _*_, _≤_, _<_}
 use native.Mathlib.Nat.{not-suc-le-zero, le-of-suc-le-suc}
 use native.Mathlib.Omega.{arith}
-use borrow.Author.Tests.{eqb-true, eq-eqb, ne-eqb}
+use borrow.Author.Tests.{eqb-true, ne-eqb}
 use lib.Dec.{eqb}
 use lib.ListN.{length, getD, length-map}
 use Rattle.ints.proofs.Bools.{clash}
@@ -15,11 +15,10 @@ use Rattle.walk.specs.AtWidth.{atWidth}
 use Rattle.walk.proofs.Nodes.{first}
 use Rattle.walk.proofs.Layers.{walk-shape}
 use Rattle.width_table.specs.Table.{printOf, parentOf}
-use Rattle.tables.specs.Checks.{Row, firstRow, Limits, limitRows, Arrays, placesOf, roomRow}
-use Rattle.tables.specs.Tables.{
-  Table, walkOf, recordOf, printsOf, parentsOf, codesOf, filledTo, builtTo, BuildReply, table, refusal, Left, left, buildRows, leftBy, buildOf,
-}
-use Rattle.tables.specs.Built.{HoldsNode, Built}
+use Rattle.tables.specs.Checks.{firstRow, Limits, limitRows, Arrays, placesOf, roomRow}
+use Rattle.tables.specs.Tables.{Table, walkOf, recordOf, printsOf, parentsOf, codesOf, filledTo, builtTo}
+use Rattle.tables.specs.Tables.{BuildReply, table, refusal, Left, left, buildRows, leftBy, buildOf}
+use Rattle.tables.specs.Built.{Built}
 use Rattle.tables.proofs.Rows.{numbered-limits, first-none, append-none}
 use Rattle.tables.proofs.Accepted.{accepted, roomy, room-is}
 use Rattle.tables.proofs.Filled.{filled-length, filled-at}
@@ -34,22 +33,26 @@ walk-count l w h =
 
 -- ---- an array filled by what p says of the nodes of each width
 
+-- a list of what p says of the nodes, at one of them
 at-node : (p : Node → ℕ) (ns : List Node) (j : ℕ) → j < length ns → getD (map p ns) j 0 ≡ p (getD ns j root)
 at-node p [] j h = absurd (not-suc-le-zero h)
 at-node p (n ∷ ns) zero h = refl
 at-node p (n ∷ ns) (suc j) h = at-node p ns j (le-of-suc-le-suc h)
 
 module _ (l : Limits) (some : 0 < l .entries) (p : ℕ → Node → ℕ) (column : ℕ → List ℕ) (is : (w : ℕ) → column w ≡ map (p w) (walkOf l w .nodes)) where
-  column-count : (w : ℕ) → length (column w) ≡ length (walkOf l w .nodes)
+  -- a column has a number for each node of its width
+  pub column-count : (w : ℕ) → length (column w) ≡ length (walkOf l w .nodes)
   column-count w = ap length (is w) ∙ length-map (walkOf l w .nodes) (p w)
 
-  column-short : (w : ℕ) → length (column w) ≤ l .entries
+  pub column-short : (w : ℕ) → length (column w) ≤ l .entries
   column-short w = omega (arith, column-count w, walk-count l w some .1)
 
-  column-length : (old : List ℕ) → placesOf l ≤ length old → length (filledTo column (l .entries) (l .qubits) old) ≡ length old
+  -- the array has as many places as it had
+  pub column-length : (old : List ℕ) → placesOf l ≤ length old → length (filledTo column (l .entries) (l .qubits) old) ≡ length old
   column-length old = filled-length column (l .entries) column-short (l .qubits) old
 
-  column-at : (old : List ℕ) → placesOf l ≤ length old → (w : ℕ) → 0 < w → w ≤ l .qubits → (j : ℕ) → j < length (walkOf l w .nodes)
+  -- the place of node j of width w holds what p says of it
+  pub column-at : (old : List ℕ) → placesOf l ≤ length old → (w : ℕ) → 0 < w → w ≤ l .qubits → (j : ℕ) → j < length (walkOf l w .nodes)
       → getD (filledTo column (l .entries) (l .qubits) old) ((w - 1) * l .entries + j) 0 ≡ p w (getD (walkOf l w .nodes) j root)
   column-at old r zero h q j b = absurd (omega arith)
   column-at old r (suc v) h q j b =
@@ -57,7 +60,7 @@ module _ (l : Limits) (some : 0 < l .entries) (p : ℕ → Node → ℕ) (column
       rw e (filled-at column (l .entries) column-short (l .qubits) v j old r (omega arith) (omega (arith, column-count (suc v)))
       ∙ ap (λ (xs : List ℕ). getD xs j 0) (is (suc v)) ∙ at-node (p (suc v)) (walkOf l (suc v) .nodes) j b)
 
--- ---- what no row refuses leaves a built table
+-- ---- limits and arrays that no row refuses: the record, and the arrays filled up to Q, are a built table
 
 built-record : (l : Limits) (a : Arrays) → firstRow (buildRows l a) ≡ 0 → Built (recordOf l) (builtTo l (l .qubits) a)
 unfolding recordOf printsOf parentsOf codesOf
@@ -81,16 +84,19 @@ built-record l a e =
 
 -- ---- a build, by the first row that holds
 
+-- it is refused by that row's number, and leaves the arrays as they were
 pub build-refusal : (l : Limits) (a : Arrays) (r : ℕ) → 0 < r → firstRow (buildRows l a) ≡ r → buildOf l a ≡ left (refusal r 0) a
 unfolding buildOf
 build-refusal l a r h e = ap (leftBy l a) e ∙ rw (ne-eqb r 0 (omega arith))
 
+-- there is none: it returns the record, and widths 1 to Q are filled
 pub build-fills : (l : Limits) (a : Arrays) → firstRow (buildRows l a) ≡ 0 → buildOf l a ≡ left (table (recordOf l)) (builtTo l (l .qubits) a)
 unfolding buildOf
 build-fills l a e = ap (leftBy l a) e
 
 -- ---- a build, by what it answered
 
+-- a record was returned
 abbrev isTable : BuildReply → Bool
 isTable (table t) = true
 isTable (refusal r p) = false
@@ -100,18 +106,20 @@ abbrev tableOr : Table → BuildReply → Table
 tableOr u (table t) = t
 tableOr u (refusal r p) = u
 
--- a build that is not refused leaves a built table of its limits
+-- one that returned a record left a built table of its limits
 pub build-built : (l : Limits) (a b : Arrays) (t : Table) → buildOf l a ≡ left (table t) b → Built t b × (t .limits ≡ l)
 unfolding buildOf recordOf
 build-built l a b t =
     pick-ind (λ (z : Left). z ≡ left (table t) b → Built t b × (t .limits ≡ l)) (eqb (firstRow (buildRows l a)) 0)
     (λ e f. let u : recordOf l ≡ t = ap (λ (z : Left). tableOr t (z .reply)) f in
-    let x : builtTo l (l .qubits) a ≡ b = ap (λ (z : Left). z .arrays) f in
-    (subst (λ (z : Arrays). Built t z) x (subst (λ (z : Table). Built z (builtTo l (l .qubits) a)) u
-    (built-record l a (eqb-true (firstRow (buildRows l a)) 0 e))), sym (ap (λ (z : Table). z .limits) u)))
+    let x : builtTo l (l .qubits) a ≡ b = ap (λ (z : Left). z .arrays) f in (
+      subst (λ (z : Arrays). Built t z) x (subst (λ (z : Table). Built z (builtTo l (l .qubits) a)) u
+          (built-record l a (eqb-true (firstRow (buildRows l a)) 0 e))),
+      sym (ap (λ (z : Table). z .limits) u),
+    ))
     (λ e f. clash (ap (λ (z : Left). isTable (z .reply)) f) refl)
 
--- a refused one leaves the arrays as they were
+-- a refused one left the arrays as they were
 pub build-refused : (l : Limits) (a b : Arrays) (r p : ℕ) → buildOf l a ≡ left (refusal r p) b → b ≡ a
 unfolding buildOf
 build-refused l a b r p =

@@ -2,3 +2,4 @@ pub mod Rows
 pub mod Accepted
 pub mod Filled
 pub mod FromBuild
+pub mod Counts

@@ -37,13 +37,13 @@ module _ (t : Table) (a : Arrays) (b : Built t a) where
       let e : w ≤ 5 = omega (arith, accepted (t .limits) (b .accepted) .widths) in
       ap (λ (z : Table). widthAt z w) (b .returned) ∙ record-at (t .limits) w p e ∙ row-is (t .limits) w q
 
-  -- "counts are at most E", and none is 0
+  -- no count is 0, and none is above E
   pub counts : (w : ℕ) → 0 < w → w ≤ t .limits .qubits → (0 < widthAt t w .count) × (widthAt t w .count ≤ t .limits .entries)
   counts w p q =
       let c = walk-count (t .limits) w (accepted (t .limits) (b .accepted) .some) in
       rw (width-is w p q) c
 
-  -- no count is one for which row 13 refuses
+  -- row 13 does not refuse for the count of any width
   good-count : (w : ℕ) → 0 < w → badCount t w ≡ false
   good-count w p = by (ltb (t .limits .qubits) w) refl
     where

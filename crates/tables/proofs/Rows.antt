@@ -1,0 +1,70 @@
+-- Laws of the first row whose condition holds. Assumes nothing.
+use mathlib.Core.Path.{_≡_, refl, _∙_}
+use mathlib.Core.Bool.{true, false}
+use mathlib.Core.List.{List, [], _∷_, _++_}
+use Prim.Native.Nat.{ℕ, _<_}
+use native.Mathlib.Omega.{arith}
+use lib.IntN.{ℤ}
+use Rattle.exact.proofs.Values.{pick-ind}
+use Rattle.tables.specs.Checks.{Row, firstRow, Limits, limitRows, queryRows}
+
+-- ---- numbers of rows
+
+-- every row's number is not 0
+abbrev pub Numbered : List Row → Type 0
+Numbered [] = Unit {0}
+Numbered (r ∷ rs) = (0 < r .number) × Numbered rs
+
+pub numbered-limits : (l : Limits) → Numbered (limitRows l)
+numbered-limits l = (omega arith, (omega arith, (omega arith, (omega arith, tt))))
+
+pub numbered-query : (n k : ℕ) (bytes : List ℤ) → Numbered (queryRows n k bytes)
+numbered-query n k bytes = (omega arith, (omega arith, (omega arith, (omega arith, tt))))
+
+pub numbered-append : (rs ss : List Row) → Numbered rs → Numbered ss → Numbered (rs ++ ss)
+numbered-append [] ss p q = q
+numbered-append (r ∷ rs) ss p q = (p .0, numbered-append rs ss (p .1) q)
+
+-- ---- one row and the rest
+
+-- a row that holds is the first
+pub first-here : (r : Row) (rs : List Row) → r .holds ≡ true → firstRow (r ∷ rs) ≡ r .number
+unfolding firstRow
+first-here r rs e = rw e
+
+-- a row that does not hold is passed
+pub first-past : (r : Row) (rs : List Row) → r .holds ≡ false → firstRow (r ∷ rs) ≡ firstRow rs
+unfolding firstRow
+first-past r rs e = rw e
+
+-- where no row holds, the first one does not, and none of the rest does
+pub first-none : (r : Row) (rs : List Row) → 0 < r .number → firstRow (r ∷ rs) ≡ 0 → (r .holds ≡ false) × (firstRow rs ≡ 0)
+unfolding firstRow
+first-none r rs p =
+    pick-ind (λ (z : ℕ). z ≡ 0 → (r .holds ≡ false) × (firstRow rs ≡ 0)) (r .holds) (λ e f. absurd (omega arith)) (λ e f. (e, f))
+
+-- ---- rows after rows
+
+-- where none of the first rows holds, the later ones decide
+pub firstRow-append : (rs ss : List Row) → Numbered rs → firstRow rs ≡ 0 → firstRow (rs ++ ss) ≡ firstRow ss
+firstRow-append [] ss p e = refl
+firstRow-append (r ∷ rs) ss p e =
+    let f = first-none r rs (p .0) e in
+    first-past r (rs ++ ss) (f .0) ∙ firstRow-append rs ss (p .1) (f .1)
+
+-- a refusal of the first rows stays
+pub first-some : (rs ss : List Row) (a : ℕ) → 0 < a → firstRow rs ≡ a → firstRow (rs ++ ss) ≡ a
+unfolding firstRow
+first-some [] ss a p = λ e. absurd (omega arith)
+first-some (r ∷ rs) ss a p =
+    pick-ind (λ (z : ℕ). z ≡ a → firstRow ((r ∷ rs) ++ ss) ≡ a) (r .holds)
+    (λ h e. first-here r (rs ++ ss) h ∙ e) (λ h e. first-past r (rs ++ ss) h ∙ first-some rs ss a p e)
+
+-- where none of all the rows holds, none of the first does and none of the later does
+pub append-none : (rs ss : List Row) → Numbered rs → firstRow (rs ++ ss) ≡ 0 → (firstRow rs ≡ 0) × (firstRow ss ≡ 0)
+unfolding firstRow
+append-none [] ss p e = (refl, e)
+append-none (r ∷ rs) ss p e =
+    let f = first-none r (rs ++ ss) (p .0) e in
+    let g = append-none rs ss (p .1) (f .1) in
+    (first-past r rs (f .0) ∙ g .0, g .1)

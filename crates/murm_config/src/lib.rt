@@ -4,7 +4,8 @@ ghost use mathlib.Core.Bool.{_||_};
 ghost use Prim.Native.Nat.{_<_, _≤_};
 ghost use lib.Dec.{ltb};
 ghost use Rattle.tables.specs.Checks.{firstRow, limitRows, placesOf};
-ghost use Rattle.tables.specs.Tables.{widthAt, recordRow};
+ghost use Rattle.tables.specs.Tables.{allWidths, widthAt, badCount, recordRow};
+ghost use Rattle.walk.specs.Walk.{any};
 ghost use Rattle.murm_config.specs.Told.{toldConfig, toldLimitCheck, toldWidth, toldMurm, badCountOf, withWidth, emptyOf};
 use circuit::GateSet;
 use width_table::WidthTable;
@@ -110,13 +111,10 @@ fn bad_count(width: u32, qubits: u32, entries: u32, count: usize) -> bool
     count > entries as usize
 }
 
-// "13 for a record whose limits break 1 to 4 or whose count at any width up to Q is 0 or above E".
-pub fn bad_record(table: Murm) -> bool
-    ensures { λ r. ⌜ r ≡ recordRow (toldMurm table) .holds ⌝ }
+// The same of any width.
+fn bad_counts(table: Murm) -> bool
+    ensures { λ r. ⌜ r ≡ any (badCount (toldMurm table)) allWidths ⌝ }
 {
-    let LimitCheck::Accepted = limits(table.config) else {
-        return true;
-    };
     let q = table.config.max_qubits;
     let e = table.config.max_entries_per_qubit;
     if bad_count(1, q, e, table.width1.count) {
@@ -132,6 +130,19 @@ pub fn bad_record(table: Murm) -> bool
         return true;
     }
     bad_count(5, q, e, table.width5.count)
+}
+
+// "13 for a record whose limits break 1 to 4 or whose count at any width up to Q is 0 or above E".
+pub fn bad_record(table: Murm) -> bool
+    ensures { λ r. ⌜ r ≡ recordRow (toldMurm table) .holds ⌝ }
+{
+    match limits(table.config) {
+        LimitCheck::Accepted => bad_counts(table),
+        LimitCheck::WidthLimit => true,
+        LimitCheck::NoEntries => true,
+        LimitCheck::Basis => true,
+        LimitCheck::TooLarge => true,
+    }
 }
 
 // The record before any width is built.

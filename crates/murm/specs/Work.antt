@@ -6,7 +6,9 @@ use Prim.Native.Nat.{ℕ, _≤_, _<_}
 use lib.IntN.{ℤ, pos, negsuc, natAbs}
 use lib.ListN.{length, getD}
 use Rattle.cyclotomic.specs.Zomega.{limit, eqZ}
-use Rattle.tables.specs.Checks.{anyBelow}
+use Rattle.exact.specs.Fits.{AllSmall}
+use Rattle.places.specs.Places.{read}
+use Rattle.tables.specs.Checks.{anyBelow, firstRow, queryRows}
 
 -- whether a coefficient is -128; a byte that is not is within the limit
 pub record PastLimit (x : ℤ) (r : Bool) : Type 0 where
@@ -17,3 +19,8 @@ pub record PastLimit (x : ℤ) (r : Bool) : Type 0 where
 pub record InRange (l : List ℤ) (r : Bool) : Type 0 where
   pub told : r ≡ not (anyBelow l)
   pub small : r ≡ true → (i : ℕ) → i < length l → natAbs (getD l i (pos 0)) ≤ limit
+
+-- the checks of a query, by the number of the row that refuses; a query that none refuses is within the limit
+pub record Checked (n k : ℕ) (l : List ℤ) (r : ℕ) : Type 0 where
+  pub told : r ≡ firstRow (queryRows n k l)
+  pub small : r ≡ 0 → AllSmall n (read n l)

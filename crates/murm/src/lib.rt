@@ -1,27 +1,26 @@
 // The public entries: each decides every input. murm.rs of the original: `library_circuit_matrix`, `Murm::build`, `Murm::synthesize`;
 // matrix.rs: `unitary_fingerprint`.
 ghost use mathlib.Core.Path.{_≡_};
-ghost use mathlib.Core.Bool.{_&&_};
-ghost use Prim.Native.Nat.{_*_, _^_, _≤_};
+ghost use mathlib.Core.Bool.{false, _&&_};
+ghost use Prim.Native.Nat.{_*_, _^_, _≤_, _<_};
 ghost use lib.Dec.{ltb};
 ghost use lib.ListN.{length};
 ghost use Rattle.exact.specs.Matrix.{allDivisible};
+ghost use Rattle.exact.specs.Fits.{AllSmall};
 ghost use Rattle.places.specs.Places.{read};
 ghost use Rattle.width_answer.specs.Answers.{outcome as replied};
 ghost use Rattle.tables.specs.Checks.{firstRow, queryRows, arrays, roomRow};
-ghost use Rattle.tables.specs.Tables.{left, buildOf, query, recordRow, partAsked, synthesized};
+ghost use Rattle.tables.specs.Tables.{query, recordRow, partAsked, synthesized};
 ghost use Rattle.murm_config.specs.Told.{toldConfig, toldMurm};
-ghost use Rattle.murm.specs.Entries.{firstInvalid, outcome, listed, toldListed, fingerprinted, toldFingerprinted, toldQueryCheck, toldBuilding, askedOf, toldSynthesized};
-ghost use Rattle.murm.specs.Work.{PastLimit, InRange};
+ghost use Rattle.murm.specs.Entries.{firstInvalid, outcome, listed, toldListed, fingerprinted, toldFingerprinted, toldQueryCheck, askedOf, toldSynthesized};
+ghost use Rattle.murm.specs.Work.{PastLimit, InRange, Checked};
 use circuit::LibraryGate;
 use cyclotomic::Coefficient;
 use cyclotomic::LIMIT;
 use cyclotomic::Wide;
 use lists::Walked;
 use matrix::UnitaryMatrix;
-use murm_config::LimitCheck;
 use murm_config::Murm;
-use murm_config::MurmConfig;
 use width_answer::Answered;
 
 // What a list became: its exponent, or why it was refused, with the position where there is one.
@@ -138,7 +137,7 @@ pub enum QueryCheck {
 
 // The checks of a query.
 pub fn check_query(width: u32, exponent: u16, entries: &[Coefficient]) -> QueryCheck
-    ensures { λ r. ⌜ toldQueryCheck r ≡ firstRow (queryRows width exponent (now (entries .entry))) ⌝ }
+    ensures { λ r. ⌜ Checked width exponent (now (entries .entry)) (toldQueryCheck r) ⌝ }
 {
     if width > 5 {
         return QueryCheck::WidthTooLarge;
@@ -184,29 +183,6 @@ pub enum Building {
     ArrayTooShort,
 }
 
-// "a table is built": rows 1, 2, 3, 4, 5. A refusal leaves the three arrays as they were.
-pub fn build(
-    config: MurmConfig,
-    fingerprints: &mut [u64],
-    parents: &mut [u32],
-    codes: &mut [u32],
-) -> Building
-    ensures { λ r. ⌜ left (toldBuilding r) (arrays (now (fingerprints .exit)) (now (parents .exit)) (now (codes .exit))) ≡ buildOf (toldConfig config) (arrays (now (fingerprints .entry)) (now (parents .entry)) (now (codes .entry))) ⌝ }
-{
-    match murm_config::limits(config) {
-        LimitCheck::Accepted => {
-            if murm_config::too_short(config, fingerprints.len(), parents.len(), codes.len()) {
-                return Building::ArrayTooShort;
-            }
-            Building::Table(murm_widths::build_widths(config, fingerprints, parents, codes))
-        }
-        LimitCheck::WidthLimit => Building::WidthLimit,
-        LimitCheck::NoEntries => Building::NoEntries,
-        LimitCheck::Basis => Building::Basis,
-        LimitCheck::TooLarge => Building::TooLarge,
-    }
-}
-
 // What a table answers: a list, by how many gates it has; none; or why it was refused.
 pub enum Synthesized {
     Circuit(usize),
@@ -233,7 +209,7 @@ fn ask_part(
 ) -> Synthesized
     requires { ⌜ (0 < width) × (width ≤ table .config .«max_qubits») × (recordRow (toldMurm table) .holds ≡ false) ⌝ }
     requires { ⌜ roomRow (toldConfig (table .config)) (arrays (now fingerprints) (now parents) (now codes)) .holds ≡ false ⌝ }
-    requires { ⌜ firstRow (queryRows width exponent (now matrix)) ≡ 0 ⌝ }
+    requires { ⌜ (firstRow (queryRows width exponent (now matrix)) ≡ 0) × AllSmall width (read width (now matrix)) ⌝ }
     requires { ⌜ table .config .«max_gates» ≤ length (now out) ⌝ }
     ensures { λ r. ⌜ replied (toldSynthesized r) (now (out .exit)) ≡ partAsked (toldMurm table) (arrays (now (fingerprints .entry)) (now (parents .entry)) (now (codes .entry))) (query width exponent (now (matrix .entry))) (now (out .entry)) ⌝ }
 {
@@ -272,7 +248,7 @@ fn ask(
 ) -> Synthesized
     requires { ⌜ recordRow (toldMurm table) .holds ≡ false ⌝ }
     requires { ⌜ roomRow (toldConfig (table .config)) (arrays (now fingerprints) (now parents) (now codes)) .holds ≡ false ⌝ }
-    requires { ⌜ firstRow (queryRows width exponent (now matrix)) ≡ 0 ⌝ }
+    requires { ⌜ (firstRow (queryRows width exponent (now matrix)) ≡ 0) × AllSmall width (read width (now matrix)) ⌝ }
     ensures { λ r. ⌜ replied (toldSynthesized r) (now (out .exit)) ≡ askedOf (toldMurm table) (arrays (now (fingerprints .entry)) (now (parents .entry)) (now (codes .entry))) (query width exponent (now (matrix .entry))) (now (out .entry)) ⌝ }
 {
     if out.len() < table.config.max_gates as usize {

@@ -1,4 +1,4 @@
--- `library_fingerprint` meets its contract: each test that was passed decides its row of the definition.
+-- `check_query` meets its contract: each test that was passed decides its row of the definition.
 use mathlib.Core.Path.{_≡_, refl, sym, ap, _∙_, subst}
 use mathlib.Core.Bool.{Bool, true, false}
 use Prim.Native.Nat.{ℕ, _*_, _^_, _≤_}
@@ -8,13 +8,12 @@ use lib.ListN.{length}
 use borrow.Author.Needs.{needs}
 use borrow.Author.Tests.{not-true, not-false}
 use Rattle.places.proofs.Placed.{area-le}
-use Rattle.exact.specs.Answers.{given}
 use Rattle.tables.specs.Checks.{byteCount, anyBelow}
 use Rattle.murm.specs.Work.{InRange}
 use Rattle.murm.proofs.Bytes.{byte-count, bytes-small}
-use Rattle.murm.proofs.Answers.{print-6, print-9, print-10, print-11, print-given}
-use Rattle.murm.proofs.library_fingerprint.Statement.{statement}
-use Rattle.murm.proofs.library_fingerprint.Tie as tie
+use Rattle.murm.proofs.Answers.{query-6, query-9, query-10, query-11, query-allowed}
+use Rattle.murm.proofs.check_query.Statement.{statement}
+use Rattle.murm.proofs.check_query.Tie as tie
 
 -- the width is up to 5, and the places of its matrix are counted
 sized : (c : tie.After-area) → (c .before .before .args .width ≤ 5) × (4 * (c .area .result) ≡ byteCount (c .before .before .args .width))
@@ -28,15 +27,20 @@ exact : (c : tie.Else2) → let s = c .before .before .before .args in length (s
 exact c = c .if2 .left ∙ sized (c .before) .1
 
 returns : tie.Need-returns
-returns c = print-6 _ _ _ (c .if1 .taken)
+returns c = record { told = query-6 _ _ _ (c .if1 .taken); small = λ e. absurd (omega (arith, e)) }
 
 returns-2 : tie.Need-returns-2
-returns-2 c = print-9 _ _ _ (sized (c .before) .0) (λ q. c .if2 .taken (q ∙ sym (sized (c .before) .1)))
+returns-2 c = record {
+  told = query-9 _ _ _ (sized (c .before) .0) (λ q. c .if2 .taken (q ∙ sym (sized (c .before) .1)));
+  small = λ e. absurd (omega (arith, e));
+}
 
 returns-3 : tie.Need-returns-3
-returns-3 c =
-    print-10 _ _ _ (sized (c .before .before .before) .0) (exact (c .before .before))
-    (not-false _ (sym (c .before .in-range .ensures .told) ∙ not-true _ (c .if3 .taken)))
+returns-3 c = record {
+  told = query-10 _ _ _ (sized (c .before .before .before) .0) (exact (c .before .before))
+      (not-false _ (sym (c .before .in-range .ensures .told) ∙ not-true _ (c .if3 .taken)));
+  small = λ e. absurd (omega (arith, e));
+}
 
 -- no coefficient is -128
 ranged : (c : tie.Else3) → let s = c .before .before .before .before .before .args in InRange (s .entries .now) true
@@ -52,21 +56,21 @@ whole c = (sized (c .before .before .before) .0, le-of-eq (sym (byte-count _) �
 returns-4 : tie.Need-returns-4
 returns-4 c =
     let e = c .before .before in
-    print-11 _ _ _ (whole e .0) (exact (e .before .before)) (none-below e) (sym (c .before .is-divisible .ensures) ∙ c .if4 .taken)
-
-unitary-fingerprint-requires : tie.Need-unitary-fingerprint-requires
-unitary-fingerprint-requires c κs =
-    let e = c .before .before in
-    (whole e .0, (whole e .1, bytes-small _ _ (exact (e .before .before)) (ranged e .small refl)))
+    record {
+      told = query-11 _ _ _ (whole e .0) (exact (e .before .before)) (none-below e) (sym (c .before .is-divisible .ensures) ∙ c .if4 .taken);
+      small = λ z. absurd (omega (arith, z));
+    }
 
 returns-5 : tie.Need-returns-5
 returns-5 c =
-    let e = c .before .before .before in
-    ap given (c .unitary-fingerprint .ensures)
-    ∙ print-given _ _ _ (whole e .0) (exact (e .before .before)) (none-below e) (sym (c .before .before .is-divisible .ensures) ∙ c .before .if4 .left)
+    let e = c .before .before in
+    record {
+      told = query-allowed _ _ _ (whole e .0) (exact (e .before .before)) (none-below e) (sym (c .before .is-divisible .ensures) ∙ c .if4 .left);
+      small = λ z. bytes-small _ _ (exact (e .before .before)) (ranged e .small refl);
+    }
 
-pub library-fingerprint-spec : {M : Type 1} → statement M
-library-fingerprint-spec =
+pub check-query-spec : {M : Type 1} → statement M
+check-query-spec =
     tie.close
     (tie.spec
     returns
@@ -77,5 +81,4 @@ library-fingerprint-spec =
     returns-3
     (λ c κs. whole c)
     returns-4
-    unitary-fingerprint-requires
     returns-5)

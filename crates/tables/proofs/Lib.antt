@@ -4,3 +4,4 @@ pub mod Filled
 pub mod FromBuild
 pub mod Counts
 pub mod Joined
+pub mod Replies

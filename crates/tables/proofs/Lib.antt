@@ -5,3 +5,5 @@ pub mod FromBuild
 pub mod Counts
 pub mod Joined
 pub mod Replies
+pub mod OfBuilt
+pub mod Demand3

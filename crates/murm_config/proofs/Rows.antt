@@ -42,11 +42,25 @@ module _ (l : Limits) where
               pub many-entries : 1000000 < l .entries → 4 ≡ firstRow (limitRows l)
               unfolding firstRow
               many-entries h =
-                  rw (ne-eqb (l .qubits) 0 some, le-ltb 5 (l .qubits) few, ne-eqb (l .entries) 0 entries, basis, known, le-ltb 64 (l .gates) gates,
-                  lt-ltb 1000000 (l .entries) h)
+                  rw (
+                    ne-eqb (l .qubits) 0 some,
+                    le-ltb 5 (l .qubits) few,
+                    ne-eqb (l .entries) 0 entries,
+                    basis,
+                    known,
+                    le-ltb 64 (l .gates) gates,
+                    lt-ltb 1000000 (l .entries) h,
+                  )
 
               pub accepted : l .entries ≤ 1000000 → 0 ≡ firstRow (limitRows l)
               unfolding firstRow
               accepted h =
-                  rw (ne-eqb (l .qubits) 0 some, le-ltb 5 (l .qubits) few, ne-eqb (l .entries) 0 entries, basis, known, le-ltb 64 (l .gates) gates,
-                  le-ltb 1000000 (l .entries) h)
+                  rw (
+                    ne-eqb (l .qubits) 0 some,
+                    le-ltb 5 (l .qubits) few,
+                    ne-eqb (l .entries) 0 entries,
+                    basis,
+                    known,
+                    le-ltb 64 (l .gates) gates,
+                    le-ltb 1000000 (l .entries) h,
+                  )

@@ -14,7 +14,6 @@ use Rattle.exact.specs.Unitary.{Unitary}
 use Rattle.walk.specs.AtWidth.{answered}
 use Rattle.walk.specs.Demand3.{Answers}
 use Rattle.walk.proofs.Demand3 as at-width
-use Rattle.width_answer.specs.Answers.{refused, outcome}
 use Rattle.width_answer.proofs.Meaning.{kind-of}
 use Rattle.tables.specs.Checks.{firstRow, Arrays, queryRows}
 use Rattle.tables.specs.Tables.{Table, walkOf, Query, matrixOf, listRow, notAWidth}
@@ -25,10 +24,10 @@ use Rattle.tables.proofs.FromBuild.{build-built, build-refused}
 use Rattle.tables.proofs.Counts.{counts}
 use Rattle.tables.proofs.Joined.{toldOption}
 use Rattle.tables.proofs.Replies.{number-of, rowOfAnswer, Case, not-a-width, part-asked, by-row, row-refuses, cases, gives-asked, no-row, decided, gives-right}
-use Rattle.tables.proofs.OfBuilt.{asked-lowest, a-width, told-none, rows-are, rows-up-to, query-passed, widths-small, told-walk, gives-walk}
+use Rattle.tables.proofs.OfBuilt.{asked-lowest, a-width, told-none, not-refusal, rows-are, rows-up-to, query-passed, widths-small, told-walk, gives-walk}
 
 -- a width from 1 to Q is one that the table has
-has-width : (t : Table) (q : Query) → 0 < q .width → q .width ≤ t .limits .qubits → notAWidth t q ≡ false
+pub has-width : (t : Table) (q : Query) → 0 < q .width → q .width ≤ t .limits .qubits → notAWidth t q ≡ false
 has-width t q p h = rw (ne-eqb (q .width) 0 (omega arith), le-ltb (t .limits .qubits) (q .width) h)
 
 -- ---- (a) and (d), whatever the memory holds
@@ -51,8 +50,8 @@ module _ (t t′ : Table) (a a′ : Arrays) (b : Built t a) (b′ : Built t′ a
       let w = a-width t q f in
       let h : q .width ≤ t′ .limits .qubits = omega (arith, w .1, s .qubits) in
       let more =
-          at-width.demand (q .width) (t .limits .basis) (widths-small t a b (q .width) (w .1)) .larger (t .limits .gates) (t′ .limits .gates)
-          (t .limits .entries) (t′ .limits .entries) (s .gates) (s .entries) (matrixOf q) l g in
+      at-width.demand (q .width) (t .limits .basis) (widths-small t a b (q .width) (w .1)) .larger (t .limits .gates) (t′ .limits .gates)
+      (t .limits .entries) (t′ .limits .entries) (s .gates) (s .entries) (matrixOf q) l g in
       told-walk t′ a′ b′ q out′ e (has-width t′ q (w .0) h)
       ∙ ap (λ (z : ℕ). toldOption (answered (q .width) z (t′ .limits .gates) (t′ .limits .entries) (matrixOf q)) out′) (s .basis)
       ∙ ap (λ (o : Option (List ℕ)). toldOption o out′) more
@@ -83,11 +82,11 @@ module _ (t : Table) (a : Arrays) (b : Built t a) where
         w (small (a-width t q (gives-asked t a q out l g .1) .1)) .shortest (matrixOf q) (low out (gives-asked t a q out l g .0)) l
         (gives-walk t a b q out l g) m (r .of-basis) (r .power);
     none-exactly = λ p h s out n. let e = no-row t a q out n in
-    let k = told-walk t a b q out e (has-width t q p h) in
-    let x = w (small h) .none-exactly s (matrixOf q) (low out e) in (
-      (λ g m r c. x .0 (told-none _ out (sym k ∙ g)) m (r .of-basis) c (r .power)),
-      (λ f. k ∙ ap (λ (o : Option (List ℕ)). toldOption o out) (x .1 (λ m o c s. f m (record { of-basis = o; power = s }) c))),
-    );
+        let k = told-walk t a b q out e (has-width t q p h) in
+        let x = w (small h) .none-exactly s (matrixOf q) (low out e) in (
+          (λ g m r c. x .0 (told-none _ out (sym k ∙ g)) m (r .of-basis) c (r .power)),
+          (λ f. k ∙ ap (λ (o : Option (List ℕ)). toldOption o out) (x .1 (λ m o c s. f m (record { of-basis = o; power = s }) c))),
+        );
   }
     where
       small : q .width ≤ t .limits .qubits → q .width ≤ 5
@@ -100,13 +99,11 @@ module _ (t : Table) (a : Arrays) (b : Built t a) where
   never-13 : (q : Query) (out : List ℕ) → Refuses t a q out 13 → ⊥
   never-13 q out n = by (cases t a q out)
     where
-      told : (o : Option (List ℕ)) → toldOption o out ≡ outcome (refused 13 0) out → ⊥
-      told none e = absurd (omega (arith, kind-of e))
-      told (some l) e = absurd (omega (arith, kind-of e))
-
       by : Case t a q out → ⊥
       by (not-a-width e f m) = absurd (omega (arith, kind-of (sym m ∙ n)))
-      by (part-asked e f p) = told (answered (q .width) (t .limits .basis) (t .limits .gates) (t .limits .entries) (matrixOf q)) (sym (told-walk t a b q out e f) ∙ n)
+      by (part-asked e f p) =
+          not-refusal (answered (q .width) (t .limits .basis) (t .limits .gates) (t .limits .entries) (matrixOf q)) 13 out
+          (sym (told-walk t a b q out e f) ∙ n)
       by (by-row r h e m) = absurd (omega (arith, number-of (sym m ∙ n), rows-up-to t a b q out))
 
 -- ---- the demand

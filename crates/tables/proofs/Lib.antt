@@ -7,3 +7,4 @@ pub mod Joined
 pub mod Replies
 pub mod OfBuilt
 pub mod Demand3
+pub mod Samples

@@ -5,22 +5,23 @@ use mathlib.Core.List.{List, [], _∷_, _++_}
 use mathlib.Core.Option.{Option, none, some}
 use Prim.Native.Nat.{ℕ, _+_, _-_, _*_, _≤_, _<_}
 use native.Mathlib.Omega.{arith}
-use borrow.Author.Tests.{eqb-false, ltb-false, lt-ltb}
+use borrow.Author.Tests.{ltb-false, lt-ltb}
 use lib.Dec.{eqb, ltb}
 use lib.IntN.{ℤ}
-use lib.ListN.{length, getD, take, drop}
+use lib.ListN.{length, getD, drop}
 use lib.Seq.{getD-take, getD-drop}
 use Rattle.ints.proofs.Bools.{neither}
 use Rattle.exact.specs.Matrix.{Exact, Lowest, allDivisible}
 use Rattle.exact.proofs.Values.{pick-ind}
 use Rattle.places.specs.Places.{read, held}
 use Rattle.walk.specs.AtWidth.{answered}
-use Rattle.width_answer.specs.Answers.{given, Outcome, outcome, answerOf}
+use Rattle.width_answer.specs.Answers.{given, refused, outcome, answerOf}
 use Rattle.width_answer.specs.Answers as a
+use Rattle.width_answer.proofs.Meaning.{kind-of}
 use Rattle.tables.specs.Checks.{Row, row, firstRow, Arrays, placesOf, roomRow, byteCount, anyBelow, queryRows}
 use Rattle.tables.specs.Tables.{Table, Width, widthAt, walkOf, Query, matrixOf, recordRow, listRow, partOf, partAsked, notAWidth, synthesized}
 use Rattle.tables.specs.Built.{Built}
-use Rattle.tables.specs.Demand3.{Gives, GivesNone}
+use Rattle.tables.specs.Demand3.{Gives}
 use Rattle.tables.proofs.Rows.{numbered-query, first-past, first-none, append-none}
 use Rattle.tables.proofs.Accepted.{above, accepted, roomy}
 use Rattle.tables.proofs.Filled.{part-length, room-at}
@@ -68,6 +69,10 @@ told-some (some m) out l e = ap some (one-list m l out e)
 pub told-none : (o : Option (List ℕ)) (out : List ℕ) → toldOption o out ≡ outcome a.none out → o ≡ none
 told-none none out e = refl
 told-none (some m) out e = not-given (omega arith) (sym e)
+
+pub not-refusal : (o : Option (List ℕ)) (r : ℕ) (out : List ℕ) → toldOption o out ≡ outcome (refused r 0) out → ⊥
+not-refusal none r out e = absurd (omega (arith, kind-of e))
+not-refusal (some l) r out e = absurd (omega (arith, kind-of e))
 
 -- ---- a built table
 

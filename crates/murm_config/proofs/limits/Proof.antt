@@ -9,7 +9,7 @@ use Rattle.murm_config.proofs.limits.Statement.{statement}
 use Rattle.murm_config.proofs.limits.Tie as tie
 
 returns : tie.Need-returns
-returns c = no-width (toldConfig (c .before .before .args .config))  (c .if1 .taken)
+returns c = no-width (toldConfig (c .before .before .args .config)) (c .if1 .taken)
 
 returns-2 : tie.Need-returns-2
 returns-2 c = wide (toldConfig (c .before .before .before .before .args .config)) (c .before .before .if1 .left) (c .if2 .taken)

@@ -1,14 +1,12 @@
 -- Demand 3 and what stands beside it, of what the public entries answer: the statements of specs/Demand3. Assumes nothing.
 use mathlib.Core.Path.{_≡_, refl, sym, ap, _∙_}
-use mathlib.Core.Logic.{_↔_, _⊎_, inl, inr}
+use mathlib.Core.Logic.{_⊎_, inl, inr}
 use mathlib.Core.Bool.{Bool, true, false}
 use mathlib.Core.List.{List, [], _∷_}
-use mathlib.Core.Option.{Option, none, some}
+use mathlib.Core.Option.{Option, some}
 use Prim.Native.Nat.{ℕ, _≤_, _<_}
 use native.Mathlib.Omega.{arith}
 use borrow.Author.Tests.{le-ltb, ne-eqb}
-use lib.Dec.{eqb, ltb}
-use lib.ListN.{length}
 use Rattle.exact.specs.Matrix.{Lowest}
 use Rattle.exact.specs.Unitary.{Unitary}
 use Rattle.walk.specs.AtWidth.{answered}
@@ -16,15 +14,17 @@ use Rattle.walk.specs.Demand3.{Answers}
 use Rattle.walk.proofs.Demand3 as at-width
 use Rattle.width_answer.proofs.Meaning.{kind-of}
 use Rattle.tables.specs.Checks.{firstRow, Arrays, queryRows}
-use Rattle.tables.specs.Tables.{Table, walkOf, Query, matrixOf, listRow, notAWidth}
+use Rattle.tables.specs.Tables.{Table, Query, matrixOf, listRow, notAWidth}
 use Rattle.tables.specs.Built.{Built}
-use Rattle.tables.specs.Demand3.{Gives, GivesNone, Refuses, NotRefused, Decided, a-list, no-list, a-refusal, NoSmaller, Reaches, Complete, Demand3}
+use Rattle.tables.specs.Demand3.{Gives, GivesNone, Refuses, NotRefused, Decided, a-list, no-list, a-refusal, NoSmaller, Complete, Demand3}
 use Rattle.tables.proofs.Rows.{numbered-query, first-here, first-past, firstRow-append}
 use Rattle.tables.proofs.FromBuild.{build-built, build-refused}
 use Rattle.tables.proofs.Counts.{counts}
 use Rattle.tables.proofs.Joined.{toldOption}
-use Rattle.tables.proofs.Replies.{number-of, rowOfAnswer, Case, not-a-width, part-asked, by-row, row-refuses, cases, gives-asked, no-row, decided, gives-right}
-use Rattle.tables.proofs.OfBuilt.{asked-lowest, a-width, told-none, not-refusal, rows-are, rows-up-to, query-passed, widths-small, told-walk, gives-walk}
+use Rattle.tables.proofs.Replies.{number-of, rowOfAnswer, Case, not-a-width, part-asked, by-row, row-refuses, cases}
+use Rattle.tables.proofs.Replies.{gives-asked, no-row, decided, gives-right}
+use Rattle.tables.proofs.OfBuilt.{asked-lowest, a-width, told-none, not-refusal, rows-are, rows-up-to, query-passed}
+use Rattle.tables.proofs.OfBuilt.{widths-small, told-walk, gives-walk}
 
 -- a width from 1 to Q is one that the table has
 pub has-width : (t : Table) (q : Query) → 0 < q .width → q .width ≤ t .limits .qubits → notAWidth t q ≡ false
@@ -115,7 +115,8 @@ demand = record {
   right = λ t a q out l g. let r = gives-right t a q out l g in (r .power, r .valid, r .short);
   build-built = build-built;
   larger = λ t t′ a a′ b b′ s q out out′ l g. larger t t′ a a′ b b′ s q out out′ l g;
-  complete = λ t a b le q nc. answers-complete t a b q (λ small. at-width.demand (q .width) (t .limits .basis) small .complete (t .limits .gates) (t .limits .entries) le nc);
+  complete = λ t a b le q nc. answers-complete t a b q
+      (λ small. at-width.demand (q .width) (t .limits .basis) small .complete (t .limits .gates) (t .limits .entries) le nc);
   complete-rightly = λ t a b le q K. answers-complete t a b q
       (λ small. at-width.demand (q .width) (t .limits .basis) small .complete-rightly (t .limits .gates) (t .limits .entries) le K);
   unitary = λ t a q out l g. gives-right t a q out l g .unitary;

@@ -7,4 +7,5 @@ pub mod Joined
 pub mod Replies
 pub mod OfBuilt
 pub mod Demand3
+pub mod Refused
 pub mod Samples

@@ -1,6 +1,6 @@
 -- What a built table answers: rows 13 and 5 do not refuse it, and a width that it has answers as the walk does. Assumes nothing.
 use mathlib.Core.Path.{_≡_, refl, sym, ap, _∙_}
-use mathlib.Core.Bool.{Bool, true, false, not, _&&_}
+use mathlib.Core.Bool.{Bool, false, not, _&&_}
 use mathlib.Core.List.{List, [], _∷_, _++_}
 use mathlib.Core.Option.{Option, none, some}
 use Prim.Native.Nat.{ℕ, _+_, _-_, _*_, _≤_, _<_}
@@ -19,7 +19,7 @@ use Rattle.width_answer.specs.Answers.{given, refused, outcome, answerOf}
 use Rattle.width_answer.specs.Answers as a
 use Rattle.width_answer.proofs.Meaning.{kind-of}
 use Rattle.tables.specs.Checks.{Row, row, firstRow, Arrays, placesOf, roomRow, byteCount, anyBelow, queryRows}
-use Rattle.tables.specs.Tables.{Table, Width, widthAt, walkOf, Query, matrixOf, recordRow, listRow, partOf, partAsked, notAWidth, synthesized}
+use Rattle.tables.specs.Tables.{Table, Width, widthAt, walkOf, Query, matrixOf, recordRow, listRow, partOf, notAWidth, synthesized}
 use Rattle.tables.specs.Built.{Built}
 use Rattle.tables.specs.Demand3.{Gives}
 use Rattle.tables.proofs.Rows.{numbered-query, first-past, first-none, append-none}

@@ -3,16 +3,12 @@
 use mathlib.Core.Path.{_≡_, refl, sym, ap, _∙_, subst}
 use mathlib.Core.Bool.{Bool, true, false}
 use mathlib.Core.List.{List, _++_}
-use Prim.Native.Nat.{ℕ, zero, suc, _≤_, _<_}
+use Prim.Native.Nat.{ℕ, zero, suc, _<_}
 use native.Mathlib.Omega.{arith}
 use borrow.Author.Tests.{ne-eqb}
 use lib.ListN.{length, take, drop}
 use lib.Seq.{take-at}
-use Rattle.exact.specs.Matrix.{Exact, PowerOf}
-use Rattle.exact.specs.Lists.{product}
-use Rattle.exact.specs.Unitary.{Unitary}
-use Rattle.walk.specs.AtWidth.{ListOf}
-use Rattle.width_answer.specs.Answers.{Reply, given, none, refused, Outcome, outcome, answerOf, Means, Right}
+use Rattle.width_answer.specs.Answers.{Reply, given, none, refused, Outcome, outcome, Answers, Means, Right}
 use Rattle.width_answer.proofs.Meaning.{kind, size, kind-of, means}
 use Rattle.width_answer.proofs.Told.{answers-right}
 use Rattle.tables.specs.Checks.{firstRow, Arrays}
@@ -34,7 +30,8 @@ pub not-given : {A : Type 0} {b : Reply} {m : ℕ} {l k : List ℕ} → 0 < kind
 not-given h e = absurd (omega (arith, h, kind-of e))
 
 -- a list that fills the first places is known from the answer
-pub one-list : (l m out : List ℕ) → outcome (given (length l)) (l ++ drop (length l) out) ≡ outcome (given (length m)) (m ++ drop (length m) out) → l ≡ m
+pub one-list : (l m out : List ℕ)
+    → outcome (given (length l)) (l ++ drop (length l) out) ≡ outcome (given (length m)) (m ++ drop (length m) out) → l ≡ m
 one-list l m out e =
     let z : length l ≡ length m = ap (λ (o : Outcome). size (o .reply)) e in
     sym (take-at l (drop (length l) out) (length l) refl) ∙ ap (λ (o : Outcome). take (length l) (o .list)) e
@@ -100,7 +97,7 @@ module _ (t : Table) (a : Arrays) (q : Query) (out : List ℕ) where
 
   -- ---- what the part of the width answers
 
-  abbrev asked-means : Means (partOf (q .width) (t .limits .entries) (a .prints)) (partOf (q .width) (t .limits .entries) (a .parents))
+  abbrev pub asked-means : Means (partOf (q .width) (t .limits .entries) (a .prints)) (partOf (q .width) (t .limits .entries) (a .parents))
       (partOf (q .width) (t .limits .entries) (a .codes)) (widthAt t (q .width) .count) (q .width) (t .limits .basis) (t .limits .gates) (matrixOf q) out
   asked-means =
       means (partOf (q .width) (t .limits .entries) (a .prints)) (partOf (q .width) (t .limits .entries) (a .parents))
@@ -127,9 +124,15 @@ module _ (t : Table) (a : Arrays) (q : Query) (out : List ℕ) where
       by (part-asked e f p) = at p (partAsked t a q out .reply) refl
       by (by-row r h e n) = a-refusal r n
 
-  -- (a), and that the matrix asked is unitary
-  pub gives-right : (l : List ℕ) → Gives t a q out l → Right (q .width) (t .limits .basis) (t .limits .gates) (matrixOf q) l
-  gives-right l g =
+  -- the list given is the part's
+  pub gives-answers : (l : List ℕ) → Gives t a q out l
+      → Answers (partOf (q .width) (t .limits .entries) (a .prints)) (partOf (q .width) (t .limits .entries) (a .parents))
+      (partOf (q .width) (t .limits .entries) (a .codes)) (widthAt t (q .width) .count) (q .width) (t .limits .basis) (t .limits .gates) (matrixOf q) l
+  gives-answers l g =
       let (m, w, z, h) = asked-means .is-list (length l) (l ++ drop (length l) out) .0 (gives-asked l g .2) in
       let e : l ≡ m = one-list l m out ((λ k. outcome (given (z k)) (h k)) ∙ ap (λ (j : ℕ). outcome (given (length m)) (m ++ drop j out)) z) in
-      subst (Right (q .width) (t .limits .basis) (t .limits .gates) (matrixOf q)) (sym e) (answers-right _ _ _ _ _ _ _ _ w)
+      subst (Answers _ _ _ _ _ _ _ _) (sym e) w
+
+  -- (a), and that the matrix asked is unitary
+  pub gives-right : (l : List ℕ) → Gives t a q out l → Right (q .width) (t .limits .basis) (t .limits .gates) (matrixOf q) l
+  gives-right l g = answers-right _ _ _ _ _ _ _ _ (gives-answers l g)

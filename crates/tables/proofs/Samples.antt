@@ -1,7 +1,7 @@
 -- What the samples state: computed, or from demand 3. Assumes nothing.
 use mathlib.Core.Path.{_≡_, refl, sym, ap, _∙_, subst}
 use mathlib.Core.Logic.{_⊎_, inl, inr}
-use mathlib.Core.Bool.{true, false}
+use mathlib.Core.Bool.{false}
 use mathlib.Core.List.{List, [], _∷_}
 use mathlib.Core.Option.{Option, none, some}
 use Prim.Native.Nat.{ℕ, zero, suc, _^_, _≤_, _<_}
@@ -39,8 +39,8 @@ use Rattle.walk.proofs.NotEmpty.{no-shared, unsaturated}
 use Rattle.width_table.specs.Table.{printOf}
 use Rattle.width_answer.specs.Answers.{rechecked, answerOf}
 use Rattle.width_answer.proofs.Meaning.{kind-of}
-use Rattle.tables.specs.Checks.{firstRow, Limits, limitRows, Arrays, arrays, placesOf, roomRow, anyBelow, queryRows}
-use Rattle.tables.specs.Tables.{recordOf, builtTo, table, left, buildRows, buildOf, Query, matrixOf, listRow, synthesized}
+use Rattle.tables.specs.Checks.{firstRow, Limits, limitRows, Arrays, placesOf, roomRow, anyBelow, queryRows}
+use Rattle.tables.specs.Tables.{recordOf, builtTo, buildRows, Query, matrixOf, listRow, synthesized}
 use Rattle.tables.specs.Built.{Built}
 use Rattle.tables.specs.Demand3.{Gives, GivesNone, Refuses, NotRefused, NoSmaller, Reaches, Complete}
 use Rattle.tables.specs.Samples.{xLimits, largerLimits, Places, askX, askT, lent, damaged, mistaken, circular, Samples}
@@ -123,7 +123,8 @@ filled : (l : Limits) (a : Arrays) → firstRow (limitRows l) ≡ 0 → Places (
 filled l a e p = demand .build-built l a (builtTo l (l .qubits) a) (recordOf l) (build-fills l a (fills l a e p)) .0
 
 -- a query that passes is answered as the walk does, where the lent list has G places, and otherwise is refused by 12
-module _ (l : Limits) (a : Arrays) (b : Built (recordOf l) a) (q : Query) (e : firstRow (queryRows (q .width) (q .exponent) (q .bytes)) ≡ 0) (out : List ℕ) where
+module _ (l : Limits) (a : Arrays) (b : Built (recordOf l) a) (q : Query) (out : List ℕ)
+    (e : firstRow (queryRows (q .width) (q .exponent) (q .bytes)) ≡ 0) where
   only-12 : rowOfAnswer (recordOf l) a q out ≡ firstRow (listRow (recordOf l) out ∷ [])
   only-12 =
       rows-are (recordOf l) a b q out
@@ -139,7 +140,9 @@ module _ (l : Limits) (a : Arrays) (b : Built (recordOf l) a) (q : Query) (e : f
 
   too-short : length out < l .gates → Refuses (recordOf l) a q out 12
   unfolding recordOf
-  too-short h = row-refuses (recordOf l) a q out 12 (omega arith) (only-12 ∙ first-here (listRow (recordOf l) out) [] (lt-ltb (length out) (l .gates) h))
+  too-short h =
+      row-refuses (recordOf l) a q out 12 (omega arith)
+      (only-12 ∙ first-here (listRow (recordOf l) out) [] (lt-ltb (length out) (l .gates) h))
 
 module _ (a : Arrays) (p : Places 2 a) where
   a-table : Built (recordOf xLimits) (builtTo xLimits 1 a)
@@ -153,12 +156,12 @@ module _ (a : Arrays) (p : Places 2 a) where
 
   gives-x : (out : List ℕ) → 8 ≤ length out → Gives (recordOf xLimits) (builtTo xLimits 1 a) askX out (4096 ∷ [])
   gives-x out h =
-      told xLimits (builtTo xLimits 1 a) a-table askX (computed .x-passes) out h (omega arith) (omega arith)
+      told xLimits (builtTo xLimits 1 a) a-table askX out (computed .x-passes) h (omega arith) (omega arith)
       ∙ ap (λ (o : Option (List ℕ)). toldOption o out) (computed .walk-x)
 
   none-t : (out : List ℕ) → 8 ≤ length out → GivesNone (recordOf xLimits) (builtTo xLimits 1 a) askT out
   none-t out h =
-      told xLimits (builtTo xLimits 1 a) a-table askT (computed .t-passes) out h (omega arith) (omega arith)
+      told xLimits (builtTo xLimits 1 a) a-table askT out (computed .t-passes) h (omega arith) (omega arith)
       ∙ ap (λ (o : Option (List ℕ)). toldOption o out) (computed .walk-t)
 
   -- none is no refusal
@@ -189,15 +192,16 @@ module _ (a : Arrays) (p : Places 6 a) where
       small : Places 2 a
       small = record { in-prints = omega (arith, p .in-prints); in-parents = omega (arith, p .in-parents); in-codes = omega (arith, p .in-codes) }
 
-      by : Gives (recordOf largerLimits) (builtTo largerLimits 2 a) askX out (4096 ∷ []) ⊎ Refuses (recordOf largerLimits) (builtTo largerLimits 2 a) askX out 12
+      by : Gives (recordOf largerLimits) (builtTo largerLimits 2 a) askX out (4096 ∷ [])
+          ⊎ Refuses (recordOf largerLimits) (builtTo largerLimits 2 a) askX out 12
           → Gives (recordOf largerLimits) (builtTo largerLimits 2 a) askX out (4096 ∷ [])
       by (inl g) = g
       by (inr n) =
           absurd (not-refusal (answered 1 2 9 3 (matrixOf askX)) 12 out
-          (sym (told largerLimits (builtTo largerLimits 2 a) larger-table askX (computed .x-passes) out h (omega arith) (omega arith)) ∙ n))
+          (sym (told largerLimits (builtTo largerLimits 2 a) larger-table askX out (computed .x-passes) h (omega arith) (omega arith)) ∙ n))
 
   larger-12 : (out : List ℕ) → length out < 9 → Refuses (recordOf largerLimits) (builtTo largerLimits 2 a) askX out 12
-  larger-12 out h = too-short largerLimits (builtTo largerLimits 2 a) larger-table askX (computed .x-passes) out h
+  larger-12 out h = too-short largerLimits (builtTo largerLimits 2 a) larger-table askX out (computed .x-passes) h
 
 -- ---- altered memory
 
@@ -209,8 +213,10 @@ not-a-table b =
     clash (eq-eqb 7 (fingerprint 1 identity) (e ∙ ap (printOf 1 2) (f .1))) (computed .root-print)
 
 damaged-right : PowerOf 1 (matrixOf askX) (product 1 (4096 ∷ [])) × Unitary 1 (matrixOf askX)
-damaged-right =
-    (demand .right (recordOf xLimits) damaged askX lent (4096 ∷ []) (computed .damaged-x) .0, demand .unitary (recordOf xLimits) damaged askX lent (4096 ∷ []) (computed .damaged-x))
+damaged-right = (
+  demand .right (recordOf xLimits) damaged askX lent (4096 ∷ []) (computed .damaged-x) .0,
+  demand .unitary (recordOf xLimits) damaged askX lent (4096 ∷ []) (computed .damaged-x),
+)
 
 pub samples : Samples
 samples = record {

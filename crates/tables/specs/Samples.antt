@@ -3,7 +3,7 @@ use mathlib.Core.Path.{_≡_}
 use mathlib.Core.Bool.{false}
 use mathlib.Core.List.{List, [], _∷_}
 use Prim.Native.Nat.{ℕ, _≤_, _<_}
-use lib.IntN.{ℤ, pos}
+use lib.IntN.{pos}
 use lib.ListN.{length}
 use Rattle.circuit.specs.Codes.{mark}
 use Rattle.exact.specs.Matrix.{Equal, PowerOf}
@@ -80,8 +80,10 @@ pub record Samples : Type 0 where
   -- (b): a larger table gives the same list where the lent list has G places, and refuses by 12 where it has fewer
   pub no-smaller : NoSmaller xLimits largerLimits
   pub larger-table : (a : Arrays) → Places 6 a → Built (recordOf largerLimits) (builtTo largerLimits 2 a)
-  pub larger-x : (a : Arrays) → Places 6 a → (out : List ℕ) → 9 ≤ length out → Gives (recordOf largerLimits) (builtTo largerLimits 2 a) askX out (4096 ∷ [])
-  pub larger-12 : (a : Arrays) → Places 6 a → (out : List ℕ) → length out < 9 → Refuses (recordOf largerLimits) (builtTo largerLimits 2 a) askX out 12
+  pub larger-x : (a : Arrays) → Places 6 a → (out : List ℕ) → 9 ≤ length out
+      → Gives (recordOf largerLimits) (builtTo largerLimits 2 a) askX out (4096 ∷ [])
+  pub larger-12 : (a : Arrays) → Places 6 a → (out : List ℕ) → length out < 9
+      → Refuses (recordOf largerLimits) (builtTo largerLimits 2 a) askX out 12
   -- (a): the damaged memory is no built table; it answers X by a list, whose product is a power of omega times X, and X is unitary
   pub not-a-table : Built (recordOf xLimits) damaged → ⊥
   pub damaged-x : Gives (recordOf xLimits) damaged askX lent (4096 ∷ [])

@@ -8,11 +8,12 @@ use Prim.Native.Nat.{ℕ, zero, suc, _^_, _≤_, _<_}
 use native.Mathlib.Omega.{arith}
 use borrow.Author.Tests.{lt-ltb, le-ltb, eq-eqb}
 use lib.Dec.{eqb}
+use lib.IntN.{pos}
 use lib.ListN.{length}
 use Rattle.ints.specs.Bits.{bit}
 use Rattle.ints.specs.Lists.{range, each, all, elem, distinct}
 use Rattle.ints.proofs.Bools.{clash}
-use Rattle.cyclotomic.specs.Zomega.{zeroω, oneω, isZero, turn, less, leastUpTo, fits, eqω}
+use Rattle.cyclotomic.specs.Zomega.{Zω, zeroω, oneω, addω, mulω, isZero, turn, less, leastUpTo, fits, eqZ, eqω}
 use Rattle.words.specs.Words
 use Rattle.words.specs.Words.{rotated, word}
 use Rattle.circuit.specs.Sets.{subset}
@@ -20,8 +21,8 @@ use Rattle.circuit.specs.Kinds.{kindAt, number, arity, sorted, isKind, dual}
 use Rattle.circuit.specs.Codes.{placed, rises, valid, validFor}
 use Rattle.circuit.specs.Pairs.{inverse, qubits, disjoint}
 use Rattle.generators.specs.Generators.{kept, generators}
-use Rattle.exact.specs.Matrix.{identity, lower, Equal, PowerOf}
-use Rattle.exact.specs.Unitary.{Unitary}
+use Rattle.exact.specs.Matrix.{Exact, identity, lower, Equal, PowerOf}
+use Rattle.exact.specs.Unitary.{conj, inner, Unitary}
 use Rattle.exact.specs.Rows.{flip, column, gateOf}
 use Rattle.exact.specs.Lists.{product}
 use Rattle.exact.specs.Fits.{stepFits, steps}
@@ -32,7 +33,7 @@ use Rattle.synthesis_arena.specs.Lookup.{lowestFrom}
 use Rattle.synthesis_arena.specs.Chains.{marked, chainOf}
 use Rattle.walk.specs.Walk.{skipped, try, tryAll, layer, deeper, depths, walk}
 use Rattle.walk.specs.Answer.{recheck, answerBy}
-use Rattle.walk.specs.AtWidth.{samePrint, atWidth, NoSharedPrint, answered}
+use Rattle.walk.specs.AtWidth.{samePrint, atWidth, ListOf, NoSharedPrint, answered}
 use Rattle.walk.proofs.Nodes.{first}
 use Rattle.walk.proofs.Layers.{walk-shape}
 use Rattle.walk.proofs.NotEmpty.{no-shared, unsaturated}
@@ -43,7 +44,7 @@ use Rattle.tables.specs.Checks.{firstRow, Limits, limitRows, Arrays, pla
 use Rattle.tables.specs.Tables.{recordOf, builtTo, buildRows, Query, matrixOf, listRow, synthesized}
 use Rattle.tables.specs.Built.{Built}
 use Rattle.tables.specs.Demand3.{Gives, GivesNone, Refuses, NotRefused, NoSmaller, Reaches, Complete}
-use Rattle.tables.specs.Samples.{xLimits, largerLimits, Places, askX, askT, lent, damaged, mistaken, circular, Samples}
+use Rattle.tables.specs.Samples.{xLimits, largerLimits, Places, askX, askT, askZero, lent, damaged, mistaken, circular, forgotten, Samples}
 use Rattle.tables.proofs.Rows.{numbered-limits, numbered-query, first-here, first-past, firstRow-append}
 use Rattle.tables.proofs.Accepted.{room-is}
 use Rattle.tables.proofs.FromBuild.{build-fills}
@@ -54,31 +55,31 @@ use Rattle.tables.proofs.Demand3.{has-width, demand}
 
 -- ---- computed
 
-x-is : Equal 1 (matrixOf askX) (product 1 (4096 ∷ []))
-unfolding product zeroω oneω turn gateOf column flip lower entry valid placed rises all elem distinct range kindAt arity sorted isKind number bit
-x-is = record { exponent = refl; entries = at }
+-- matrices of width 1 are equal by four entries
+four : (x y : Exact) → x .k ≡ y .k → x .e 0 0 ≡ y .e 0 0 → x .e 0 1 ≡ y .e 0 1 → x .e 1 0 ≡ y .e 1 0 → x .e 1 1 ≡ y .e 1 1 → Equal 1 x y
+four x y k e00 e01 e10 e11 = record { exponent = k; entries = at }
   where
-    at : (r c : ℕ) → r < 2 ^ 1 → c < 2 ^ 1 → matrixOf askX .e r c ≡ product 1 (4096 ∷ []) .e r c
-    at zero zero p q = refl
-    at zero (suc zero) p q = refl
-    at (suc zero) zero p q = refl
-    at (suc zero) (suc zero) p q = refl
+    at : (r c : ℕ) → r < 2 ^ 1 → c < 2 ^ 1 → x .e r c ≡ y .e r c
+    at zero zero p q = e00
+    at zero (suc zero) p q = e01
+    at (suc zero) zero p q = e10
+    at (suc zero) (suc zero) p q = e11
     at zero (suc (suc c)) p q = absurd (omega arith)
     at (suc zero) (suc (suc c)) p q = absurd (omega arith)
     at (suc (suc r)) c p q = absurd (omega arith)
 
+x-is : Equal 1 (matrixOf askX) (product 1 (4096 ∷ []))
+unfolding product zeroω oneω turn gateOf column flip lower entry valid placed rises all elem distinct range kindAt arity sorted isKind number bit
+x-is = four (matrixOf askX) (product 1 (4096 ∷ [])) refl refl refl refl refl
+
 t-is : Equal 1 (matrixOf askT) (product 1 (20480 ∷ []))
 unfolding product zeroω oneω turn gateOf column flip lower entry valid placed rises all elem distinct range kindAt arity sorted isKind number bit
-t-is = record { exponent = refl; entries = at }
-  where
-    at : (r c : ℕ) → r < 2 ^ 1 → c < 2 ^ 1 → matrixOf askT .e r c ≡ product 1 (20480 ∷ []) .e r c
-    at zero zero p q = refl
-    at zero (suc zero) p q = refl
-    at (suc zero) zero p q = refl
-    at (suc zero) (suc zero) p q = refl
-    at zero (suc (suc c)) p q = absurd (omega arith)
-    at (suc zero) (suc (suc c)) p q = absurd (omega arith)
-    at (suc (suc r)) c p q = absurd (omega arith)
+t-is = four (matrixOf askT) (product 1 (20480 ∷ [])) refl refl refl refl refl
+
+-- row 0 of the zero matrix comes to 0, not to 1
+zero-not-unitary : Unitary 1 (matrixOf askZero) → ⊥
+unfolding inner conj mulω addω zeroω entry
+zero-not-unitary u = clash (ap (λ (z : Zω). eqZ (z .a) (pos 1)) (u .own 0 (omega arith))) refl
 
 record Computed : Type 0 where
   -- no row refuses the limits or the queries
@@ -86,6 +87,7 @@ record Computed : Type 0 where
   larger-limits : firstRow (limitRows largerLimits) ≡ 0
   x-passes : firstRow (queryRows 1 0 (askX .bytes)) ≡ 0
   t-passes : firstRow (queryRows 1 0 (askT .bytes)) ≡ 0
+  zero-passes : firstRow (queryRows 1 0 (askZero .bytes)) ≡ 0
   -- what the walk of width 1 answers
   walk-x : answered 1 2 8 2 (matrixOf askX) ≡ some (4096 ∷ [])
   walk-t : answered 1 2 8 2 (matrixOf askT) ≡ none
@@ -93,7 +95,10 @@ record Computed : Type 0 where
   damaged-x : Gives (recordOf xLimits) damaged askX lent (4096 ∷ [])
   mistaken-t : GivesNone (recordOf xLimits) mistaken askT lent
   circular-x : Refuses (recordOf xLimits) circular askX lent 13
+  forgotten-x : GivesNone (recordOf xLimits) forgotten askX lent
   root-print : eqb 7 (fingerprint 1 identity) ≡ false
+  -- X is of the basis
+  x-of : ListOf 1 2 (4096 ∷ [])
 
 computed : Computed
 unfolding synthesized recordOf firstRow subset anyBelow answerOf lowestFrom chainOf marked rechecked steps answerBy recheck upToPhase eqω product walk depths deeper layer tryAll try skipped samePrint fingerprint mix fold Words.product rotated word pivot phaseOf leastUpTo less turn zeroω oneω isZero gateOf column flip lower stepFits fits valid validFor placed rises all elem distinct range each kept generators kindAt arity sorted isKind number dual inverse qubits disjoint bit entry
@@ -102,12 +107,15 @@ computed = record {
   larger-limits = refl;
   x-passes = refl;
   t-passes = refl;
+  zero-passes = refl;
   walk-x = refl;
   walk-t = refl;
   damaged-x = refl;
   mistaken-t = refl;
   circular-x = refl;
+  forgotten-x = refl;
   root-print = refl;
+  x-of = refl;
 }
 
 -- ---- tables of these limits
@@ -173,6 +181,11 @@ module _ (a : Arrays) (p : Places 2 a) where
   no-t m r h =
       complete askT refl .none-exactly (omega arith) (omega arith) unsaturated lent not-refused .0 (none-t lent (omega arith)) m r h
 
+  zero-passes : (out : List ℕ) → 8 ≤ length out → NotRefused (recordOf xLimits) (builtTo xLimits 1 a) askZero out
+  zero-passes out h r n =
+      not-refusal (answered 1 2 8 2 (matrixOf askZero)) r out
+      (sym (told xLimits (builtTo xLimits 1 a) a-table askZero out (computed .zero-passes) h (omega arith) (omega arith)) ∙ n)
+
 -- ---- a larger table
 
 no-smaller : NoSmaller xLimits largerLimits
@@ -218,6 +231,12 @@ damaged-right = (
   demand .unitary (recordOf xLimits) damaged askX lent (4096 ∷ []) (computed .damaged-x),
 )
 
+not-complete : Complete (recordOf xLimits) forgotten askX → ⊥
+unfolding recordOf
+not-complete c =
+    c .none-exactly (omega arith) (omega arith) unsaturated lent (λ r n. absurd (omega (arith, kind-of (sym (computed .forgotten-x) ∙ n)))) .0
+    (computed .forgotten-x) (4096 ∷ []) (record { of-basis = computed .x-of; power = damaged-right .0 }) (omega arith)
+
 pub samples : Samples
 samples = record {
   x-is = x-is;
@@ -238,4 +257,9 @@ samples = record {
   damaged-right = damaged-right;
   mistaken-t = computed .mistaken-t;
   circular-x = computed .circular-x;
+  forgotten-x = computed .forgotten-x;
+  not-complete = not-complete;
+  zero-not-unitary = zero-not-unitary;
+  zero-passes = λ a p out h. zero-passes a p out h;
+  none-zero = λ a p out h. demand .not-unitary (recordOf xLimits) (builtTo xLimits 1 a) askZero out (zero-passes a p out h) zero-not-unitary;
 }

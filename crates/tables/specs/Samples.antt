@@ -13,7 +13,7 @@ use Rattle.exact.specs.Fingerprint.{fingerprint}
 use Rattle.tables.specs.Checks.{Limits, Arrays, arrays}
 use Rattle.tables.specs.Tables.{walkOf, recordOf, builtTo, table, left, buildOf, Query, query, matrixOf}
 use Rattle.tables.specs.Built.{Built}
-use Rattle.tables.specs.Demand3.{Gives, GivesNone, Refuses, NoSmaller, Reaches, Complete}
+use Rattle.tables.specs.Demand3.{Gives, GivesNone, Refuses, NotRefused, NoSmaller, Reaches, Complete}
 
 -- ---- limits and arrays
 
@@ -45,6 +45,12 @@ askT =
     query 1 0
     (pos 1 ∷ pos 0 ∷ pos 0 ∷ pos 0 ∷ pos 0 ∷ pos 0 ∷ pos 0 ∷ pos 0 ∷ pos 0 ∷ pos 0 ∷ pos 0 ∷ pos 0 ∷ pos 0 ∷ pos 1 ∷ pos 0 ∷ pos 0 ∷ [])
 
+-- the zero matrix
+abbrev pub askZero : Query
+askZero =
+    query 1 0
+    (pos 0 ∷ pos 0 ∷ pos 0 ∷ pos 0 ∷ pos 0 ∷ pos 0 ∷ pos 0 ∷ pos 0 ∷ pos 0 ∷ pos 0 ∷ pos 0 ∷ pos 0 ∷ pos 0 ∷ pos 0 ∷ pos 0 ∷ pos 0 ∷ [])
+
 -- ---- memory that no build left
 
 -- a list of 8 places
@@ -62,6 +68,10 @@ mistaken = arrays (7 ∷ fingerprint 1 (matrixOf askT) ∷ []) (mark ∷ 0 ∷ [
 -- node 1 is its own parent
 abbrev pub circular : Arrays
 circular = arrays (7 ∷ fingerprint 1 (matrixOf askX) ∷ []) (mark ∷ 1 ∷ []) (mark ∷ 4096 ∷ [])
+
+-- both fingerprints are 7
+abbrev pub forgotten : Arrays
+forgotten = arrays (7 ∷ 7 ∷ []) (mark ∷ 0 ∷ []) (mark ∷ 4096 ∷ [])
 
 pub record Samples : Type 0 where
   -- the queries are the matrices of X, 4096, and of T, 20480
@@ -88,6 +98,13 @@ pub record Samples : Type 0 where
   pub not-a-table : Built (recordOf xLimits) damaged → ⊥
   pub damaged-x : Gives (recordOf xLimits) damaged askX lent (4096 ∷ [])
   pub damaged-right : PowerOf 1 (matrixOf askX) (product 1 (4096 ∷ [])) × Unitary 1 (matrixOf askX)
-  -- a list whose product is another is not answered; a chain that does not end is refused by 13
+  -- a list whose product is another is not answered; a parent that is not below its node is refused by 13
   pub mistaken-t : GivesNone (recordOf xLimits) mistaken askT lent
   pub circular-x : Refuses (recordOf xLimits) circular askX lent 13
+  -- (c) is of built tables: X gets none where its fingerprint is not there
+  pub forgotten-x : GivesNone (recordOf xLimits) forgotten askX lent
+  pub not-complete : Complete (recordOf xLimits) forgotten askX → ⊥
+  -- (d): the zero matrix is not unitary, is not refused, and gets none
+  pub zero-not-unitary : Unitary 1 (matrixOf askZero) → ⊥
+  pub zero-passes : (a : Arrays) → Places 2 a → (out : List ℕ) → 8 ≤ length out → NotRefused (recordOf xLimits) (builtTo xLimits 1 a) askZero out
+  pub none-zero : (a : Arrays) → Places 2 a → (out : List ℕ) → 8 ≤ length out → GivesNone (recordOf xLimits) (builtTo xLimits 1 a) askZero out

@@ -20,7 +20,7 @@ pub record Accepted (l : Limits) : Type 0 where
   pub gates : l .gates ≤ 64
 
 -- a number that is not 0
-above : (n : ℕ) → eqb n 0 ≡ false → 0 < n
+pub above : (n : ℕ) → eqb n 0 ≡ false → 0 < n
 above n e = let f = eqb-false n 0 e in omega (arith, f)
 
 pub accepted : (l : Limits) → firstRow (limitRows l) ≡ 0 → Accepted l

@@ -37,7 +37,7 @@ module _ (a n : ℕ) (g : List ℕ → List ℕ) (xs : List ℕ) (fits : a + n �
       let t = length-take-le a xs (omega arith) in
       simp (length-append, length-drop) (omega (arith, t, keeps))
 
-part-length : (a n : ℕ) (xs : List ℕ) → a + n ≤ length xs → length (take n (drop a xs)) ≡ n
+pub part-length : (a n : ℕ) (xs : List ℕ) → a + n ≤ length xs → length (take n (drop a xs)) ≡ n
 part-length a n xs h = length-take-le n (drop a xs) (simp length-drop (omega arith))
 
 overlay-length : (new old : List ℕ) → length new ≤ length old → length (overlay new old) ≡ length old

@@ -4,3 +4,8 @@ pub mod Filled
 pub mod FromBuild
 pub mod Counts
 pub mod Joined
+pub mod Replies
+pub mod OfBuilt
+pub mod Demand3
+pub mod Refused
+pub mod Samples

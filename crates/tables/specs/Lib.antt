@@ -2,3 +2,4 @@ pub mod Checks
 pub mod Tables
 pub mod Built
 pub mod Demand3
+pub mod Samples

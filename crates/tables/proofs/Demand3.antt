@@ -1,0 +1,126 @@
+-- Demand 3 and what stands beside it, of what the public entries answer: the statements of specs/Demand3. Assumes nothing.
+use mathlib.Core.Path.{_≡_, refl, sym, ap, _∙_}
+use mathlib.Core.Logic.{_⊎_, inl, inr}
+use mathlib.Core.Bool.{Bool, true, false}
+use mathlib.Core.List.{List, [], _∷_}
+use mathlib.Core.Option.{Option, some}
+use Prim.Native.Nat.{ℕ, _≤_, _<_}
+use native.Mathlib.Omega.{arith}
+use borrow.Author.Tests.{le-ltb, ne-eqb}
+use Rattle.exact.specs.Matrix.{Lowest}
+use Rattle.exact.specs.Unitary.{Unitary}
+use Rattle.walk.specs.AtWidth.{answered}
+use Rattle.walk.specs.Demand3.{Answers}
+use Rattle.walk.proofs.Demand3 as at-width
+use Rattle.width_answer.proofs.Meaning.{kind-of}
+use Rattle.tables.specs.Checks.{firstRow, Arrays, queryRows}
+use Rattle.tables.specs.Tables.{Table, Query, matrixOf, listRow, notAWidth}
+use Rattle.tables.specs.Built.{Built}
+use Rattle.tables.specs.Demand3.{Gives, GivesNone, Refuses, NotRefused, Decided, a-list, no-list, a-refusal, NoSmaller, Complete, Demand3}
+use Rattle.tables.proofs.Rows.{numbered-query, first-here, first-past, firstRow-append}
+use Rattle.tables.proofs.FromBuild.{build-built, build-refused}
+use Rattle.tables.proofs.Counts.{counts}
+use Rattle.tables.proofs.Joined.{toldOption}
+use Rattle.tables.proofs.Replies.{number-of, rowOfAnswer, Case, not-a-width, part-asked, by-row, row-refuses, cases}
+use Rattle.tables.proofs.Replies.{gives-asked, no-row, decided, gives-right}
+use Rattle.tables.proofs.OfBuilt.{asked-lowest, a-width, told-none, not-refusal, rows-are, rows-up-to, query-passed}
+use Rattle.tables.proofs.OfBuilt.{widths-small, told-walk, gives-walk}
+
+-- a width from 1 to Q is one that the table has
+pub has-width : (t : Table) (q : Query) → 0 < q .width → q .width ≤ t .limits .qubits → notAWidth t q ≡ false
+has-width t q p h = rw (ne-eqb (q .width) 0 (omega arith), le-ltb (t .limits .qubits) (q .width) h)
+
+-- ---- (a) and (d), whatever the memory holds
+
+not-unitary : (t : Table) (a : Arrays) (q : Query) (out : List ℕ) → NotRefused t a q out → (Unitary (q .width) (matrixOf q) → ⊥) → GivesNone t a q out
+not-unitary t a q out h u = by (decided t a q out)
+  where
+    by : Decided t a q out → GivesNone t a q out
+    by (a-list l g) = absurd (u (gives-right t a q out l g .unitary))
+    by (no-list n) = n
+    by (a-refusal r n) = absurd (h r n)
+
+-- ---- a larger built table
+
+module _ (t t′ : Table) (a a′ : Arrays) (b : Built t a) (b′ : Built t′ a′) (s : NoSmaller (t .limits) (t′ .limits)) (q : Query) where
+  -- it has the widths of the other, and gives the same lists there
+  same-list : (out′ l : List ℕ) → notAWidth t q ≡ false → rowOfAnswer t′ a′ q out′ ≡ 0
+      → answered (q .width) (t .limits .basis) (t .limits .gates) (t .limits .entries) (matrixOf q) ≡ some l → Gives t′ a′ q out′ l
+  same-list out′ l f e g =
+      let w = a-width t q f in
+      let h : q .width ≤ t′ .limits .qubits = omega (arith, w .1, s .qubits) in
+      let more =
+      at-width.demand (q .width) (t .limits .basis) (widths-small t a b (q .width) (w .1)) .larger (t .limits .gates) (t′ .limits .gates)
+      (t .limits .entries) (t′ .limits .entries) (s .gates) (s .entries) (matrixOf q) l g in
+      told-walk t′ a′ b′ q out′ e (has-width t′ q (w .0) h)
+      ∙ ap (λ (z : ℕ). toldOption (answered (q .width) z (t′ .limits .gates) (t′ .limits .entries) (matrixOf q)) out′) (s .basis)
+      ∙ ap (λ (o : Option (List ℕ)). toldOption o out′) more
+
+  larger : (out out′ l : List ℕ) → Gives t a q out l → Gives t′ a′ q out′ l ⊎ Refuses t′ a′ q out′ 12
+  unfolding firstRow
+  larger out out′ l g = by (listRow t′ out′ .holds) refl
+    where
+      -- the query's rows are the same for both
+      only-12 : rowOfAnswer t′ a′ q out′ ≡ firstRow (listRow t′ out′ ∷ [])
+      only-12 =
+          rows-are t′ a′ b′ q out′
+          ∙ firstRow-append (queryRows (q .width) (q .exponent) (q .bytes)) (listRow t′ out′ ∷ []) (numbered-query (q .width) (q .exponent) (q .bytes))
+          (query-passed t a b q out (gives-asked t a q out l g .0))
+
+      by : (h : Bool) → listRow t′ out′ .holds ≡ h → Gives t′ a′ q out′ l ⊎ Refuses t′ a′ q out′ 12
+      by true e = inr (row-refuses t′ a′ q out′ 12 (omega arith) (only-12 ∙ first-here (listRow t′ out′) [] e))
+      by false e =
+          inl (same-list out′ l (gives-asked t a q out l g .1) (only-12 ∙ first-past (listRow t′ out′) [] e) (gives-walk t a b q out l g))
+
+-- ---- a built table
+
+module _ (t : Table) (a : Arrays) (b : Built t a) where
+  -- (c), from the walk's answers
+  answers-complete : (q : Query) → (q .width ≤ 5 → Answers (q .width) (t .limits .basis) (t .limits .gates) (t .limits .entries)) → Complete t a q
+  answers-complete q w = record {
+    shortest = λ out l g m r.
+        w (small (a-width t q (gives-asked t a q out l g .1) .1)) .shortest (matrixOf q) (low out (gives-asked t a q out l g .0)) l
+        (gives-walk t a b q out l g) m (r .of-basis) (r .power);
+    none-exactly = λ p h s out n. let e = no-row t a q out n in
+        let k = told-walk t a b q out e (has-width t q p h) in
+        let x = w (small h) .none-exactly s (matrixOf q) (low out e) in (
+          (λ g m r c. x .0 (told-none _ out (sym k ∙ g)) m (r .of-basis) c (r .power)),
+          (λ f. k ∙ ap (λ (o : Option (List ℕ)). toldOption o out) (x .1 (λ m o c s. f m (record { of-basis = o; power = s }) c))),
+        );
+  }
+    where
+      small : q .width ≤ t .limits .qubits → q .width ≤ 5
+      small h = widths-small t a b (q .width) h
+
+      low : (out : List ℕ) → rowOfAnswer t a q out ≡ 0 → Lowest (q .width) (matrixOf q)
+      low out e = asked-lowest (q .width) (q .exponent) (q .bytes) (query-passed t a b q out e)
+
+  -- row 13 refuses no record, and no chain
+  never-13 : (q : Query) (out : List ℕ) → Refuses t a q out 13 → ⊥
+  never-13 q out n = by (cases t a q out)
+    where
+      by : Case t a q out → ⊥
+      by (not-a-width e f m) = absurd (omega (arith, kind-of (sym m ∙ n)))
+      by (part-asked e f p) =
+          not-refusal (answered (q .width) (t .limits .basis) (t .limits .gates) (t .limits .entries) (matrixOf q)) 13 out
+          (sym (told-walk t a b q out e f) ∙ n)
+      by (by-row r h e m) = absurd (omega (arith, number-of (sym m ∙ n), rows-up-to t a b q out))
+
+-- ---- the demand
+
+pub demand : Demand3
+demand = record {
+  decided = decided;
+  build-refused = build-refused;
+  right = λ t a q out l g. let r = gives-right t a q out l g in (r .power, r .valid, r .short);
+  build-built = build-built;
+  larger = λ t t′ a a′ b b′ s q out out′ l g. larger t t′ a a′ b b′ s q out out′ l g;
+  complete = λ t a b le q nc. answers-complete t a b q
+      (λ small. at-width.demand (q .width) (t .limits .basis) small .complete (t .limits .gates) (t .limits .entries) le nc);
+  complete-rightly = λ t a b le q K. answers-complete t a b q
+      (λ small. at-width.demand (q .width) (t .limits .basis) small .complete-rightly (t .limits .gates) (t .limits .entries) le K);
+  unitary = λ t a q out l g. gives-right t a q out l g .unitary;
+  not-unitary = not-unitary;
+  never-13 = λ t a b q out n. never-13 t a b q out n;
+  counts = λ t a b w p q. counts t a b w p q;
+}

@@ -1,0 +1,265 @@
+-- What the samples state: computed, or from demand 3. Assumes nothing.
+use mathlib.Core.Path.{_≡_, refl, sym, ap, _∙_, subst}
+use mathlib.Core.Logic.{_⊎_, inl, inr}
+use mathlib.Core.Bool.{false}
+use mathlib.Core.List.{List, [], _∷_}
+use mathlib.Core.Option.{Option, none, some}
+use Prim.Native.Nat.{ℕ, zero, suc, _^_, _≤_, _<_}
+use native.Mathlib.Omega.{arith}
+use borrow.Author.Tests.{lt-ltb, le-ltb, eq-eqb}
+use lib.Dec.{eqb}
+use lib.IntN.{pos}
+use lib.ListN.{length}
+use Rattle.ints.specs.Bits.{bit}
+use Rattle.ints.specs.Lists.{range, each, all, elem, distinct}
+use Rattle.ints.proofs.Bools.{clash}
+use Rattle.cyclotomic.specs.Zomega.{Zω, zeroω, oneω, addω, mulω, isZero, turn, less, leastUpTo, fits, eqZ, eqω}
+use Rattle.words.specs.Words
+use Rattle.words.specs.Words.{rotated, word}
+use Rattle.circuit.specs.Sets.{subset}
+use Rattle.circuit.specs.Kinds.{kindAt, number, arity, sorted, isKind, dual}
+use Rattle.circuit.specs.Codes.{placed, rises, valid, validFor}
+use Rattle.circuit.specs.Pairs.{inverse, qubits, disjoint}
+use Rattle.generators.specs.Generators.{kept, generators}
+use Rattle.exact.specs.Matrix.{Exact, identity, lower, Equal, PowerOf}
+use Rattle.exact.specs.Unitary.{conj, inner, Unitary}
+use Rattle.exact.specs.Rows.{flip, column, gateOf}
+use Rattle.exact.specs.Lists.{product}
+use Rattle.exact.specs.Fits.{stepFits, steps}
+use Rattle.exact.specs.Phase.{pivot, phaseOf, upToPhase}
+use Rattle.exact.specs.Fingerprint.{mix, fold, fingerprint}
+use Rattle.places.specs.Places.{entry}
+use Rattle.synthesis_arena.specs.Lookup.{lowestFrom}
+use Rattle.synthesis_arena.specs.Chains.{marked, chainOf}
+use Rattle.walk.specs.Walk.{skipped, try, tryAll, layer, deeper, depths, walk}
+use Rattle.walk.specs.Answer.{recheck, answerBy}
+use Rattle.walk.specs.AtWidth.{samePrint, atWidth, ListOf, NoSharedPrint, answered}
+use Rattle.walk.proofs.Nodes.{first}
+use Rattle.walk.proofs.Layers.{walk-shape}
+use Rattle.walk.proofs.NotEmpty.{no-shared, unsaturated}
+use Rattle.width_table.specs.Table.{printOf}
+use Rattle.width_answer.specs.Answers.{rechecked, answerOf}
+use Rattle.width_answer.proofs.Meaning.{kind-of}
+use Rattle.tables.specs.Checks.{firstRow, Limits, limitRows, Arrays, placesOf, roomRow, anyBelow, queryRows}
+use Rattle.tables.specs.Tables.{recordOf, builtTo, buildRows, Query, matrixOf, listRow, synthesized}
+use Rattle.tables.specs.Built.{Built}
+use Rattle.tables.specs.Demand3.{Gives, GivesNone, Refuses, NotRefused, NoSmaller, Reaches, Complete}
+use Rattle.tables.specs.Samples.{xLimits, largerLimits, Places, askX, askT, askZero, lent, damaged, mistaken, circular, forgotten, Samples}
+use Rattle.tables.proofs.Rows.{numbered-limits, numbered-query, first-here, first-past, firstRow-append}
+use Rattle.tables.proofs.Accepted.{room-is}
+use Rattle.tables.proofs.FromBuild.{build-fills}
+use Rattle.tables.proofs.Joined.{toldOption}
+use Rattle.tables.proofs.Replies.{rowOfAnswer, row-refuses}
+use Rattle.tables.proofs.OfBuilt.{not-refusal, rows-are, told-walk}
+use Rattle.tables.proofs.Demand3.{has-width, demand}
+
+-- ---- computed
+
+-- matrices of width 1 are equal by four entries
+four : (x y : Exact) → x .k ≡ y .k → x .e 0 0 ≡ y .e 0 0 → x .e 0 1 ≡ y .e 0 1 → x .e 1 0 ≡ y .e 1 0 → x .e 1 1 ≡ y .e 1 1 → Equal 1 x y
+four x y k e00 e01 e10 e11 = record { exponent = k; entries = at }
+  where
+    at : (r c : ℕ) → r < 2 ^ 1 → c < 2 ^ 1 → x .e r c ≡ y .e r c
+    at zero zero p q = e00
+    at zero (suc zero) p q = e01
+    at (suc zero) zero p q = e10
+    at (suc zero) (suc zero) p q = e11
+    at zero (suc (suc c)) p q = absurd (omega arith)
+    at (suc zero) (suc (suc c)) p q = absurd (omega arith)
+    at (suc (suc r)) c p q = absurd (omega arith)
+
+x-is : Equal 1 (matrixOf askX) (product 1 (4096 ∷ []))
+unfolding product zeroω oneω turn gateOf column flip lower entry valid placed rises all elem distinct range kindAt arity sorted isKind number bit
+x-is = four (matrixOf askX) (product 1 (4096 ∷ [])) refl refl refl refl refl
+
+t-is : Equal 1 (matrixOf askT) (product 1 (20480 ∷ []))
+unfolding product zeroω oneω turn gateOf column flip lower entry valid placed rises all elem distinct range kindAt arity sorted isKind number bit
+t-is = four (matrixOf askT) (product 1 (20480 ∷ [])) refl refl refl refl refl
+
+-- row 0 of the zero matrix comes to 0, not to 1
+zero-not-unitary : Unitary 1 (matrixOf askZero) → ⊥
+unfolding inner conj mulω addω zeroω entry
+zero-not-unitary u = clash (ap (λ (z : Zω). eqZ (z .a) (pos 1)) (u .own 0 (omega arith))) refl
+
+record Computed : Type 0 where
+  -- no row refuses the limits or the queries
+  x-limits : firstRow (limitRows xLimits) ≡ 0
+  larger-limits : firstRow (limitRows largerLimits) ≡ 0
+  x-passes : firstRow (queryRows 1 0 (askX .bytes)) ≡ 0
+  t-passes : firstRow (queryRows 1 0 (askT .bytes)) ≡ 0
+  zero-passes : firstRow (queryRows 1 0 (askZero .bytes)) ≡ 0
+  -- what the walk of width 1 answers
+  walk-x : answered 1 2 8 2 (matrixOf askX) ≡ some (4096 ∷ [])
+  walk-t : answered 1 2 8 2 (matrixOf askT) ≡ none
+  -- what the altered memory answers; node 0's fingerprint is not 7
+  damaged-x : Gives (recordOf xLimits) damaged askX lent (4096 ∷ [])
+  mistaken-t : GivesNone (recordOf xLimits) mistaken askT lent
+  circular-x : Refuses (recordOf xLimits) circular askX lent 13
+  forgotten-x : GivesNone (recordOf xLimits) forgotten askX lent
+  root-print : eqb 7 (fingerprint 1 identity) ≡ false
+  -- X is of the basis
+  x-of : ListOf 1 2 (4096 ∷ [])
+
+computed : Computed
+unfolding synthesized recordOf firstRow subset anyBelow answerOf lowestFrom chainOf marked rechecked steps answerBy recheck upToPhase eqω product walk depths deeper layer tryAll try skipped samePrint fingerprint mix fold Words.product rotated word pivot phaseOf leastUpTo less turn zeroω oneω isZero gateOf column flip lower stepFits fits valid validFor placed rises all elem distinct range each kept generators kindAt arity sorted isKind number dual inverse qubits disjoint bit entry
+computed = record {
+  x-limits = refl;
+  larger-limits = refl;
+  x-passes = refl;
+  t-passes = refl;
+  zero-passes = refl;
+  walk-x = refl;
+  walk-t = refl;
+  damaged-x = refl;
+  mistaken-t = refl;
+  circular-x = refl;
+  forgotten-x = refl;
+  root-print = refl;
+  x-of = refl;
+}
+
+-- ---- tables of these limits
+
+-- arrays with room are not refused
+fills : (l : Limits) (a : Arrays) → firstRow (limitRows l) ≡ 0 → Places (placesOf l) a → firstRow (buildRows l a) ≡ 0
+unfolding firstRow
+fills l a e p =
+    firstRow-append (limitRows l) (roomRow l a ∷ []) (numbered-limits l) e
+    ∙ first-past (roomRow l a) [] (room-is l a (p .in-prints) (p .in-parents) (p .in-codes))
+
+filled : (l : Limits) (a : Arrays) → firstRow (limitRows l) ≡ 0 → Places (placesOf l) a → Built (recordOf l) (builtTo l (l .qubits) a)
+filled l a e p = demand .build-built l a (builtTo l (l .qubits) a) (recordOf l) (build-fills l a (fills l a e p)) .0
+
+-- a query that passes is answered as the walk does, where the lent list has G places, and otherwise is refused by 12
+module _ (l : Limits) (a : Arrays) (b : Built (recordOf l) a) (q : Query) (out : List ℕ)
+    (e : firstRow (queryRows (q .width) (q .exponent) (q .bytes)) ≡ 0) where
+  only-12 : rowOfAnswer (recordOf l) a q out ≡ firstRow (listRow (recordOf l) out ∷ [])
+  only-12 =
+      rows-are (recordOf l) a b q out
+      ∙ firstRow-append (queryRows (q .width) (q .exponent) (q .bytes)) (listRow (recordOf l) out ∷ [])
+      (numbered-query (q .width) (q .exponent) (q .bytes)) e
+
+  told : l .gates ≤ length out → 0 < q .width → q .width ≤ l .qubits
+      → synthesized (recordOf l) a q out ≡ toldOption (answered (q .width) (l .basis) (l .gates) (l .entries) (matrixOf q)) out
+  unfolding recordOf firstRow
+  told h p w =
+      told-walk (recordOf l) a b q out (only-12 ∙ first-past (listRow (recordOf l) out) [] (le-ltb (length out) (l .gates) h))
+      (has-width (recordOf l) q p w)
+
+  too-short : length out < l .gates → Refuses (recordOf l) a q out 12
+  unfolding recordOf
+  too-short h =
+      row-refuses (recordOf l) a q out 12 (omega arith)
+      (only-12 ∙ first-here (listRow (recordOf l) out) [] (lt-ltb (length out) (l .gates) h))
+
+module _ (a : Arrays) (p : Places 2 a) where
+  a-table : Built (recordOf xLimits) (builtTo xLimits 1 a)
+  a-table = filled xLimits a (computed .x-limits) p
+
+  complete : (q : Query) → q .width ≡ 1 → Complete (recordOf xLimits) (builtTo xLimits 1 a) q
+  unfolding recordOf
+  complete q e =
+      demand .complete (recordOf xLimits) (builtTo xLimits 1 a) a-table (omega arith) q
+      (subst (λ (n : ℕ). NoSharedPrint n 2 8) (sym e) (no-shared 8))
+
+  gives-x : (out : List ℕ) → 8 ≤ length out → Gives (recordOf xLimits) (builtTo xLimits 1 a) askX out (4096 ∷ [])
+  gives-x out h =
+      told xLimits (builtTo xLimits 1 a) a-table askX out (computed .x-passes) h (omega arith) (omega arith)
+      ∙ ap (λ (o : Option (List ℕ)). toldOption o out) (computed .walk-x)
+
+  none-t : (out : List ℕ) → 8 ≤ length out → GivesNone (recordOf xLimits) (builtTo xLimits 1 a) askT out
+  none-t out h =
+      told xLimits (builtTo xLimits 1 a) a-table askT out (computed .t-passes) h (omega arith) (omega arith)
+      ∙ ap (λ (o : Option (List ℕ)). toldOption o out) (computed .walk-t)
+
+  -- none is no refusal
+  not-refused : NotRefused (recordOf xLimits) (builtTo xLimits 1 a) askT lent
+  not-refused r n = absurd (omega (arith, kind-of (sym (none-t lent (omega arith)) ∙ n)))
+
+  no-t : (m : List ℕ) → Reaches (recordOf xLimits) (builtTo xLimits 1 a) askT m → length m ≤ 8 → ⊥
+  unfolding recordOf
+  no-t m r h =
+      complete askT refl .none-exactly (omega arith) (omega arith) unsaturated lent not-refused .0 (none-t lent (omega arith)) m r h
+
+  zero-passes : (out : List ℕ) → 8 ≤ length out → NotRefused (recordOf xLimits) (builtTo xLimits 1 a) askZero out
+  zero-passes out h r n =
+      not-refusal (answered 1 2 8 2 (matrixOf askZero)) r out
+      (sym (told xLimits (builtTo xLimits 1 a) a-table askZero out (computed .zero-passes) h (omega arith) (omega arith)) ∙ n)
+
+-- ---- a larger table
+
+no-smaller : NoSmaller xLimits largerLimits
+no-smaller = record { basis = refl; qubits = omega arith; gates = omega arith; entries = omega arith }
+
+module _ (a : Arrays) (p : Places 6 a) where
+  larger-table : Built (recordOf largerLimits) (builtTo largerLimits 2 a)
+  larger-table = filled largerLimits a (computed .larger-limits) p
+
+  -- by (b), from a smaller table
+  larger-x : (out : List ℕ) → 9 ≤ length out → Gives (recordOf largerLimits) (builtTo largerLimits 2 a) askX out (4096 ∷ [])
+  unfolding recordOf
+  larger-x out h =
+      by (demand .larger (recordOf xLimits) (recordOf largerLimits) (builtTo xLimits 1 a) (builtTo largerLimits 2 a) (a-table a small) larger-table
+      no-smaller askX lent out (4096 ∷ []) (gives-x a small lent (omega arith)))
+    where
+      small : Places 2 a
+      small = record { in-prints = omega (arith, p .in-prints); in-parents = omega (arith, p .in-parents); in-codes = omega (arith, p .in-codes) }
+
+      by : Gives (recordOf largerLimits) (builtTo largerLimits 2 a) askX out (4096 ∷ [])
+          ⊎ Refuses (recordOf largerLimits) (builtTo largerLimits 2 a) askX out 12
+          → Gives (recordOf largerLimits) (builtTo largerLimits 2 a) askX out (4096 ∷ [])
+      by (inl g) = g
+      by (inr n) =
+          absurd (not-refusal (answered 1 2 9 3 (matrixOf askX)) 12 out
+          (sym (told largerLimits (builtTo largerLimits 2 a) larger-table askX out (computed .x-passes) h (omega arith) (omega arith)) ∙ n))
+
+  larger-12 : (out : List ℕ) → length out < 9 → Refuses (recordOf largerLimits) (builtTo largerLimits 2 a) askX out 12
+  larger-12 out h = too-short largerLimits (builtTo largerLimits 2 a) larger-table askX out (computed .x-passes) h
+
+-- ---- altered memory
+
+not-a-table : Built (recordOf xLimits) damaged → ⊥
+unfolding recordOf
+not-a-table b =
+    let f = first (atWidth 1 2) (walk-shape (atWidth 1 2) 8 2 .layered .grown) in
+    let e = b .nodes 1 (omega arith) (omega arith) 0 (f .0) .print in
+    clash (eq-eqb 7 (fingerprint 1 identity) (e ∙ ap (printOf 1 2) (f .1))) (computed .root-print)
+
+damaged-right : PowerOf 1 (matrixOf askX) (product 1 (4096 ∷ [])) × Unitary 1 (matrixOf askX)
+damaged-right = (
+  demand .right (recordOf xLimits) damaged askX lent (4096 ∷ []) (computed .damaged-x) .0,
+  demand .unitary (recordOf xLimits) damaged askX lent (4096 ∷ []) (computed .damaged-x),
+)
+
+not-complete : Complete (recordOf xLimits) forgotten askX → ⊥
+unfolding recordOf
+not-complete c =
+    c .none-exactly (omega arith) (omega arith) unsaturated lent (λ r n. absurd (omega (arith, kind-of (sym (computed .forgotten-x) ∙ n)))) .0
+    (computed .forgotten-x) (4096 ∷ []) (record { of-basis = computed .x-of; power = damaged-right .0 }) (omega arith)
+
+pub samples : Samples
+samples = record {
+  x-is = x-is;
+  t-is = t-is;
+  builds = λ a p. build-fills xLimits a (fills xLimits a (computed .x-limits) p);
+  a-table = λ a p. a-table a p;
+  complete = λ a p q e. complete a p q e;
+  unsaturated = unsaturated;
+  gives-x = λ a p out h. gives-x a p out h;
+  none-t = λ a p out h. none-t a p out h;
+  no-t = λ a p m r h. no-t a p m r h;
+  no-smaller = no-smaller;
+  larger-table = λ a p. larger-table a p;
+  larger-x = λ a p out h. larger-x a p out h;
+  larger-12 = λ a p out h. larger-12 a p out h;
+  not-a-table = not-a-table;
+  damaged-x = computed .damaged-x;
+  damaged-right = damaged-right;
+  mistaken-t = computed .mistaken-t;
+  circular-x = computed .circular-x;
+  forgotten-x = computed .forgotten-x;
+  not-complete = not-complete;
+  zero-not-unitary = zero-not-unitary;
+  zero-passes = λ a p out h. zero-passes a p out h;
+  none-zero = λ a p out h. demand .not-unitary (recordOf xLimits) (builtTo xLimits 1 a) askZero out (zero-passes a p out h) zero-not-unitary;
+}

@@ -1,0 +1,110 @@
+-- Demand 3's statements speak of something: tables of X alone, whose every condition is met, and memory that no build left. Assumes nothing.
+use mathlib.Core.Path.{_≡_}
+use mathlib.Core.Bool.{false}
+use mathlib.Core.List.{List, [], _∷_}
+use Prim.Native.Nat.{ℕ, _≤_, _<_}
+use lib.IntN.{pos}
+use lib.ListN.{length}
+use Rattle.circuit.specs.Codes.{mark}
+use Rattle.exact.specs.Matrix.{Equal, PowerOf}
+use Rattle.exact.specs.Lists.{product}
+use Rattle.exact.specs.Unitary.{Unitary}
+use Rattle.exact.specs.Fingerprint.{fingerprint}
+use Rattle.tables.specs.Checks.{Limits, Arrays, arrays}
+use Rattle.tables.specs.Tables.{walkOf, recordOf, builtTo, table, left, buildOf, Query, query, matrixOf}
+use Rattle.tables.specs.Built.{Built}
+use Rattle.tables.specs.Demand3.{Gives, GivesNone, Refuses, NotRefused, NoSmaller, Reaches, Complete}
+
+-- ---- limits and arrays
+
+-- "Q 1, B 2, G 8: .. E 2": basis 2 is X alone
+abbrev pub xLimits : Limits
+xLimits = record { qubits = 1; gates = 8; entries = 2; basis = 2 }
+
+-- each limit is larger
+abbrev pub largerLimits : Limits
+largerLimits = record { qubits = 2; gates = 9; entries = 3; basis = 2 }
+
+-- each array has m places or more; they may hold anything
+pub record Places (m : ℕ) (a : Arrays) : Type 0 where
+  pub in-prints : m ≤ length (a .prints)
+  pub in-parents : m ≤ length (a .parents)
+  pub in-codes : m ≤ length (a .codes)
+
+-- ---- queries of width 1 and exponent 0
+
+-- X: 0 1, 1 0
+abbrev pub askX : Query
+askX =
+    query 1 0
+    (pos 0 ∷ pos 0 ∷ pos 0 ∷ pos 0 ∷ pos 1 ∷ pos 0 ∷ pos 0 ∷ pos 0 ∷ pos 1 ∷ pos 0 ∷ pos 0 ∷ pos 0 ∷ pos 0 ∷ pos 0 ∷ pos 0 ∷ pos 0 ∷ [])
+
+-- T: 1 0, 0 omega
+abbrev pub askT : Query
+askT =
+    query 1 0
+    (pos 1 ∷ pos 0 ∷ pos 0 ∷ pos 0 ∷ pos 0 ∷ pos 0 ∷ pos 0 ∷ pos 0 ∷ pos 0 ∷ pos 0 ∷ pos 0 ∷ pos 0 ∷ pos 0 ∷ pos 1 ∷ pos 0 ∷ pos 0 ∷ [])
+
+-- the zero matrix
+abbrev pub askZero : Query
+askZero =
+    query 1 0
+    (pos 0 ∷ pos 0 ∷ pos 0 ∷ pos 0 ∷ pos 0 ∷ pos 0 ∷ pos 0 ∷ pos 0 ∷ pos 0 ∷ pos 0 ∷ pos 0 ∷ pos 0 ∷ pos 0 ∷ pos 0 ∷ pos 0 ∷ pos 0 ∷ [])
+
+-- ---- memory that no build left
+
+-- a list of 8 places
+abbrev pub lent : List ℕ
+lent = 0 ∷ 0 ∷ 0 ∷ 0 ∷ 0 ∷ 0 ∷ 0 ∷ 0 ∷ []
+
+-- the fingerprint of node 0 is 7; node 1 is X
+abbrev pub damaged : Arrays
+damaged = arrays (7 ∷ fingerprint 1 (matrixOf askX) ∷ []) (mark ∷ 0 ∷ []) (mark ∷ 4096 ∷ [])
+
+-- node 1 is X, and has the fingerprint of T
+abbrev pub mistaken : Arrays
+mistaken = arrays (7 ∷ fingerprint 1 (matrixOf askT) ∷ []) (mark ∷ 0 ∷ []) (mark ∷ 4096 ∷ [])
+
+-- node 1 is its own parent
+abbrev pub circular : Arrays
+circular = arrays (7 ∷ fingerprint 1 (matrixOf askX) ∷ []) (mark ∷ 1 ∷ []) (mark ∷ 4096 ∷ [])
+
+-- both fingerprints are 7
+abbrev pub forgotten : Arrays
+forgotten = arrays (7 ∷ 7 ∷ []) (mark ∷ 0 ∷ []) (mark ∷ 4096 ∷ [])
+
+pub record Samples : Type 0 where
+  -- the queries are the matrices of X, 4096, and of T, 20480
+  pub x-is : Equal 1 (matrixOf askX) (product 1 (4096 ∷ []))
+  pub t-is : Equal 1 (matrixOf askT) (product 1 (20480 ∷ []))
+  -- with these limits a build is not refused, and leaves a built table
+  pub builds : (a : Arrays) → Places 2 a → buildOf xLimits a ≡ left (table (recordOf xLimits)) (builtTo xLimits 1 a)
+  pub a-table : (a : Arrays) → Places 2 a → Built (recordOf xLimits) (builtTo xLimits 1 a)
+  -- (c): every condition is met, so what (c) states holds of each query of width 1, and width 1 is not saturated
+  pub complete : (a : Arrays) → Places 2 a → (q : Query) → q .width ≡ 1 → Complete (recordOf xLimits) (builtTo xLimits 1 a) q
+  pub unsaturated : walkOf xLimits 1 .saturated ≡ false
+  -- X gets the list X; T gets none, and so no list of X within 8 gates has its product
+  pub gives-x : (a : Arrays) → Places 2 a → (out : List ℕ) → 8 ≤ length out → Gives (recordOf xLimits) (builtTo xLimits 1 a) askX out (4096 ∷ [])
+  pub none-t : (a : Arrays) → Places 2 a → (out : List ℕ) → 8 ≤ length out → GivesNone (recordOf xLimits) (builtTo xLimits 1 a) askT out
+  pub no-t : (a : Arrays) → Places 2 a → (m : List ℕ) → Reaches (recordOf xLimits) (builtTo xLimits 1 a) askT m → length m ≤ 8 → ⊥
+  -- (b): a larger table gives the same list where the lent list has G places, and refuses by 12 where it has fewer
+  pub no-smaller : NoSmaller xLimits largerLimits
+  pub larger-table : (a : Arrays) → Places 6 a → Built (recordOf largerLimits) (builtTo largerLimits 2 a)
+  pub larger-x : (a : Arrays) → Places 6 a → (out : List ℕ) → 9 ≤ length out
+      → Gives (recordOf largerLimits) (builtTo largerLimits 2 a) askX out (4096 ∷ [])
+  pub larger-12 : (a : Arrays) → Places 6 a → (out : List ℕ) → length out < 9
+      → Refuses (recordOf largerLimits) (builtTo largerLimits 2 a) askX out 12
+  -- (a): the damaged memory is no built table; it answers X by a list, whose product is a power of omega times X, and X is unitary
+  pub not-a-table : Built (recordOf xLimits) damaged → ⊥
+  pub damaged-x : Gives (recordOf xLimits) damaged askX lent (4096 ∷ [])
+  pub damaged-right : PowerOf 1 (matrixOf askX) (product 1 (4096 ∷ [])) × Unitary 1 (matrixOf askX)
+  -- a list whose product is another is not answered; a parent that is not below its node is refused by 13
+  pub mistaken-t : GivesNone (recordOf xLimits) mistaken askT lent
+  pub circular-x : Refuses (recordOf xLimits) circular askX lent 13
+  -- (c) is of built tables: X gets none where its fingerprint is not there
+  pub forgotten-x : GivesNone (recordOf xLimits) forgotten askX lent
+  pub not-complete : Complete (recordOf xLimits) forgotten askX → ⊥
+  -- (d): the zero matrix is not unitary, is not refused, and gets none
+  pub zero-not-unitary : Unitary 1 (matrixOf askZero) → ⊥
+  pub zero-passes : (a : Arrays) → Places 2 a → (out : List ℕ) → 8 ≤ length out → NotRefused (recordOf xLimits) (builtTo xLimits 1 a) askZero out
+  pub none-zero : (a : Arrays) → Places 2 a → (out : List ℕ) → 8 ≤ length out → GivesNone (recordOf xLimits) (builtTo xLimits 1 a) askZero out

@@ -2,3 +2,4 @@ pub mod Bytes
 pub mod Checks
 pub mod Answers
 pub mod Demand2
+pub mod Parts

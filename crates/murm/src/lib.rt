@@ -10,9 +10,9 @@ ghost use Rattle.exact.specs.Fits.{AllSmall};
 ghost use Rattle.places.specs.Places.{read};
 ghost use Rattle.width_answer.specs.Answers.{outcome as replied};
 ghost use Rattle.tables.specs.Checks.{firstRow, queryRows, arrays, roomRow};
-ghost use Rattle.tables.specs.Tables.{query, recordRow, partAsked, synthesized};
+ghost use Rattle.tables.specs.Tables.{left, buildOf, query, recordRow, partAsked, synthesized};
 ghost use Rattle.murm_config.specs.Told.{toldConfig, toldMurm};
-ghost use Rattle.murm.specs.Entries.{firstInvalid, outcome, listed, toldListed, fingerprinted, toldFingerprinted, toldQueryCheck, askedOf, toldSynthesized};
+ghost use Rattle.murm.specs.Entries.{firstInvalid, outcome, listed, toldListed, fingerprinted, toldFingerprinted, toldQueryCheck, toldBuilding, askedOf, toldSynthesized};
 ghost use Rattle.murm.specs.Work.{PastLimit, InRange, Checked};
 use circuit::LibraryGate;
 use cyclotomic::Coefficient;
@@ -20,7 +20,9 @@ use cyclotomic::LIMIT;
 use cyclotomic::Wide;
 use lists::Walked;
 use matrix::UnitaryMatrix;
+use murm_config::LimitCheck;
 use murm_config::Murm;
+use murm_config::MurmConfig;
 use width_answer::Answered;
 
 // What a list became: its exponent, or why it was refused, with the position where there is one.
@@ -181,6 +183,29 @@ pub enum Building {
     Basis,
     TooLarge,
     ArrayTooShort,
+}
+
+// "a table is built": rows 1, 2, 3, 4, 5. A refusal leaves the three arrays as they were.
+pub fn build(
+    config: MurmConfig,
+    fingerprints: &mut [u64],
+    parents: &mut [u32],
+    codes: &mut [u32],
+) -> Building
+    ensures { λ r. ⌜ left (toldBuilding r) (arrays (now (fingerprints .exit)) (now (parents .exit)) (now (codes .exit))) ≡ buildOf (toldConfig config) (arrays (now (fingerprints .entry)) (now (parents .entry)) (now (codes .entry))) ⌝ }
+{
+    match murm_config::limits(config) {
+        LimitCheck::Accepted => {
+            if murm_config::too_short(config, fingerprints.len(), parents.len(), codes.len()) {
+                return Building::ArrayTooShort;
+            }
+            Building::Table(murm_widths::build_widths(config, fingerprints, parents, codes))
+        }
+        LimitCheck::WidthLimit => Building::WidthLimit,
+        LimitCheck::NoEntries => Building::NoEntries,
+        LimitCheck::Basis => Building::Basis,
+        LimitCheck::TooLarge => Building::TooLarge,
+    }
 }
 
 // What a table answers: a list, by how many gates it has; none; or why it was refused.

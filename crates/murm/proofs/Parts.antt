@@ -1,0 +1,66 @@
+-- A width's part of a table whose record and arrays are not refused: where it lies, and how many of its places are counted. Assumes nothing.
+use mathlib.Core.Path.{_≡_, refl, sym, ap, _∙_}
+use mathlib.Core.Bool.{Bool, true, false, not, _&&_, _||_}
+use Prim.Native.Nat.{ℕ, zero, suc, _+_, _*_, _-_, _≤_, _<_}
+use native.Mathlib.Omega.{arith}
+use native.Mathlib.Nat.{mul-le-mul}
+use borrow.Author.Tests.{ltb-false, eqb-true, le-ltb, not-false}
+use lib.Dec.{eqb, ltb}
+use lib.ListN.{length}
+use Rattle.ints.proofs.Bools.{neither, clash}
+use Rattle.walk.specs.Walk.{any}
+use Rattle.tables.specs.Checks.{Limits, firstRow, limitRows, Arrays, roomRow}
+use Rattle.tables.specs.Tables.{Table, allWidths, widthAt, badCount, recordRow}
+use Rattle.tables.proofs.Accepted.{Accepted, accepted, roomy}
+use Rattle.tables.proofs.Filled.{room-at}
+
+-- no width's count is bad
+count-good : (t : Table) (w : ℕ) → any (badCount t) allWidths ≡ false → 0 < w → w ≤ 5 → badCount t w ≡ false
+count-good t zero e p q = absurd (omega arith)
+count-good t (suc zero) e p q = neither (badCount t 1) _ e .0
+count-good t (suc (suc zero)) e p q = neither (badCount t 2) _ (neither (badCount t 1) _ e .1) .0
+count-good t (suc (suc (suc zero))) e p q = neither (badCount t 3) _ (neither (badCount t 2) _ (neither (badCount t 1) _ e .1) .1) .0
+count-good t (suc (suc (suc (suc zero)))) e p q =
+    neither (badCount t 4) _ (neither (badCount t 3) _ (neither (badCount t 2) _ (neither (badCount t 1) _ e .1) .1) .1) .0
+count-good t (suc (suc (suc (suc (suc zero))))) e p q =
+    neither (badCount t 5) _ (neither (badCount t 4) _ (neither (badCount t 3) _ (neither (badCount t 2) _ (neither (badCount t 1) _ e .1) .1) .1) .1) .0
+count-good t (suc (suc (suc (suc (suc (suc w)))))) e p q = absurd (omega arith)
+
+pub record Part (t : Table) (a : Arrays) (w : ℕ) : Type 0 where
+  pub width : w ≤ 5
+  pub gates : t .limits .gates ≤ 64
+  pub entries : t .limits .entries ≤ 1000000
+  pub start : (w - 1) * t .limits .entries ≤ 5000000
+  pub in-f : (w - 1) * t .limits .entries + t .limits .entries ≤ length (a .prints)
+  pub in-u : (w - 1) * t .limits .entries + t .limits .entries ≤ length (a .parents)
+  pub in-c : (w - 1) * t .limits .entries + t .limits .entries ≤ length (a .codes)
+  pub count : widthAt t w .count ≤ t .limits .entries
+
+-- the limits of a record that is not refused
+pub record-limits : (t : Table) → recordRow t .holds ≡ false → Accepted (t .limits)
+record-limits t r = accepted (t .limits) (eqb-true (firstRow (limitRows (t .limits))) 0 (not-false _ (neither (not (eqb (firstRow (limitRows (t .limits))) 0)) _ r .0)))
+
+pub part : (t : Table) (a : Arrays) (w : ℕ) → recordRow t .holds ≡ false → roomRow (t .limits) a .holds ≡ false → 0 < w → w ≤ t .limits .qubits → Part t a w
+part t a w r m p q =
+    let l = record-limits t r in
+    let s = roomy (t .limits) a m in
+    let b = room-at (w - 1) (t .limits .qubits) (t .limits .entries) (omega arith) in
+    let few : w ≤ 5 = omega (arith, l .widths) in
+    let four : w - 1 ≤ 4 = omega (arith, few) in
+    record {
+      width = few;
+      gates = l .gates;
+      entries = l .entries;
+      start = omega (arith, mul-le-mul four (l .entries));
+      in-f = omega (arith, b, s .0);
+      in-u = omega (arith, b, s .1);
+      in-c = omega (arith, b, s .2);
+      count = counted (count-good t w (neither (not (eqb (firstRow (limitRows (t .limits))) 0)) _ r .1) p few);
+    }
+  where
+    counted : badCount t w ≡ false → widthAt t w .count ≤ t .limits .entries
+    counted e = ltb-false (t .limits .entries) (widthAt t w .count) (neither (eqb (widthAt t w .count) 0) _ (with-width (ltb (t .limits .qubits) w) (le-ltb (t .limits .qubits) w q) e) .1)
+      where
+        with-width : (x : Bool) → x ≡ false → {y : Bool} → (not x && y) ≡ false → y ≡ false
+        with-width true z f = clash refl z
+        with-width false z f = f

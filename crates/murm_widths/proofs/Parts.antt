@@ -1,5 +1,5 @@
 -- What one width's build leaves in the parts of the three arrays, said of the whole arrays; and its row of the record. Assumes nothing.
-use mathlib.Core.Path.{_≡_, refl, sym, ap, _∙_}
+use mathlib.Core.Path.{_≡_, sym, ap, _∙_}
 use mathlib.Core.List.{List, _++_, map}
 use Prim.Native.Nat.{ℕ, _+_, _-_}
 use native.Mathlib.Omega.{arith}
@@ -7,7 +7,7 @@ use lib.ListN.{length, drop, length-map}
 use borrow.Rule.Slice.PartMut.{midOf, putMid}
 use Rattle.walk.specs.Walk.{Node, Build, gate}
 use Rattle.width_table.specs.declared.WidthTable.{WidthTable}
-use Rattle.width_table.specs.Table.{Column, Whole, printOf, parentOf}
+use Rattle.width_table.specs.Table.{Column, printOf, parentOf}
 use Rattle.tables.specs.Checks.{Limits}
 use Rattle.tables.specs.Tables.{walkOf, widthOf, printsOf, parentsOf, codesOf, overlay, within}
 use Rattle.murm_config.specs.Told.{toldWidth}
@@ -39,6 +39,7 @@ module _ (l : Limits) (w a n count : ℕ) (same : count ≡ length (walkOf l w .
   unfolding parentsOf
   parents-back c = part-back a n (overlay (parentsOf l w)) xs ys (column-over _ _ _ _ _ same c)
 
-  pub codes-back : Column gate (midOf a (a + n - a) xs) (walkOf l w .nodes) ys count → putMid a (a + n - a) xs ys ≡ within a n (overlay (codesOf l w)) xs
+  pub codes-back : Column gate (midOf a (a + n - a) xs) (walkOf l w .nodes) ys count
+      → putMid a (a + n - a) xs ys ≡ within a n (overlay (codesOf l w)) xs
   unfolding codesOf
   codes-back c = part-back a n (overlay (codesOf l w)) xs ys (column-over _ _ _ _ _ same c)

@@ -1,17 +1,21 @@
 -- What the loop over the widths keeps: the record and the three arrays after widths 1 to v. Assumes nothing.
-use mathlib.Core.Path.{_≡_, refl, sym, ap, _∙_}
-use mathlib.Core.Bool.{Bool, true, false}
-use mathlib.Core.List.{List, [], _∷_, _++_, map}
-use Prim.Native.Nat.{ℕ, zero, suc, _+_, _*_, _≤_, _<_}
+use mathlib.Core.Path.{_≡_, refl, ap, _∙_}
+use mathlib.Core.List.{List, map}
+use Prim.Native.Nat.{ℕ, zero, suc, _+_, _*_, _<_}
 use native.Mathlib.Numerals.{add-one}
 use native.Mathlib.Omega.{arith}
 use lib.Dec.{ltb}
 use lib.ListN.{length}
 use Rattle.ints.specs.Lists.{pick}
 use Rattle.tables.specs.Checks.{Limits}
-use Rattle.tables.specs.Tables.{Table, notBuilt, allWidths, walkOf, widthOf, recordOf, printsOf, parentsOf, codesOf, overlay, within, filledTo}
+use Rattle.tables.specs.Tables.{Width, Table, notBuilt, allWidths, walkOf, widthOf, recordOf, printsOf, parentsOf, codesOf, overlay, within, filledTo}
 use Rattle.murm_config.specs.Told.{emptyOf, withWidth}
 use Rattle.murm_widths.specs.Limited.{limitsOf}
+
+-- ---- the limits by their four numbers
+
+abbrev pub limits : ℕ → ℕ → ℕ → ℕ → Limits
+limits q g e b = record { qubits = q; gates = g; entries = e; basis = b }
 
 -- ---- the record
 
@@ -23,18 +27,24 @@ pub record-none : (l : Limits) → emptyOf l ≡ recordTo l 0
 unfolding recordTo
 record-none l = refl
 
-pub record-more : (l : Limits) (v : ℕ) → v < 5 → withWidth (recordTo l v) (v + 1) (widthOf (walkOf l (v + 1))) ≡ recordTo l (v + 1)
+one-more : (l : Limits) (v : ℕ) → v < 5 → withWidth (recordTo l v) (v + 1) (widthOf (walkOf l (v + 1))) ≡ recordTo l (v + 1)
 unfolding recordTo
-record-more l zero h = refl
-record-more l (suc zero) h = refl
-record-more l (suc (suc zero)) h = refl
-record-more l (suc (suc (suc zero))) h = refl
-record-more l (suc (suc (suc (suc zero)))) h = refl
-record-more l (suc (suc (suc (suc (suc v))))) h = absurd (omega arith)
+one-more l zero h = refl
+one-more l (suc zero) h = refl
+one-more l (suc (suc zero)) h = refl
+one-more l (suc (suc (suc zero))) h = refl
+one-more l (suc (suc (suc (suc zero)))) h = refl
+one-more l (suc (suc (suc (suc (suc v))))) h = absurd (omega arith)
 
-pub record-all : (l : Limits) → recordTo l (l .qubits) ≡ recordOf l
+-- the row of width v + 1 is stored
+pub record-more : (l : Limits) (v : ℕ) (t : Table) (x : Width) → v < 5 → t ≡ recordTo l v → x ≡ widthOf (walkOf l (v + 1))
+    → withWidth t (v + 1) x ≡ recordTo l (v + 1)
+record-more l v t x h e f =
+    ap (λ (z : Table). withWidth z (v + 1) x) e ∙ (ap (withWidth (recordTo l v) (v + 1)) f ∙ one-more l v h)
+
+pub record-all : (l m : Limits) (v : ℕ) (t : Table) → l ≡ m → v ≡ m .qubits → t ≡ recordTo l v → t ≡ recordOf m
 unfolding recordTo recordOf
-record-all l = refl
+record-all l m v t e f h = h ∙ (ap (λ (z : Limits). recordTo z v) e ∙ ap (recordTo m) f)
 
 -- ---- an array
 
@@ -46,10 +56,17 @@ pub done-none : (column : ℕ → List ℕ) (E : ℕ) (old : List ℕ) → Done 
 unfolding filledTo
 done-none column E old = (refl, refl)
 
-pub done-more : (column : ℕ → List ℕ) (E v : ℕ) (old xs ys : List ℕ) → length ys ≡ length xs → ys ≡ within (v * E) E (overlay (column (v + 1))) xs
-    → Done column E v old xs → Done column E (v + 1) old ys
+-- one width more: its column is new
+pub done-more : (column : ℕ → List ℕ) (E v : ℕ) (new old xs ys : List ℕ) → new ≡ column (v + 1) → length ys ≡ length xs
+    → ys ≡ within (v * E) E (overlay new) xs → Done column E v old xs → Done column E (v + 1) old ys
 unfolding filledTo
-done-more column E v old xs ys l h p = (l ∙ p .0, h ∙ (ap (within (v * E) E (overlay (column (v + 1)))) (p .1) ∙ rw add-one))
+done-more column E v new old xs ys s l h p =
+    (l ∙ p .0, h ∙ (ap (λ (z : List ℕ). within (v * E) E (overlay z) xs) s ∙ (ap (within (v * E) E (overlay (column (v + 1)))) (p .1) ∙ rw add-one)))
+
+-- all widths, by columns of equal limits
+pub done-all : (column column′ : ℕ → List ℕ) (E v q : ℕ) (old xs : List ℕ) → column ≡ column′ → v ≡ q → Done column E v old xs
+    → xs ≡ filledTo column′ E q old
+done-all column column′ E v q old xs e f p = p .1 ∙ (ap (λ (z : ℕ → List ℕ). filledTo z E v old) e ∙ ap (λ (k : ℕ). filledTo column′ E k old) f)
 
 -- ---- the width limit plays no part in a width's column
 

@@ -1,0 +1,45 @@
+-- What one width's build leaves in the parts of the three arrays, said of the whole arrays; and its row of the record. Assumes nothing.
+use mathlib.Core.Path.{_≡_, sym, ap, _∙_}
+use mathlib.Core.List.{List, _++_, map}
+use Prim.Native.Nat.{ℕ, _+_, _-_}
+use native.Mathlib.Omega.{arith}
+use lib.ListN.{length, drop, length-map}
+use borrow.Rule.Slice.PartMut.{midOf, putMid}
+use Rattle.walk.specs.Walk.{Node, Build, gate}
+use Rattle.width_table.specs.declared.WidthTable.{WidthTable}
+use Rattle.width_table.specs.Table.{Column, printOf, parentOf}
+use Rattle.tables.specs.Checks.{Limits}
+use Rattle.tables.specs.Tables.{walkOf, widthOf, printsOf, parentsOf, codesOf, overlay, within}
+use Rattle.murm_config.specs.Told.{toldWidth}
+
+-- an array that holds what p says of the nodes is that list over what the array held
+column-over : (p : Node → ℕ) (ns : List Node) (n : ℕ) (old new : List ℕ) → n ≡ length ns → Column p old ns new n → new ≡ overlay (map p ns) old
+column-over p ns n old new e c = c .is ∙ ap (λ (k : ℕ). map p ns ++ drop k old) (e ∙ sym (length-map ns p))
+
+-- a part that was lent, `&mut xs[a..a + n]`, is back, and holds g of what it held
+part-back : (a n : ℕ) (g : List ℕ → List ℕ) (xs ys : List ℕ) → ys ≡ g (midOf a (a + n - a) xs) → putMid a (a + n - a) xs ys ≡ within a n g xs
+part-back a n g xs ys h =
+    let e : a + n - a ≡ n = omega arith in
+    ap (putMid a (a + n - a) xs) h ∙ ap (λ (k : ℕ). putMid a k xs (g (midOf a k xs))) e
+
+-- the row of a width
+pub row-is : (r : WidthTable) (b : Build) → r .count ≡ length (b .nodes) → r .depth ≡ b .depth → r .saturated ≡ b .saturated → toldWidth r ≡ widthOf b
+row-is r b p q s = rw (p, q, s)
+
+-- ---- the three arrays, the parts of a width lent to its build
+
+module _ (l : Limits) (w a n count : ℕ) (same : count ≡ length (walkOf l w .nodes)) (xs ys : List ℕ) where
+  pub prints-back : Column (printOf w (l .basis)) (midOf a (a + n - a) xs) (walkOf l w .nodes) ys count
+      → putMid a (a + n - a) xs ys ≡ within a n (overlay (printsOf l w)) xs
+  unfolding printsOf
+  prints-back c = part-back a n (overlay (printsOf l w)) xs ys (column-over _ _ _ _ _ same c)
+
+  pub parents-back : Column parentOf (midOf a (a + n - a) xs) (walkOf l w .nodes) ys count
+      → putMid a (a + n - a) xs ys ≡ within a n (overlay (parentsOf l w)) xs
+  unfolding parentsOf
+  parents-back c = part-back a n (overlay (parentsOf l w)) xs ys (column-over _ _ _ _ _ same c)
+
+  pub codes-back : Column gate (midOf a (a + n - a) xs) (walkOf l w .nodes) ys count
+      → putMid a (a + n - a) xs ys ≡ within a n (overlay (codesOf l w)) xs
+  unfolding codesOf
+  codes-back c = part-back a n (overlay (codesOf l w)) xs ys (column-over _ _ _ _ _ same c)

@@ -2,18 +2,20 @@
 // matrix.rs: `unitary_fingerprint`.
 ghost use mathlib.Core.Path.{_≡_};
 ghost use mathlib.Core.Bool.{false, _&&_};
-ghost use Prim.Native.Nat.{_*_, _^_, _≤_, _<_};
+ghost use Prim.Native.Nat.{_+_, _*_, _^_, _≤_, _<_};
 ghost use lib.Dec.{ltb};
-ghost use lib.ListN.{length};
+ghost use lib.ListN.{length, take, drop};
 ghost use Rattle.exact.specs.Matrix.{allDivisible};
 ghost use Rattle.exact.specs.Fits.{AllSmall};
-ghost use Rattle.places.specs.Places.{read};
+ghost use Rattle.places.specs.Places.{read, held};
+ghost use Rattle.width_answer.specs.Answers.{answerOf, toldAnswered};
 ghost use Rattle.width_answer.specs.Answers.{outcome as replied};
 ghost use Rattle.tables.specs.Checks.{firstRow, queryRows, arrays, roomRow};
 ghost use Rattle.tables.specs.Tables.{left, buildOf, query, recordRow, partAsked, synthesized};
 ghost use Rattle.murm_config.specs.Told.{toldConfig, toldMurm};
 ghost use Rattle.murm.specs.Entries.{firstInvalid, outcome, listed, toldListed, fingerprinted, toldFingerprinted, toldQueryCheck, toldBuilding, askedOf, toldSynthesized};
 ghost use Rattle.murm.specs.Work.{PastLimit, InRange, Checked};
+use circuit::GateSet;
 use circuit::LibraryGate;
 use cyclotomic::Coefficient;
 use cyclotomic::LIMIT;
@@ -221,6 +223,42 @@ pub enum Synthesized {
     BadTable,
 }
 
+// The places from `start` on, as many as a width has, are asked.
+fn ask_from(
+    fingerprints: &[u64],
+    parents: &[u32],
+    codes: &[u32],
+    start: usize,
+    entries: usize,
+    count: usize,
+    width: u32,
+    basis: GateSet,
+    limit: usize,
+    exponent: u16,
+    matrix: &[Coefficient],
+    out: &mut [u32],
+) -> Answered
+    requires { ⌜ (width ≤ 5) × (limit ≤ 64) × (limit ≤ length (now out)) ⌝ }
+    requires { ⌜ (start ≤ 5000000) × (entries ≤ 1000000) × (count ≤ entries) ⌝ }
+    requires { ⌜ (start + entries ≤ length (now fingerprints)) × (start + entries ≤ length (now parents)) × (start + entries ≤ length (now codes)) ⌝ }
+    requires { ⌜ (4 * (2 ^ width * 2 ^ width) ≤ length (now matrix)) × AllSmall width (read width (now matrix)) ⌝ }
+    ensures { λ r. ⌜ replied (toldAnswered r) (now (out .exit)) ≡ answerOf (take entries (drop start (now (fingerprints .entry)))) (take entries (drop start (now (parents .entry)))) (take entries (drop start (now (codes .entry)))) count width (basis .0) limit (held width exponent (now (matrix .entry))) (now (out .entry)) ⌝ }
+{
+    let end = start + entries;
+    width_answer::answer_width(
+        &fingerprints[start..end],
+        &parents[start..end],
+        &codes[start..end],
+        count,
+        width,
+        basis,
+        limit,
+        exponent,
+        matrix,
+        out,
+    )
+}
+
 // The part of a width from 1 to Q is asked.
 fn ask_part(
     table: Murm,
@@ -240,12 +278,13 @@ fn ask_part(
 {
     let e = table.config.max_entries_per_qubit as usize;
     let a = (width as usize - 1) * e;
-    let end = a + e;
     let row = murm_config::width_table(table, width);
-    match width_answer::answer_width(
-        &fingerprints[a..end],
-        &parents[a..end],
-        &codes[a..end],
+    match ask_from(
+        fingerprints,
+        parents,
+        codes,
+        a,
+        e,
         row.count,
         width,
         table.config.basis,

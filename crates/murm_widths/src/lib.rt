@@ -3,7 +3,7 @@
 ghost use mathlib.Core.Path.{_≡_};
 ghost use Prim.Native.Nat.{_+_, _*_, _≤_, _<_};
 ghost use lib.ListN.{length};
-ghost use Rattle.tables.specs.Checks.{arrays, placesOf};
+ghost use Rattle.tables.specs.Checks.{placesOf};
 ghost use Rattle.tables.specs.Tables.{widthOf, walkOf, recordOf, printsOf, parentsOf, codesOf, overlay, within, filledTo};
 ghost use Rattle.murm_config.specs.Told.{toldConfig, toldWidth, toldMurm};
 ghost use Rattle.murm_widths.specs.Limited.{limitsOf};

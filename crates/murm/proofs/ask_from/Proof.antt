@@ -1,96 +1,62 @@
-use Prim.Native.Nat.{ℕ, zero, suc, _≤_, _<_, _-_, _+_, _*_}
+-- `ask_from` meets its contract: the part of each array that is lent is `take entries (drop start ..)`. Assumes nothing.
+use mathlib.Core.Path.{_≡_, sym, ap, _∙_}
+use mathlib.Core.List.{List}
+use Prim.Native.Nat.{ℕ, _+_, _-_, _≤_}
 use native.Mathlib.Omega.{arith}
-use mathlib.Core.Path.{_≡_, refl, sym, ap, _∙_}
-use mathlib.Core.List.{List, [], _∷_, _++_}
-use lib.ListN.{length, getD, set, take, drop}
 use borrow.Author.Needs.{needs}
+use lib.ListN.{length, take, drop, length-drop}
+use lib.Seq.{length-take-le}
+use Rattle.exact.specs.Matrix.{Exact}
+use Rattle.places.specs.Places.{held}
+use Rattle.width_answer.specs.Answers.{Outcome, answerOf}
 use Rattle.murm.proofs.ask_from.Statement.{statement}
 use Rattle.murm.proofs.ask_from.Tie as tie
-use Rattle.murm.proofs.ask_from.Reads as reads
-use Rattle.murm.proofs.ask_from.Lts as lts
-use Rattle.width_answer.proofs.answer_width.Reads as answer-width-reads
 
--- src/lib.rt:247:15
-add-end : tie.Need-add-end
-add-end c = search needs
+-- the part has as many places as were asked for
+room : (start entries count : ℕ) (xs : List ℕ) → start + entries ≤ length xs → count ≤ entries → count ≤ length (take (start + entries - start) (drop start xs))
+room start entries count xs h k = omega (arith, length-take-le (start + entries - start) (drop start xs) (omega (arith, length-drop start xs)))
 
--- src/lib.rt:249:9
-mul-answer-width : tie.Need-mul-answer-width
-mul-answer-width c = search needs
+parts : (start entries count n basis limit : ℕ) (x : Exact) (f u c out : List ℕ)
+    → answerOf (take (start + entries - start) (drop start f)) (take (start + entries - start) (drop start u)) (take (start + entries - start) (drop start c)) count n basis limit x out
+    ≡ answerOf (take entries (drop start f)) (take entries (drop start u)) (take entries (drop start c)) count n basis limit x out
+parts start entries count n basis limit x f u c out =
+    let e : start + entries - start ≡ entries = omega arith in
+    ap (λ (k : ℕ). answerOf (take k (drop start f)) (take k (drop start u)) (take k (drop start c)) count n basis limit x out) e
 
--- src/lib.rt:249:9
-sub-answer-width : tie.Need-sub-answer-width
-sub-answer-width c = search needs
-
--- src/lib.rt:249:9
-part-answer-width-start : tie.Need-part-answer-width-start
-part-answer-width-start c = search needs
-
--- src/lib.rt:249:9
-part-answer-width-end : tie.Need-part-answer-width-end
-part-answer-width-end c = search needs
-
--- src/lib.rt:250:9
-mul-answer-width-2 : tie.Need-mul-answer-width-2
-mul-answer-width-2 c = search needs
-
--- src/lib.rt:250:9
-sub-answer-width-2 : tie.Need-sub-answer-width-2
-sub-answer-width-2 c = search needs
-
--- src/lib.rt:250:9
-part-answer-width-start-2 : tie.Need-part-answer-width-start-2
-part-answer-width-start-2 c = search needs
-
--- src/lib.rt:250:9
-part-answer-width-end-2 : tie.Need-part-answer-width-end-2
-part-answer-width-end-2 c = search needs
-
--- src/lib.rt:251:9
-mul-answer-width-3 : tie.Need-mul-answer-width-3
-mul-answer-width-3 c = search needs
-
--- src/lib.rt:251:9
-sub-answer-width-3 : tie.Need-sub-answer-width-3
-sub-answer-width-3 c = search needs
-
--- src/lib.rt:251:9
-part-answer-width-start-3 : tie.Need-part-answer-width-start-3
-part-answer-width-start-3 c = search needs
-
--- src/lib.rt:251:9
-part-answer-width-end-3 : tie.Need-part-answer-width-end-3
-part-answer-width-end-3 c = search needs
-
--- src/lib.rt:248:5
 answer-width-requires : tie.Need-answer-width-requires
-answer-width-requires c κs = search needs
+answer-width-requires c κs =
+    let s = c .before .before .before .before .before .before .before .before in
+    let p = s .pre in
+    let a = s .args in
+    (p .0,
+    ((room (a .start) (a .entries) (a .count) (a .fingerprints .now) (p .1 .1 .0 .0) (p .1 .0 .2),
+    room (a .start) (a .entries) (a .count) (a .parents .now) (p .1 .1 .0 .1) (p .1 .0 .2),
+    room (a .start) (a .entries) (a .count) (a .codes .now) (p .1 .1 .0 .2) (p .1 .0 .2)),
+    p .1 .1 .1))
 
--- src/lib.rt:227:1
-same-length : tie.Need-same-length
-same-length c = search needs
-
--- src/lib.rt:227:1
 returns : tie.Need-returns
-returns c = search needs
+returns c =
+    let a = c .before .before .before .before .before .before .before .before .before .before .before .args in
+    c .before .before .answer-width .ensures
+    ∙ parts (a .start) (a .entries) (a .count) (a .width) (a .basis .0) (a .limit) (held (a .width) (a .exponent) (a .matrix .now)) (a .fingerprints .now) (a .parents .now) (a .codes .now) (a .out .now)
 
 pub ask-from-spec : {M : Type 1} → statement M
 ask-from-spec =
     tie.close
     (tie.spec
-    add-end
-    mul-answer-width
-    sub-answer-width
-    part-answer-width-start
-    part-answer-width-end
-    mul-answer-width-2
-    sub-answer-width-2
-    part-answer-width-start-2
-    part-answer-width-end-2
-    mul-answer-width-3
-    sub-answer-width-3
-    part-answer-width-start-3
-    part-answer-width-end-3
+    (λ c. search needs)
+    (λ c. search needs)
+    (λ c. search needs)
+    (λ c. search needs)
+    (λ c. search needs)
+    (λ c. search needs)
+    (λ c. search needs)
+    (λ c. search needs)
+    (λ c. search needs)
+    (λ c. search needs)
+    (λ c. search needs)
+    (λ c. search needs)
+    (λ c. search needs)
     answer-width-requires
-    same-length
+    (λ c. search needs)
     returns)

@@ -7,8 +7,12 @@ mod codes;
 mod edges;
 mod gates;
 mod inputs;
+mod lines;
 mod lists;
+mod questions;
 mod random;
+mod table_inputs;
+mod tables;
 
 use std::io::{self, BufWriter, Write};
 use std::process::ExitCode;
@@ -21,6 +25,7 @@ const MODES: &[(&str, Mode)] = &[
     ("bench", bench::run),
     ("gates", gates::run),
     ("inputs", inputs::run),
+    ("lines", lines::run),
     ("list", lists::run),
 ];
 

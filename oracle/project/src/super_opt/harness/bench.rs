@@ -8,6 +8,7 @@ use std::time::{Duration, Instant};
 
 use super::codes::{code_of, kinds};
 use super::lists::Parts;
+use super::port;
 use super::random::Random;
 use crate::circuit::GateSet;
 use crate::super_opt::SUPPORTED_GATE_SET;
@@ -22,41 +23,6 @@ const GATES: usize = 20;
 /// enough that some are not interrupted on a machine that others use too.
 const ROUNDS: usize = 200;
 const ROUND: Duration = Duration::from_micros(500);
-
-/// The port's functions. What `bench_fingerprint` requires is met here: all
-/// places are lent, and no coefficient is -128.
-mod port {
-    #[link(name = "bench", kind = "static")]
-    unsafe extern "C" {
-        fn bench_list(
-            width: u32,
-            codes: *const u32,
-            count: usize,
-            out: *mut i8,
-            places: usize,
-        ) -> u64;
-        fn bench_query(width: u32, exponent: u16, entries: *const i8, places: usize) -> u64;
-        fn bench_fingerprint(entries: *const i8, places: usize, width: usize, exponent: u16)
-        -> u64;
-    }
-
-    /// The exponent, where the list fits.
-    pub(super) fn list(width: usize, codes: &[u32], out: &mut [i8]) -> Option<u16> {
-        let (codes, count) = (codes.as_ptr(), codes.len());
-        let told = unsafe { bench_list(width as u32, codes, count, out.as_mut_ptr(), out.len()) };
-        u16::try_from(told).ok()
-    }
-
-    /// The fingerprint by the entry, which tests its matrix first.
-    pub(super) fn query(width: usize, exponent: u16, entries: &[i8]) -> u64 {
-        unsafe { bench_query(width as u32, exponent, entries.as_ptr(), entries.len()) }
-    }
-
-    /// The fingerprint below the entry.
-    pub(super) fn fingerprint(width: usize, exponent: u16, entries: &[i8]) -> u64 {
-        unsafe { bench_fingerprint(entries.as_ptr(), entries.len(), width, exponent) }
-    }
-}
 
 /// One list on both sides, with the matrix that it gives.
 struct Case {

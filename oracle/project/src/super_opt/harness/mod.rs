@@ -5,6 +5,8 @@
 mod altered;
 #[cfg(feature = "port")]
 mod bench;
+#[cfg(feature = "port")]
+mod bench_tables;
 mod codes;
 #[cfg(feature = "port")]
 mod damage;

@@ -127,7 +127,24 @@ fn murm_of(config: MurmConfig, numbers: &[u64]) -> Murm
     }
 }
 
-// The entry for tables: 0, with the record, or the number of the refusal. 99 for a record of less than 15 places.
+// What a build came to: 0, with the record, or the number of the refusal.
+fn built(building: Building, numbers: &mut [u64]) -> u64
+    requires { ⌜ 15 ≤ length (now numbers) ⌝ }
+{
+    match building {
+        Building::Table(table) => {
+            put_record(numbers, table);
+            0
+        }
+        Building::WidthLimit => 1,
+        Building::NoEntries => 2,
+        Building::Basis => 3,
+        Building::TooLarge => 4,
+        Building::ArrayTooShort => 5,
+    }
+}
+
+// The entry for tables. 99 for a record of less than 15 places.
 #[no_mangle]
 pub extern "C" fn bench_build(
     q: u32,
@@ -142,17 +159,8 @@ pub extern "C" fn bench_build(
     if numbers.len() < 15 {
         return 99;
     }
-    match murm::build(config_of(q, g, e, b), fingerprints, parents, codes) {
-        Building::Table(table) => {
-            put_record(numbers, table);
-            0
-        }
-        Building::WidthLimit => 1,
-        Building::NoEntries => 2,
-        Building::Basis => 3,
-        Building::TooLarge => 4,
-        Building::ArrayTooShort => 5,
-    }
+    let building = murm::build(config_of(q, g, e, b), fingerprints, parents, codes);
+    built(building, numbers)
 }
 
 // The entry for answers: how many gates, with the list in the first places of `out`; 1000 for none; 2000 and the number of the refusal.

@@ -1,4 +1,3 @@
-
 // Appended by oracle/build: the fields are private, and a question may be any
 // matrix, not only the product of a list.
 /// The matrix of these parts, four coefficients for each entry.

@@ -1,4 +1,3 @@
-
 // Appended by oracle/build: the fields are private.
 impl Murm {
     /// A width's table, completed depth and whether it is saturated.

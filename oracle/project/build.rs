@@ -1,11 +1,11 @@
-//! With the feature `bench` the port's archive, `libbench.a` in the folder that
+//! With the feature `port` the port's archive, `libbench.a` in the folder that
 //! `PORT` names, is linked beside the original.
 
 use std::env;
 
 fn main() {
     println!("cargo:rerun-if-env-changed=PORT");
-    if env::var_os("CARGO_FEATURE_BENCH").is_none() {
+    if env::var_os("CARGO_FEATURE_PORT").is_none() {
         return;
     }
     let port = env::var("PORT").expect("PORT is the folder of the port's archive");

@@ -1,15 +1,22 @@
-// C functions over the code that is timed, and nothing else: `oracle/bench` links them beside the original and times both in one process.
+// C functions over the entries that are timed or asked with altered tables, and nothing else: `oracle/bench` links them beside the original
+// and times both in one process, `oracle/damage` asks them.
 ghost use mathlib.Core.Path.{_≡_};
-ghost use Prim.Native.Nat.{_*_, _^_, _≤_};
+ghost use Prim.Native.Nat.{_+_, _*_, _^_, _≤_};
 ghost use lib.ListN.{length};
 ghost use Rattle.exact.specs.Fits.{AllSmall};
 ghost use Rattle.exact.specs.Fingerprint.{fingerprint};
 ghost use Rattle.places.specs.Places.{read, held};
 ghost use Rattle.murm.specs.Entries.{listed, fingerprinted};
 ghost use Rattle.bench.specs.Numbers.{orElse};
+use circuit::GateSet;
 use cyclotomic::Coefficient;
+use murm::Building;
 use murm::Fingerprinted;
 use murm::Listed;
+use murm::Synthesized;
+use murm_config::Murm;
+use murm_config::MurmConfig;
+use width_table::WidthTable;
 
 // The entry for lists: the exponent, or 65536 for every refusal.
 #[no_mangle]
@@ -49,4 +56,151 @@ pub extern "C" fn bench_fingerprint(m: &[Coefficient], n: usize, k: u16) -> u64
     ensures { λ r. ⌜ r ≡ fingerprint n (held n k (now (m .entry))) ⌝ }
 {
     prints::unitary_fingerprint(m, n, k)
+}
+
+// Q, G, E and B.
+fn config_of(q: u32, g: u32, e: u32, b: u32) -> MurmConfig {
+    MurmConfig {
+        max_qubits: q,
+        max_gates: g,
+        max_entries_per_qubit: e,
+        basis: GateSet(b),
+    }
+}
+
+fn digit(b: bool) -> u64 {
+    if b {
+        return 1;
+    }
+    0
+}
+
+// A record as 15 numbers: count, depth and saturated (0 or 1) of each width from 1 to 5. Those of a width stand from a place on.
+fn put_width(numbers: &mut [u64], at: usize, row: WidthTable)
+    requires { ⌜ at + 3 ≤ length (now numbers) ⌝ }
+    ensures { λ _. ⌜ length (now (numbers .exit)) ≡ length (now (numbers .entry)) ⌝ }
+{
+    numbers[at] = row.count as u64;
+    numbers[at + 1] = row.depth as u64;
+    numbers[at + 2] = digit(row.saturated);
+}
+
+fn put_record(numbers: &mut [u64], table: Murm)
+    requires { ⌜ 15 ≤ length (now numbers) ⌝ }
+{
+    put_width(numbers, 0, table.width1);
+    put_width(numbers, 3, table.width2);
+    put_width(numbers, 6, table.width3);
+    put_width(numbers, 9, table.width4);
+    put_width(numbers, 12, table.width5);
+}
+
+// A width's row out of a record; every number other than 0 is saturated.
+fn width_of(numbers: &[u64], at: usize) -> WidthTable
+    requires { ⌜ at + 3 ≤ length (now numbers) ⌝ }
+{
+    let count = numbers[at] as usize;
+    let depth = numbers[at + 1] as usize;
+    let saturated = numbers[at + 2] != 0;
+    WidthTable {
+        count,
+        depth,
+        saturated,
+    }
+}
+
+fn murm_of(config: MurmConfig, numbers: &[u64]) -> Murm
+    requires { ⌜ 15 ≤ length (now numbers) ⌝ }
+{
+    let width1 = width_of(numbers, 0);
+    let width2 = width_of(numbers, 3);
+    let width3 = width_of(numbers, 6);
+    let width4 = width_of(numbers, 9);
+    let width5 = width_of(numbers, 12);
+    Murm {
+        config,
+        width1,
+        width2,
+        width3,
+        width4,
+        width5,
+    }
+}
+
+// What a build came to: 0, with the record, or the number of the refusal.
+fn built(building: Building, numbers: &mut [u64]) -> u64
+    requires { ⌜ 15 ≤ length (now numbers) ⌝ }
+{
+    match building {
+        Building::Table(table) => {
+            put_record(numbers, table);
+            0
+        }
+        Building::WidthLimit => 1,
+        Building::NoEntries => 2,
+        Building::Basis => 3,
+        Building::TooLarge => 4,
+        Building::ArrayTooShort => 5,
+    }
+}
+
+// The entry for tables. 99 for a record of less than 15 places.
+#[no_mangle]
+pub extern "C" fn bench_build(
+    q: u32,
+    g: u32,
+    e: u32,
+    b: u32,
+    fingerprints: &mut [u64],
+    parents: &mut [u32],
+    codes: &mut [u32],
+    numbers: &mut [u64],
+) -> u64 {
+    if numbers.len() < 15 {
+        return 99;
+    }
+    let building = murm::build(config_of(q, g, e, b), fingerprints, parents, codes);
+    built(building, numbers)
+}
+
+// The entry for answers: how many gates, with the list in the first places of `out`; 1000 for none; 2000 and the number of the refusal.
+// 2099 for a record of less than 15 places.
+#[no_mangle]
+pub extern "C" fn bench_synthesize(
+    q: u32,
+    g: u32,
+    e: u32,
+    b: u32,
+    numbers: &[u64],
+    fingerprints: &[u64],
+    parents: &[u32],
+    codes: &[u32],
+    width: u32,
+    exponent: u16,
+    matrix: &[Coefficient],
+    out: &mut [u32],
+) -> u64 {
+    if numbers.len() < 15 {
+        return 2099;
+    }
+    match murm::synthesize(
+        murm_of(config_of(q, g, e, b), numbers),
+        fingerprints,
+        parents,
+        codes,
+        width,
+        exponent,
+        matrix,
+        out,
+    ) {
+        Synthesized::Circuit(m) => m as u64,
+        Synthesized::Nothing => 1000,
+        Synthesized::ArrayTooShort => 2005,
+        Synthesized::WidthTooLarge => 2006,
+        Synthesized::LengthNotExact => 2009,
+        Synthesized::OutOfRange => 2010,
+        Synthesized::NotLowest => 2011,
+        Synthesized::ListTooShort => 2012,
+        Synthesized::BadTable => 2013,
+    }
 }

@@ -1,13 +1,15 @@
 //! Mode `bench`: port and original on the same work in one process, in turns.
-//! `bench` times lists and fingerprints; `bench kinds` also lists of one kind
-//! of gate.
+//! `bench` times lists, fingerprints, tables and answers; `bench kinds` also
+//! lists of one kind of gate; `bench tables` tables and answers only.
 
 use std::hint::black_box;
 use std::io::{self, Write};
 use std::time::{Duration, Instant};
 
+use super::bench_tables;
 use super::codes::{code_of, kinds};
 use super::lists::Parts;
+use super::port;
 use super::random::Random;
 use crate::circuit::GateSet;
 use crate::super_opt::SUPPORTED_GATE_SET;
@@ -19,44 +21,12 @@ const LISTS: usize = 256;
 const GATES: usize = 20;
 
 /// The least time of so many rounds counts. A round takes about so long: short
-/// enough that some are not interrupted on a machine that others use too.
+/// enough that some are not interrupted on a machine that others use too. Work
+/// that takes longer has fewer rounds, by the whole time that they may take.
 const ROUNDS: usize = 200;
+const FEWEST: usize = 7;
 const ROUND: Duration = Duration::from_micros(500);
-
-/// The port's functions. What `bench_fingerprint` requires is met here: all
-/// places are lent, and no coefficient is -128.
-mod port {
-    #[link(name = "bench", kind = "static")]
-    unsafe extern "C" {
-        fn bench_list(
-            width: u32,
-            codes: *const u32,
-            count: usize,
-            out: *mut i8,
-            places: usize,
-        ) -> u64;
-        fn bench_query(width: u32, exponent: u16, entries: *const i8, places: usize) -> u64;
-        fn bench_fingerprint(entries: *const i8, places: usize, width: usize, exponent: u16)
-        -> u64;
-    }
-
-    /// The exponent, where the list fits.
-    pub(super) fn list(width: usize, codes: &[u32], out: &mut [i8]) -> Option<u16> {
-        let (codes, count) = (codes.as_ptr(), codes.len());
-        let told = unsafe { bench_list(width as u32, codes, count, out.as_mut_ptr(), out.len()) };
-        u16::try_from(told).ok()
-    }
-
-    /// The fingerprint by the entry, which tests its matrix first.
-    pub(super) fn query(width: usize, exponent: u16, entries: &[i8]) -> u64 {
-        unsafe { bench_query(width as u32, exponent, entries.as_ptr(), entries.len()) }
-    }
-
-    /// The fingerprint below the entry.
-    pub(super) fn fingerprint(width: usize, exponent: u16, entries: &[i8]) -> u64 {
-        unsafe { bench_fingerprint(entries.as_ptr(), entries.len(), width, exponent) }
-    }
-}
+const WHOLE: Duration = Duration::from_secs(5);
 
 /// One list on both sides, with the matrix that it gives.
 struct Case {
@@ -68,12 +38,19 @@ struct Case {
 }
 
 pub(super) fn run(arguments: &[String], out: &mut dyn Write) -> io::Result<()> {
-    let by_kind = match arguments {
-        [] => false,
-        [word] if word == "kinds" => true,
-        _ => return Err(io::Error::other("usage: oracle bench [kinds]")),
-    };
+    let words: Vec<&str> = arguments.iter().map(String::as_str).collect();
     writeln!(out, "width work original port ratio")?;
+    match words[..] {
+        [] => time_all(false, out)?,
+        ["kinds"] => time_all(true, out)?,
+        ["tables"] => {}
+        _ => return Err(io::Error::other("usage: oracle bench [kinds|tables]")),
+    }
+    bench_tables::run(out)
+}
+
+/// Lists and fingerprints at every width.
+fn time_all(by_kind: bool, out: &mut dyn Write) -> io::Result<()> {
     for width in 1..=5 {
         let mut write = |work: &str, count: usize, times: (f64, f64)| {
             let rate = |time: f64| count as f64 / time;
@@ -142,14 +119,7 @@ fn check(width: usize, case: &Case) {
 }
 
 /// The least times of one pass over the work, by the original and by the port.
-fn race(mut original: impl FnMut(), mut port: impl FnMut()) -> (f64, f64) {
-    let times = |work: &mut dyn FnMut()| {
-        let start = Instant::now();
-        work();
-        let once = start.elapsed().max(Duration::from_nanos(100));
-        (ROUND.as_nanos() / once.as_nanos() + 1) as usize
-    };
-    let (original_times, port_times) = (times(&mut original), times(&mut port));
+pub(super) fn race(mut original: impl FnMut(), mut port: impl FnMut()) -> (f64, f64) {
     let pass = |work: &mut dyn FnMut(), times: usize| {
         let start = Instant::now();
         for _ in 0..times {
@@ -157,8 +127,12 @@ fn race(mut original: impl FnMut(), mut port: impl FnMut()) -> (f64, f64) {
         }
         start.elapsed().as_secs_f64() / times as f64
     };
+    let once = (pass(&mut original, 1), pass(&mut port, 1));
+    let times = |once: f64| (ROUND.as_secs_f64() / once.max(1e-7)) as usize + 1;
+    let (original_times, port_times) = (times(once.0), times(once.1));
+    let rounds = (WHOLE.as_secs_f64() / (once.0 + once.1)) as usize;
     let mut least = (f64::INFINITY, f64::INFINITY);
-    for _ in 0..ROUNDS {
+    for _ in 0..rounds.clamp(FEWEST, ROUNDS) {
         least.0 = least.0.min(pass(&mut original, original_times));
         least.1 = least.1.min(pass(&mut port, port_times));
     }

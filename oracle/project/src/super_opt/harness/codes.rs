@@ -2,7 +2,7 @@
 //! its `GateKind`; the operands come in the order of the library gate's
 //! variant, and unused ones are 0.
 
-use crate::circuit::GateKind as Kind;
+use crate::circuit::{Gate as CircuitGate, GateKind as Kind};
 use crate::super_opt::SUPPORTED_GATE_SET;
 use crate::super_opt::murm::LibraryGate as Gate;
 
@@ -53,6 +53,27 @@ pub(super) fn gates_of(kind: Kind) -> impl Iterator<Item = Gate> {
 pub(super) fn code_of(gate: Gate) -> u32 {
     let [_, a, b, c] = gate.to_bytes().map(u32::from);
     gate.to_gate().kind() as u32 * 4096 + a * 256 + b * 16 + c
+}
+
+/// The code of a gate of a circuit, as an answer of the original has it.
+pub(super) fn code_of_gate(gate: &CircuitGate) -> u32 {
+    use CircuitGate as C;
+    let [a, b, c] = match *gate {
+        C::h(a) | C::x(a) | C::z(a) | C::s(a) | C::sdg(a) | C::t(a) | C::tdg(a) => [a, 0, 0],
+        C::cnot { control, target } | C::cz { control, target } => [control, target, 0],
+        C::ccx {
+            control1,
+            control2,
+            target,
+        }
+        | C::ccz {
+            control1,
+            control2,
+            target,
+        } => [control1, control2, target],
+        _ => panic!("no library gate is of the kind {}", gate.kind().name()),
+    };
+    gate.kind() as u32 * 4096 + a * 256 + b * 16 + c
 }
 
 /// The gates valid at this width, by rising code.

@@ -1,7 +1,7 @@
 //! Mode `inputs`: the lists that port and original are compared on, as lines
 //! for the mode `list`. `inputs all` has every group whole; `inputs sample` has
 //! some of each; both end in damaged lines. The same lines come out in every
-//! run.
+//! run. `inputs tables all` and `inputs tables sample` are in `table_inputs`.
 
 use std::io::{self, Write};
 
@@ -9,6 +9,7 @@ use super::codes::{code_of, valid_gates};
 use super::edges;
 use super::lists::List;
 use super::random::Random;
+use super::table_inputs;
 use crate::circuit::GateKind as Kind;
 use crate::super_opt::murm::LibraryGate as Gate;
 
@@ -49,7 +50,9 @@ pub(super) fn run(arguments: &[String], out: &mut dyn Write) -> io::Result<()> {
     let sample = match words[..] {
         ["all"] => false,
         ["sample"] => true,
-        _ => return Err(io::Error::other("usage: oracle inputs all|sample")),
+        ["tables", "all"] => return table_inputs::write(false, out),
+        ["tables", "sample"] => return table_inputs::write(true, out),
+        _ => return Err(io::Error::other("usage: oracle inputs [tables] all|sample")),
     };
     for (lists, wanted) in GROUPS {
         let mut lists = lists();
@@ -64,21 +67,25 @@ pub(super) fn run(arguments: &[String], out: &mut dyn Write) -> io::Result<()> {
     write!(out, "{DAMAGED}")
 }
 
-/// So many of the lists, evenly spread, or all of them. Of long ones only every
-/// tenth is considered.
+/// So many of the lists, or all of them. Of long ones only every tenth is
+/// considered.
 fn spread(mut lists: Vec<List>, wanted: usize) -> Vec<List> {
     let mut long = 0;
     lists.retain(|list| {
         long += usize::from(list.codes.len() > 70);
         list.codes.len() <= 70 || long % 10 == 1
     });
-    let count = lists.len();
+    evenly(lists, wanted)
+}
+
+/// So many of these, evenly spread, or all of them.
+pub(super) fn evenly<T>(all: Vec<T>, wanted: usize) -> Vec<T> {
+    let count = all.len();
     let taken = |place: usize| place == 0 || place * wanted / count > (place - 1) * wanted / count;
-    lists
-        .into_iter()
+    all.into_iter()
         .enumerate()
         .filter(|&(place, _)| wanted >= count || taken(place))
-        .map(|(_, list)| list)
+        .map(|(_, one)| one)
         .collect()
 }
 

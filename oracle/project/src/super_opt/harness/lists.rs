@@ -11,7 +11,7 @@ use crate::super_opt::matrix::{UnitaryMatrix, unitary_fingerprint};
 use crate::super_opt::murm::{LibraryGate, library_circuit_matrix};
 
 /// The largest width that a list may have. The original has no such limit.
-const MOST_WIDTH: u32 = 5;
+pub(super) const MOST_WIDTH: u32 = 5;
 
 /// A line of standard input, `list WIDTH COUNT CODES..`.
 pub(super) struct List {
@@ -25,15 +25,19 @@ pub(super) fn run(_: &[String], out: &mut dyn Write) -> io::Result<()> {
     let mut input = Vec::new();
     io::stdin().lock().read_to_end(&mut input)?;
     for line in input.split_inclusive(|&byte| byte == b'\n') {
-        let list = str::from_utf8(line).ok().and_then(List::parse);
-        let answer = match list {
-            Some(list) => catch_unwind(AssertUnwindSafe(|| answer(&list)))
-                .unwrap_or_else(|_| "panicked".to_owned()),
-            None => "refused 14 0".to_owned(),
-        };
-        writeln!(out, "{answer}")?;
+        let line = str::from_utf8(line).unwrap_or_default();
+        writeln!(out, "{}", line_answer(line))?;
     }
     Ok(())
+}
+
+/// The answer to one line, given with its newline.
+pub(super) fn line_answer(line: &str) -> String {
+    match List::parse(line) {
+        Some(list) => catch_unwind(AssertUnwindSafe(|| answer(&list)))
+            .unwrap_or_else(|_| "panicked".to_owned()),
+        None => "refused 14 0".to_owned(),
+    }
 }
 
 impl List {
@@ -58,7 +62,7 @@ impl List {
 }
 
 /// A number of at most ten digits.
-fn number(word: &str) -> Option<u32> {
+pub(super) fn number(word: &str) -> Option<u32> {
     let digits = word.len() <= 10 && word.bytes().all(|byte| byte.is_ascii_digit());
     digits.then(|| word.parse().ok()).flatten()
 }

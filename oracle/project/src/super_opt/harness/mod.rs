@@ -1,14 +1,28 @@
 //! What is asked of the original. The first argument is a mode; a mode has a
 //! file of its own here and a line in `MODES`.
 
-#[cfg(feature = "bench")]
+#[cfg(feature = "port")]
+mod altered;
+#[cfg(feature = "port")]
 mod bench;
+#[cfg(feature = "port")]
+mod bench_tables;
 mod codes;
+#[cfg(feature = "port")]
+mod damage;
 mod edges;
 mod gates;
 mod inputs;
+mod lines;
 mod lists;
+#[cfg(feature = "port")]
+mod port;
+mod questions;
 mod random;
+#[cfg(feature = "port")]
+mod rules;
+mod table_inputs;
+mod tables;
 
 use std::io::{self, BufWriter, Write};
 use std::process::ExitCode;
@@ -17,10 +31,13 @@ use std::process::ExitCode;
 type Mode = fn(&[String], &mut dyn Write) -> io::Result<()>;
 
 const MODES: &[(&str, Mode)] = &[
-    #[cfg(feature = "bench")]
+    #[cfg(feature = "port")]
     ("bench", bench::run),
+    #[cfg(feature = "port")]
+    ("damage", damage::run),
     ("gates", gates::run),
     ("inputs", inputs::run),
+    ("lines", lines::run),
     ("list", lists::run),
 ];
 

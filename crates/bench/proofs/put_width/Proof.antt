@@ -1,0 +1,22 @@
+-- `put_width` keeps the length. Assumes nothing.
+use native.Mathlib.Omega.{arith}
+use borrow.Author.Needs.{needs}
+use lib.ListN.{length-set}
+use Rattle.bench.proofs.put_width.Statement.{statement}
+use Rattle.bench.proofs.put_width.Tie as tie
+
+pub put-width-spec : {M : Type 1} → statement M
+put-width-spec =
+    tie.close
+    (tie.spec
+    (λ c. search needs)
+    (λ c. search needs)
+    (λ c. search needs)
+    (λ c. search needs)
+    (λ c. simp length-set (omega arith))
+    (λ c κs. search needs)
+    (λ c. search needs)
+    (λ c. search needs)
+    (λ c. simp length-set (omega arith))
+    (λ c. search needs)
+    (λ c. search needs))

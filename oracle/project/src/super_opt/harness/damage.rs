@@ -1,0 +1,370 @@
+//! Mode `damage`: tables that the port built are altered in one place or in
+//! some, and asked. What the port says must be what `rules` decides; every list
+//! must give the matrix asked, by an exact product; and of the lent list only
+//! the answer's places may change.
+
+use std::collections::HashSet;
+use std::io::{self, Write};
+
+use super::altered::{Place, places, values};
+use super::port::{Reply, Table};
+use super::random::Random;
+use super::rules::{Asked, Matrix, decide, gives, times_root, turned};
+use super::tables::Limits;
+
+/// Q, G, E and B of the tables that are altered.
+const TABLES: [[u32; 4]; 14] = [
+    [1, 8, 10, 24],
+    [1, 8, 24, 9],
+    [1, 8, 23, 9],
+    [1, 64, 8, 32],
+    [1, 5, 40, 383],
+    [1, 0, 3, 3967],
+    [2, 8, 5, 2],
+    [2, 2, 30, 265],
+    [2, 3, 20, 3967],
+    [2, 6, 12, 546],
+    [3, 2, 12, 3967],
+    [3, 1, 34, 3967],
+    [3, 8, 10, 1024],
+    [3, 4, 16, 2561],
+];
+
+/// How often several places are altered at once, in each table.
+const ROUNDS: usize = 2000;
+
+/// The longest list that a table may answer.
+const MOST: usize = 64;
+
+/// The code of T on qubit 0.
+const T: u32 = 20480;
+
+pub(super) fn run(_: &[String], out: &mut dyn Write) -> io::Result<()> {
+    let mut tally = Tally::default();
+    refused_builds(&mut tally);
+    for limits in TABLES {
+        damage(limits_of(limits), &mut tally);
+    }
+    planted(&mut tally);
+    long_chain(&mut tally);
+    let Tally {
+        tables,
+        questions,
+        lists,
+        nothing,
+        refused,
+        differences,
+        ..
+    } = tally;
+    writeln!(
+        out,
+        "{tables} altered tables, {questions} questions: {lists} lists, {nothing} none, {refused} refused; {differences} differences"
+    )?;
+    out.flush()?;
+    match differences {
+        0 => Ok(()),
+        _ => Err(io::Error::other("the port says something else")),
+    }
+}
+
+fn limits_of([qubits, gates, entries, basis]: [u32; 4]) -> Limits {
+    Limits {
+        qubits,
+        gates,
+        entries,
+        basis,
+    }
+}
+
+#[derive(Default)]
+struct Tally {
+    tables: usize,
+    questions: usize,
+    lists: usize,
+    nothing: usize,
+    refused: usize,
+    differences: usize,
+    /// Questions by number, and lists that give them. It is emptied with each
+    /// new choice of questions.
+    exact: HashSet<(usize, Vec<u32>)>,
+}
+
+impl Tally {
+    /// A difference; the first few are shown.
+    fn differs(&mut self, what: String) {
+        self.differences += 1;
+        if self.differences <= 5 {
+            eprintln!("{what}");
+        }
+    }
+
+    /// Asks a table the question of this number, with a lent list of so many
+    /// places.
+    fn ask(&mut self, table: &Table, number: usize, asked: &Asked, room: usize) -> Reply {
+        self.questions += 1;
+        let before: Vec<u32> = (0..room as u32).map(|place| 0xa5a5_0000 + place).collect();
+        let mut list = before.clone();
+        let reply = table.ask(asked.width, asked.exponent, &asked.bytes, &mut list);
+        let filled = match &reply {
+            Reply::List(codes) => codes.len(),
+            _ => 0,
+        };
+        let expected = decide(table, asked, room);
+        let right = reply == expected && self.is_exact(number, asked, &reply);
+        if !right || list[filled..] != before[filled..] {
+            self.differs(format!(
+                "{} record {:?}, width {} question {number}, {room} places: {reply:?}, expected {expected:?}",
+                table.limits.line(),
+                table.record,
+                asked.width,
+            ));
+        }
+        match reply {
+            Reply::List(_) => self.lists += 1,
+            Reply::None => self.nothing += 1,
+            Reply::Refused(_) => self.refused += 1,
+        }
+        reply
+    }
+
+    /// Whether a list gives what was asked; anything else is no list.
+    fn is_exact(&mut self, number: usize, asked: &Asked, reply: &Reply) -> bool {
+        let (Reply::List(codes), Some((matrix, _))) = (reply, &asked.value) else {
+            return !matches!(reply, Reply::List(_));
+        };
+        let key = (number, codes.clone());
+        if self.exact.contains(&key) {
+            return true;
+        }
+        let exact = gives(codes, matrix);
+        if exact {
+            self.exact.insert(key);
+        }
+        exact
+    }
+}
+
+/// A matrix as it is asked, times a power of omega.
+fn asked(matrix: &Matrix, power: usize) -> Asked {
+    let entries = matrix.entries.iter();
+    let bytes = entries
+        .flat_map(|&entry| turned(entry, power))
+        .map(|coefficient| coefficient as i8);
+    Asked::new(matrix.width, matrix.exponent as u16, bytes.collect())
+}
+
+/// The matrix of a list that fits.
+fn listed(width: u32, codes: &[u32]) -> Matrix {
+    Matrix::of_list(width, codes).expect("a short list fits")
+}
+
+/// A table that the port built, in places that held something, with as many
+/// places again behind it.
+fn built(limits: Limits, tally: &mut Tally) -> Table {
+    let size = limits.qubits as usize * limits.entries as usize;
+    let mut table = Table::with_places(limits, 2 * size);
+    // Unfilled places look like nodes: T after the root.
+    let print = listed(1, &[T]).fingerprint();
+    table.fingerprints.fill(print);
+    table.codes.fill(T);
+    let lent = table.clone();
+    let refusal = table.build();
+    assert_eq!(refusal, 0, "the limits are not refused");
+    for place in 0..2 * size {
+        let width = place / limits.entries as usize;
+        let count = table.record.get(3 * width).copied().unwrap_or(0);
+        let node = place % limits.entries as usize;
+        let filled = width < limits.qubits as usize && (node as u64) < count;
+        let same = table.fingerprints[place] == lent.fingerprints[place]
+            && table.parents[place] == lent.parents[place]
+            && table.codes[place] == lent.codes[place];
+        if !filled && !same {
+            tally.differs(format!("{} wrote to place {place}", limits.line()));
+        }
+    }
+    table
+}
+
+/// Every node's matrix, and others.
+fn questions(table: &Table) -> Vec<Asked> {
+    let limits = table.limits;
+    let mut all = Vec::new();
+    for width in 1..=limits.qubits {
+        let start = (width as usize - 1) * limits.entries as usize;
+        let count = table.record[3 * (width as usize - 1)] as usize;
+        let mut lists: Vec<Vec<u32>> = vec![Vec::new()];
+        for node in 1..count {
+            let parent = table.parents[start + node] as usize;
+            lists.push([&lists[parent][..], &[table.codes[start + node]]].concat());
+        }
+        for (node, list) in lists.iter().enumerate() {
+            all.push(asked(&listed(width, list), node % 8));
+        }
+        for (power, list) in [[T, 0], [0, T], [4096, T], [12288, 0]].iter().enumerate() {
+            all.push(asked(&listed(width, &list[..1]), power));
+            all.push(asked(&listed(width, list), power));
+        }
+        // Not unitary; not lowest; -128; a wrong length.
+        let size = 1 << (2 * width);
+        all.push(Asked::new(width, 1, [1, 0, 0, 0].repeat(size)));
+        all.push(Asked::new(width, 0, vec![0; 4 * size]));
+        all.push(Asked::new(width, 1, vec![0; 4 * size]));
+        let mut scaled = listed(width, &[0]);
+        scaled.exponent += 1;
+        scaled.entries = scaled.entries.into_iter().map(times_root).collect();
+        all.push(asked(&scaled, 0));
+        let mut past = vec![0; 4 * size];
+        past[4 * size - 1] = -128;
+        all.push(Asked::new(width, 0, past.clone()));
+        all.push(Asked::new(width, 1, past));
+        all.push(Asked::new(width, 0, vec![-128; 4 * size - 1]));
+        all.push(Asked::new(width, 0, Vec::new()));
+    }
+    all.push(asked(&Matrix::identity(0), 0));
+    all.push(asked(&Matrix::identity(limits.qubits + 1), 0));
+    all.push(Asked::new(6, 0, vec![-128; 16]));
+    all.push(Asked::new(4294967295, 0, vec![0; 4]));
+    all
+}
+
+/// How many places the list of a question has: mostly enough for any answer,
+/// sometimes just enough, and sometimes one too few, or none.
+fn room(gates: u32, number: usize) -> usize {
+    match number % 12 {
+        3 => gates as usize,
+        7 => (gates as usize).saturating_sub(1),
+        11 if number % 5 == 0 => 0,
+        _ => MOST,
+    }
+}
+
+/// A table as it was built, altered in each place, and altered in several.
+fn damage(limits: Limits, tally: &mut Tally) {
+    let table = built(limits, tally);
+    let questions = questions(&table);
+    tally.exact.clear();
+    let mut ask_all = |altered: &Table| {
+        tally.tables += 1;
+        for (number, asked) in questions.iter().enumerate() {
+            tally.ask(altered, number, asked, room(limits.gates, number));
+        }
+    };
+    ask_all(&table);
+    let strangers: Vec<u64> = questions
+        .iter()
+        .filter_map(|asked| asked.value.as_ref().map(|(_, print)| *print))
+        .filter(|print| !table.fingerprints.contains(print))
+        .collect();
+    let places = places(&table);
+    for &place in &places {
+        for value in values(&table, place, &strangers) {
+            let mut altered = table.clone();
+            place.set(&mut altered, value);
+            ask_all(&altered);
+        }
+    }
+    let nodes: Vec<Place> = places.iter().copied().filter(Place::is_of_node).collect();
+    let mut random = Random::new(31);
+    for _ in 0..ROUNDS {
+        let mut altered = table.clone();
+        for round in 0..2 + random.below(3) {
+            // Most records altered twice are refused at once.
+            let from = if round == 0 { &places } else { &nodes };
+            let place = random.one_of(from);
+            let value = random.one_of(&values(&table, place, &strangers));
+            place.set(&mut altered, value);
+        }
+        ask_all(&altered);
+    }
+}
+
+/// A refused build leaves arrays and record as they were.
+fn refused_builds(tally: &mut Tally) {
+    let cases = [
+        ([0, 65, 0, 0], 40, 1),
+        ([6, 8, 4, 9], 40, 1),
+        ([4294967295, 8, 4, 9], 40, 1),
+        ([2, 65, 0, 0], 40, 2),
+        ([2, 65, 4, 0], 40, 3),
+        ([2, 65, 4, 128], 40, 3),
+        ([2, 65, 4, 4096], 40, 3),
+        ([2, 65, 4, 9], 40, 4),
+        ([2, 64, 1000001, 9], 40, 4),
+        ([2, 64, 21, 9], 40, 5),
+        ([5, 64, 1000000, 9], 40, 5),
+        ([2, 8, 20, 9], 40, 0),
+    ];
+    for (limits, places, expected) in cases {
+        let mut table = Table::with_places(limits_of(limits), places);
+        table.fingerprints.fill(77);
+        table.parents.fill(78);
+        table.codes.fill(79);
+        table.record.fill(80);
+        let lent = table.clone();
+        let refusal = table.build();
+        let same = table.fingerprints == lent.fingerprints
+            && table.parents == lent.parents
+            && table.codes == lent.codes
+            && table.record == lent.record;
+        if refusal != expected || same != (expected != 0) {
+            tally.differs(format!("build {limits:?} ended with {refusal}"));
+        }
+    }
+}
+
+/// A node planted past the count is not found.
+fn planted(tally: &mut Tally) {
+    let t = listed(1, &[T]);
+    for place in 4..10 {
+        let mut table = Table::with_places(limits_of([1, 8, 10, 24]), 10);
+        assert_eq!(table.build(), 0, "the limits are not refused");
+        assert_eq!(table.record[0], 4, "document 01's table has four nodes");
+        table.fingerprints[place] = t.fingerprint();
+        table.parents[place] = 0;
+        table.codes[place] = T;
+        tally.tables += 1;
+        for power in 0..8 {
+            let reply = tally.ask(&table, 0, &asked(&t, power), MOST);
+            if reply != Reply::None {
+                tally.differs(format!("a node past the count was answered: {reply:?}"));
+            }
+        }
+    }
+}
+
+/// A chain of a million nodes, each a gate after the one before. Node i has i
+/// gates: up to G they are answered, where the product is the one asked.
+fn long_chain(tally: &mut Tally) {
+    const NODES: usize = 1_000_000;
+    const S: u32 = 12288;
+    let mut table = Table::with_places(limits_of([1, 64, NODES as u32, 8]), NODES);
+    table.record[0] = NODES as u64;
+    for node in 0..NODES {
+        table.fingerprints[node] = node as u64;
+        table.parents[node] = (node as u32).wrapping_sub(1);
+        table.codes[node] = S;
+    }
+    table.codes[0] = 4294967295;
+    tally.exact.clear();
+    for (node, expected) in [
+        (NODES - 1, Reply::Refused(13)),
+        (NODES / 2, Reply::Refused(13)),
+        (66, Reply::Refused(13)),
+        (65, Reply::Refused(13)),
+        (64, Reply::List(vec![S; 64])),
+        (63, Reply::List(vec![S; 63])),
+        (1, Reply::List(vec![S])),
+        (0, Reply::List(Vec::new())),
+    ] {
+        // The matrix is that of the chain's gates, S four times being one.
+        let question = listed(1, &vec![S; node % 4]);
+        let old = table.fingerprints[node];
+        table.fingerprints[node] = question.fingerprint();
+        tally.tables += 1;
+        let reply = tally.ask(&table, node, &asked(&question, 5), MOST);
+        if reply != expected {
+            tally.differs(format!("node {node} of a long chain: {reply:?}"));
+        }
+        table.fingerprints[node] = old;
+    }
+}

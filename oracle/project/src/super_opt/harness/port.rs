@@ -1,0 +1,161 @@
+//! The port's functions, out of the archive that is made from crates/bench. No
+//! other file here names them.
+
+use super::tables::Limits;
+
+/// What `bench_synthesize` returns for none, and what it adds to the number of a
+/// refusal.
+const NONE: u64 = 1000;
+const REFUSED: u64 = 2000;
+
+#[link(name = "bench", kind = "static")]
+unsafe extern "C" {
+    fn bench_list(width: u32, codes: *const u32, count: usize, out: *mut i8, places: usize) -> u64;
+    fn bench_query(width: u32, exponent: u16, entries: *const i8, places: usize) -> u64;
+    fn bench_fingerprint(entries: *const i8, places: usize, width: usize, exponent: u16) -> u64;
+    fn bench_build(
+        qubits: u32,
+        gates: u32,
+        entries: u32,
+        basis: u32,
+        fingerprints: *mut u64,
+        fingerprint_places: usize,
+        parents: *mut u32,
+        parent_places: usize,
+        codes: *mut u32,
+        code_places: usize,
+        record: *mut u64,
+        record_places: usize,
+    ) -> u64;
+    fn bench_synthesize(
+        qubits: u32,
+        gates: u32,
+        entries: u32,
+        basis: u32,
+        record: *const u64,
+        record_places: usize,
+        fingerprints: *const u64,
+        fingerprint_places: usize,
+        parents: *const u32,
+        parent_places: usize,
+        codes: *const u32,
+        code_places: usize,
+        width: u32,
+        exponent: u16,
+        matrix: *const i8,
+        matrix_places: usize,
+        out: *mut u32,
+        places: usize,
+    ) -> u64;
+}
+
+/// The exponent, where the list fits.
+pub(super) fn list(width: usize, codes: &[u32], out: &mut [i8]) -> Option<u16> {
+    let (codes, count) = (codes.as_ptr(), codes.len());
+    let told = unsafe { bench_list(width as u32, codes, count, out.as_mut_ptr(), out.len()) };
+    u16::try_from(told).ok()
+}
+
+/// The fingerprint by the entry, which tests its matrix first.
+pub(super) fn query(width: usize, exponent: u16, entries: &[i8]) -> u64 {
+    unsafe { bench_query(width as u32, exponent, entries.as_ptr(), entries.len()) }
+}
+
+/// The fingerprint below the entry. What it requires is met by the callers: all
+/// places are lent, and no coefficient is -128.
+pub(super) fn fingerprint(width: usize, exponent: u16, entries: &[i8]) -> u64 {
+    unsafe { bench_fingerprint(entries.as_ptr(), entries.len(), width, exponent) }
+}
+
+/// A table of the port: the limits; count, depth and saturated of each width
+/// from 1 to 5; and the three arrays.
+#[derive(Clone)]
+pub(super) struct Table {
+    pub(super) limits: Limits,
+    pub(super) record: [u64; 15],
+    pub(super) fingerprints: Vec<u64>,
+    pub(super) parents: Vec<u32>,
+    pub(super) codes: Vec<u32>,
+}
+
+/// What a table answers.
+#[derive(Debug, PartialEq)]
+pub(super) enum Reply {
+    List(Vec<u32>),
+    None,
+    Refused(u64),
+}
+
+impl Table {
+    /// Arrays of so many places, nothing built.
+    pub(super) fn with_places(limits: Limits, places: usize) -> Self {
+        Self {
+            limits,
+            record: [0; 15],
+            fingerprints: vec![0; places],
+            parents: vec![0; places],
+            codes: vec![0; places],
+        }
+    }
+
+    /// 0, or the number of the refusal.
+    pub(super) fn build(&mut self) -> u64 {
+        unsafe {
+            bench_build(
+                self.limits.qubits,
+                self.limits.gates,
+                self.limits.entries,
+                self.limits.basis,
+                self.fingerprints.as_mut_ptr(),
+                self.fingerprints.len(),
+                self.parents.as_mut_ptr(),
+                self.parents.len(),
+                self.codes.as_mut_ptr(),
+                self.codes.len(),
+                self.record.as_mut_ptr(),
+                self.record.len(),
+            )
+        }
+    }
+
+    /// How many gates the list has, or another number for anything else.
+    pub(super) fn synthesize(
+        &self,
+        width: u32,
+        exponent: u16,
+        matrix: &[i8],
+        out: &mut [u32],
+    ) -> u64 {
+        unsafe {
+            bench_synthesize(
+                self.limits.qubits,
+                self.limits.gates,
+                self.limits.entries,
+                self.limits.basis,
+                self.record.as_ptr(),
+                self.record.len(),
+                self.fingerprints.as_ptr(),
+                self.fingerprints.len(),
+                self.parents.as_ptr(),
+                self.parents.len(),
+                self.codes.as_ptr(),
+                self.codes.len(),
+                width,
+                exponent,
+                matrix.as_ptr(),
+                matrix.len(),
+                out.as_mut_ptr(),
+                out.len(),
+            )
+        }
+    }
+
+    /// The answer by its cases.
+    pub(super) fn ask(&self, width: u32, exponent: u16, matrix: &[i8], out: &mut [u32]) -> Reply {
+        match self.synthesize(width, exponent, matrix, out) {
+            NONE => Reply::None,
+            count if count < NONE => Reply::List(out[..count as usize].to_vec()),
+            number => Reply::Refused(number - REFUSED),
+        }
+    }
+}

@@ -1,0 +1,282 @@
+//! The matrices that a table is asked after it is built, as lines for the mode
+//! `lines`, with lists and broken lines between them.
+
+use super::codes::{code_of, valid_gates};
+use super::inputs::list;
+use super::lists::{MOST_WIDTH, Parts};
+use super::random::Random;
+use super::tables::{Limits, Question};
+use crate::circuit::GateSet;
+use crate::super_opt::matrix::UnitaryMatrix;
+use crate::super_opt::murm::{LibraryGate as Gate, Murm, library_circuit_matrix, library_gates};
+
+/// The most gates of a random list: a product is taken up from the identity
+/// again after so many.
+const GATES: usize = 16;
+
+/// Matrix lines that have another form.
+const BROKEN: [&str; 11] = [
+    "matrix ",
+    "matrix 0",
+    "matrix 0 65536 1 0 0 0",
+    "matrix 0 4294967296 1 0 0 0",
+    "matrix 4294967296 0 1 0 0 0",
+    "matrix 0 0 1 0 0 128",
+    "matrix 0 0 -129 0 0 0",
+    "matrix 0 0 1 0 0 a",
+    "matrix 0 0 1 0  0 0",
+    "matrix 0 0 1 0 0 0 ",
+    "matrix 0 -1 1 0 0 0",
+];
+
+/// A table at hand, and what its questions are chosen by.
+pub(super) struct Asker {
+    pub(super) limits: Limits,
+    pub(super) table: Murm,
+    pub(super) random: Random,
+}
+
+type Sort = fn(&mut Asker) -> Vec<String>;
+
+/// Every sort of question, each a few lines.
+const SORTS: &[Sort] = &[
+    Asker::own,
+    Asker::last,
+    Asker::products,
+    Asker::foreign_products,
+    Asker::changed,
+    Asker::other_exponent,
+    Asker::divisible,
+    Asker::ones,
+    Asker::zero,
+    Asker::small,
+    Asker::large,
+    Asker::past_limit,
+    Asker::wrong_length,
+    Asker::too_wide,
+    Asker::width_0,
+    Asker::above,
+    Asker::broken,
+    Asker::between,
+];
+
+impl Asker {
+    /// Each sort once, and nodes of every width.
+    pub(super) fn all(&mut self) -> Vec<String> {
+        let mut lines: Vec<String> = SORTS.iter().flat_map(|sort| sort(self)).collect();
+        for width in 1..=self.limits.qubits as usize {
+            for _ in 0..if width <= 3 { 4 } else { 1 } {
+                let count = self.table.width(width).0.len();
+                let node = self.random.below(count);
+                lines.push(self.node(width, node).line());
+            }
+        }
+        lines
+    }
+
+    /// A node, and some sorts.
+    pub(super) fn some(&mut self) -> Vec<String> {
+        let mut lines = self.own();
+        for _ in 0..3 {
+            let sort = self.random.one_of(SORTS);
+            lines.extend(sort(self));
+        }
+        lines
+    }
+
+    /// A width that the table has.
+    fn width(&mut self) -> usize {
+        1 + self.random.below(self.limits.qubits as usize)
+    }
+
+    /// The matrix of a node, times some power of omega.
+    fn node(&mut self, width: usize, node: usize) -> Question {
+        let circuit = self.table.width(width).0.circuit(node);
+        let matrix = library_circuit_matrix(width, &circuit);
+        self.turned(matrix.expect("the width is small").expect("a node fits"))
+    }
+
+    /// The matrix of a node, whichever it is.
+    fn any_node(&mut self) -> Question {
+        let width = self.width();
+        let count = self.table.width(width).0.len();
+        let node = self.random.below(count);
+        self.node(width, node)
+    }
+
+    fn turned(&mut self, matrix: UnitaryMatrix) -> Question {
+        let parts = Parts::of(&matrix);
+        let mut coefficients = parts.coefficients;
+        for _ in 0..self.random.below(8) {
+            for entry in coefficients.chunks_exact_mut(4) {
+                entry.rotate_right(1);
+                entry[0] = -entry[0];
+            }
+        }
+        Question {
+            width: matrix.num_qubits() as u32,
+            exponent: parts.exponent,
+            coefficients,
+        }
+    }
+
+    fn own(&mut self) -> Vec<String> {
+        vec![self.any_node().line()]
+    }
+
+    fn last(&mut self) -> Vec<String> {
+        let width = self.width();
+        let last = self.table.width(width).0.len() - 1;
+        vec![self.node(width, last).line()]
+    }
+
+    /// Products of the basis, up to twice as long as the table's lists.
+    fn products(&mut self) -> Vec<String> {
+        let width = self.width();
+        let basis = GateSet::from_bits_const(self.limits.basis);
+        let most = GATES.min(2 * self.limits.gates as usize + 1);
+        vec![self.product(width, &library_gates(width, basis), most)]
+    }
+
+    /// Products of any gates.
+    fn foreign_products(&mut self) -> Vec<String> {
+        let width = self.width();
+        let gates = valid_gates(width);
+        vec![
+            self.product(width, &gates, 1),
+            self.product(width, &gates, GATES),
+        ]
+    }
+
+    fn product(&mut self, width: usize, gates: &[Gate], most: usize) -> String {
+        let count = if gates.is_empty() {
+            0
+        } else {
+            self.random.below(most + 1)
+        };
+        let chosen: Vec<Gate> = (0..count).map(|_| self.random.one_of(gates)).collect();
+        let matrix = library_circuit_matrix(width, &chosen).expect("the width is small");
+        self.turned(matrix.expect("a short list fits")).line()
+    }
+
+    /// A node's matrix with one coefficient changed by one.
+    fn changed(&mut self) -> Vec<String> {
+        let mut question = self.any_node();
+        let place = self.random.below(question.coefficients.len());
+        question.coefficients[place] += self.random.one_of(&[1, -1]);
+        vec![question.line()]
+    }
+
+    /// A node's coefficients with another exponent.
+    fn other_exponent(&mut self) -> Vec<String> {
+        let mut question = self.any_node();
+        let exponents = [question.exponent + 1, question.exponent + 2, 65535];
+        question.exponent = self.random.one_of(&exponents);
+        vec![question.line()]
+    }
+
+    /// A node's matrix with all entries and the denominator times sqrt(2).
+    fn divisible(&mut self) -> Vec<String> {
+        let mut question = self.any_node();
+        for entry in question.coefficients.chunks_exact_mut(4) {
+            let [a, b, c, d] = [entry[0], entry[1], entry[2], entry[3]];
+            entry.copy_from_slice(&[b - d, a + c, b + d, c - a]);
+        }
+        question.exponent += 1;
+        vec![question.line()]
+    }
+
+    /// All entries one, with the exponent 1: not unitary.
+    fn ones(&mut self) -> Vec<String> {
+        let width = self.width();
+        let coefficients = [1, 0, 0, 0].repeat(1 << (2 * width));
+        vec![line(width as u32, 1, coefficients)]
+    }
+
+    fn zero(&mut self) -> Vec<String> {
+        let width = self.width();
+        let zero = || vec![0; 4 << (2 * width)];
+        vec![line(width as u32, 0, zero()), line(width as u32, 1, zero())]
+    }
+
+    fn small(&mut self) -> Vec<String> {
+        let exponent = self.random.below(4) as u16;
+        vec![self.noise(exponent, 2)]
+    }
+
+    fn large(&mut self) -> Vec<String> {
+        let exponent = self.random.below(65536) as u16;
+        vec![self.noise(exponent, 127)]
+    }
+
+    /// Coefficients from -most to most.
+    fn noise(&mut self, exponent: u16, most: i16) -> String {
+        let width = self.width();
+        let below = 2 * most as usize + 1;
+        let coefficients = (0..4 << (2 * width))
+            .map(|_| (self.random.below(below) as i16 - most) as i8)
+            .collect();
+        line(width as u32, exponent, coefficients)
+    }
+
+    /// A coefficient of -128.
+    fn past_limit(&mut self) -> Vec<String> {
+        let mut question = self.any_node();
+        let place = self.random.below(question.coefficients.len());
+        question.coefficients[place] = -128;
+        vec![question.line()]
+    }
+
+    /// Too few places, or too many, or none.
+    fn wrong_length(&mut self) -> Vec<String> {
+        let mut question = self.any_node();
+        let length = question.coefficients.len();
+        let lengths = [0, length - 1, length - 4, length + 1, length + 4];
+        let most = 4 << (2 * MOST_WIDTH);
+        let length = self.random.one_of(&lengths).min(most + 1);
+        question.coefficients.resize(length, -128);
+        vec![question.line()]
+    }
+
+    fn too_wide(&mut self) -> Vec<String> {
+        let mut question = self.any_node();
+        question.width = self.random.one_of(&[6, 7, 32, 64, 256, 65536, 4294967295]);
+        vec![question.line()]
+    }
+
+    fn width_0(&mut self) -> Vec<String> {
+        let entries = [[1, 0, 0, 0], [0, 0, -1, 0], [0, 0, 0, 0], [5, 4, 3, 2]];
+        let entry = self.random.one_of(&entries);
+        let exponent = self.random.below(3) as u16;
+        vec![line(0, exponent, entry.to_vec())]
+    }
+
+    /// An identity wider than the table.
+    fn above(&mut self) -> Vec<String> {
+        let wider = MOST_WIDTH.min(self.limits.qubits + 1) as usize;
+        let identity = UnitaryMatrix::identity(wider).expect("the width is small");
+        vec![self.turned(identity).line()]
+    }
+
+    fn broken(&mut self) -> Vec<String> {
+        vec![self.random.one_of(&BROKEN).to_owned()]
+    }
+
+    /// A list, which leaves the table as it is, and a node after it.
+    fn between(&mut self) -> Vec<String> {
+        let width = 1 + self.random.below(2);
+        let gates = valid_gates(width);
+        let codes = (0..3).map(|_| code_of(self.random.one_of(&gates)));
+        let between = list(width, codes.collect()).line();
+        vec![between, self.any_node().line()]
+    }
+}
+
+fn line(width: u32, exponent: u16, coefficients: Vec<i8>) -> String {
+    Question {
+        width,
+        exponent,
+        coefficients,
+    }
+    .line()
+}

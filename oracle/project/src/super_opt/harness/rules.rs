@@ -1,0 +1,361 @@
+//! What a table answers, written from document 01 alone: nothing here is the
+//! original's or the port's. All arithmetic is on 64-bit integers.
+
+use super::port::{Reply, Table};
+
+/// a + b omega + c omega^2 + d omega^3.
+type Entry = [i64; 4];
+
+/// Entries row by row, over sqrt(2)^exponent.
+#[derive(Clone)]
+pub(super) struct Matrix {
+    pub(super) width: u32,
+    pub(super) exponent: u32,
+    pub(super) entries: Vec<Entry>,
+}
+
+/// A kind's number, its operands, how many of the first rise, and the turn of
+/// the rows that have all their bits.
+struct Kind {
+    number: u32,
+    operands: usize,
+    rising: usize,
+    turn: Option<usize>,
+}
+
+#[rustfmt::skip]
+const KINDS: [Kind; 11] = [
+    Kind { number: 0, operands: 1, rising: 1, turn: None },
+    Kind { number: 1, operands: 1, rising: 1, turn: None },
+    Kind { number: 2, operands: 1, rising: 1, turn: Some(4) },
+    Kind { number: 3, operands: 1, rising: 1, turn: Some(2) },
+    Kind { number: 4, operands: 1, rising: 1, turn: Some(6) },
+    Kind { number: 5, operands: 1, rising: 1, turn: Some(1) },
+    Kind { number: 6, operands: 1, rising: 1, turn: Some(7) },
+    Kind { number: 8, operands: 2, rising: 1, turn: None },
+    Kind { number: 9, operands: 2, rising: 2, turn: Some(4) },
+    Kind { number: 10, operands: 3, rising: 2, turn: None },
+    Kind { number: 11, operands: 3, rising: 3, turn: Some(4) },
+];
+
+const H: u32 = 0;
+const MARK: u32 = 4294967295;
+
+pub(super) fn turned([a, b, c, d]: Entry, power: usize) -> Entry {
+    match power {
+        0 => [a, b, c, d],
+        _ => turned([-d, a, b, c], power - 1),
+    }
+}
+
+/// Times sqrt(2), which is omega - omega^3.
+pub(super) fn times_root([a, b, c, d]: Entry) -> Entry {
+    [b - d, a + c, b + d, c - a]
+}
+
+fn sum(x: Entry, y: Entry, sign: i64) -> Entry {
+    [0, 1, 2, 3].map(|i| x[i] + sign * y[i])
+}
+
+fn times(x: Entry, y: Entry) -> Entry {
+    (0..4).fold([0; 4], |total, power| {
+        let part = turned(x, power).map(|coefficient| coefficient * y[power]);
+        sum(total, part, 1)
+    })
+}
+
+fn divisible([a, b, c, d]: &Entry) -> bool {
+    (a - c) % 2 == 0 && (b - d) % 2 == 0
+}
+
+/// The kind and the row bits of a code that is valid at the width.
+fn gate(code: u32, width: u32) -> Option<(&'static Kind, Vec<usize>)> {
+    let kind = KINDS.iter().find(|kind| kind.number == code / 4096)?;
+    let places = [code / 256 % 16, code / 16 % 16, code % 16];
+    let (used, unused) = places.split_at(kind.operands);
+    let below = used.iter().all(|&operand| operand < width);
+    let distinct = (0..used.len()).all(|i| !used[..i].contains(&used[i]));
+    let rising = used[..kind.rising].is_sorted();
+    let plain = unused.iter().all(|&operand| operand == 0);
+    // Qubit 0 is the most significant row bit.
+    let bit = |&operand: &u32| 1 << (width - 1 - operand);
+    (below && distinct && rising && plain).then(|| (kind, used.iter().map(bit).collect()))
+}
+
+impl Matrix {
+    pub(super) fn identity(width: u32) -> Self {
+        let size = 1 << width;
+        let entry = |place: usize| [i64::from(place / size == place % size), 0, 0, 0];
+        Self {
+            width,
+            exponent: 0,
+            entries: (0..size * size).map(entry).collect(),
+        }
+    }
+
+    fn size(&self) -> usize {
+        1 << self.width
+    }
+
+    /// One gate on the left, by rows; whether it fits.
+    fn step(&mut self, code: u32) -> bool {
+        let (kind, bits) = gate(code, self.width).expect("the code is valid");
+        let size = self.size();
+        let has = |row: usize, bits: &[usize]| bits.iter().all(|bit| row & bit != 0);
+        let (target, controls) = bits.split_last().expect("an operand");
+        let old = self.entries.clone();
+        for row in 0..size {
+            for column in 0..size {
+                let at = |row: usize| old[row * size + column];
+                self.entries[row * size + column] = match kind.turn {
+                    Some(power) if has(row, &bits) => turned(at(row), power),
+                    Some(_) => at(row),
+                    None if kind.number == H && row & target == 0 => {
+                        sum(at(row), at(row | target), 1)
+                    }
+                    None if kind.number == H => sum(at(row & !target), at(row), -1),
+                    None if has(row, controls) => at(row ^ target),
+                    None => at(row),
+                };
+            }
+        }
+        if kind.number != H {
+            return true;
+        }
+        self.exponent += 1;
+        let large = |entry: &Entry| entry.iter().any(|coefficient| coefficient.abs() > 127);
+        if self.exponent > 65535 || self.entries.iter().any(large) {
+            return false;
+        }
+        while self.exponent > 0 && self.entries.iter().all(divisible) {
+            for entry in &mut self.entries {
+                let [a, b, c, d] = *entry;
+                *entry = [(b - d) / 2, (a + c) / 2, (b + d) / 2, (c - a) / 2];
+            }
+            self.exponent -= 1;
+        }
+        true
+    }
+
+    /// The matrix of a list, where every step fits.
+    pub(super) fn of_list(width: u32, codes: &[u32]) -> Option<Self> {
+        let mut matrix = Self::identity(width);
+        codes
+            .iter()
+            .all(|&code| matrix.step(code))
+            .then_some(matrix)
+    }
+
+    /// The entries after their own phase: the power that makes the first nonzero
+    /// entry least.
+    fn phased(&self) -> Vec<Entry> {
+        let pivot = self.entries.iter().find(|&&entry| entry != [0; 4]);
+        let least = |pivot: &Entry| (0..8).min_by_key(|&power| turned(*pivot, power));
+        let phase = pivot.and_then(least).unwrap_or(0);
+        let entries = self.entries.iter();
+        entries.map(|&entry| turned(entry, phase)).collect()
+    }
+
+    pub(super) fn fingerprint(&self) -> u64 {
+        let head = [i64::from(self.width), i64::from(self.exponent)];
+        let (mut first, mut second) = (0xcbf29ce484222325u64, 0x9e3779b97f4a7c15u64);
+        for word in head.into_iter().chain(self.phased().into_iter().flatten()) {
+            let word = word as u64;
+            first = (first ^ word).wrapping_mul(0x100000001b3);
+            second ^= word.wrapping_add(0x517cc1b727220a95);
+            second = second.rotate_left(27).wrapping_mul(0x94d049bb133111eb);
+        }
+        let mut fold = first ^ second.rotate_left(32);
+        fold = (fold ^ fold >> 30).wrapping_mul(0xbf58476d1ce4e5b9);
+        fold = (fold ^ fold >> 27).wrapping_mul(0x94d049bb133111eb);
+        fold ^ fold >> 31
+    }
+
+    fn equal_up_to_phase(&self, other: &Self) -> bool {
+        self.width == other.width
+            && self.exponent == other.exponent
+            && self.phased() == other.phased()
+    }
+
+    /// The matrix of one gate, by what it does to each basis state.
+    fn of_gate(width: u32, code: u32) -> Self {
+        let (kind, bits) = gate(code, width).expect("the code is valid");
+        let mut matrix = Self::identity(width);
+        let size = matrix.size();
+        matrix.entries.fill([0; 4]);
+        matrix.exponent = u32::from(kind.number == H);
+        let (target, controls) = bits.split_last().expect("an operand");
+        for state in 0..size {
+            let mut put = |row: usize, entry: Entry| matrix.entries[row * size + state] = entry;
+            let has = |bits: &[usize]| bits.iter().all(|bit| state & bit != 0);
+            let one = [1, 0, 0, 0];
+            match kind.turn {
+                Some(power) => put(state, turned(one, if has(&bits) { power } else { 0 })),
+                None if kind.number == H => {
+                    put(state & !target, one);
+                    put(state | target, turned(one, if has(&bits) { 4 } else { 0 }));
+                }
+                None => put(if has(controls) { state ^ target } else { state }, one),
+            }
+        }
+        matrix
+    }
+
+    fn product(&self, other: &Self) -> Self {
+        let size = self.size();
+        let entry = |place: usize| {
+            (0..size).fold([0; 4], |total, middle| {
+                let left = self.entries[place / size * size + middle];
+                let right = other.entries[middle * size + place % size];
+                sum(total, times(left, right), 1)
+            })
+        };
+        Self {
+            width: self.width,
+            exponent: self.exponent + other.exponent,
+            entries: (0..size * size).map(entry).collect(),
+        }
+    }
+
+    /// Whether a power of omega takes this value to the other's. The smaller
+    /// exponent is raised, entries and denominator times sqrt(2).
+    fn is_power_of_omega_times(&self, other: &Self) -> bool {
+        let raised = |matrix: &Self, exponent: u32| -> Vec<Entry> {
+            let raise = |&entry: &Entry| {
+                (matrix.exponent..exponent).fold(entry, |entry, _| times_root(entry))
+            };
+            matrix.entries.iter().map(raise).collect()
+        };
+        let exponent = self.exponent.max(other.exponent);
+        let (left, right) = (raised(self, exponent), raised(other, exponent));
+        let same = |power| (0..left.len()).all(|i| turned(left[i], power) == right[i]);
+        left.len() == right.len() && (0..8).any(same)
+    }
+}
+
+/// Whether the exact product of a list is a power of omega times the matrix.
+/// Every gate is a dense matrix; nothing is lowered or refused.
+pub(super) fn gives(codes: &[u32], asked: &Matrix) -> bool {
+    let width = asked.width;
+    let identity = Matrix::identity(width);
+    let product = codes.iter().fold(identity, |product, &code| {
+        Matrix::of_gate(width, code).product(&product)
+    });
+    product.is_power_of_omega_times(asked)
+}
+
+/// A matrix as it is asked, with its value and its fingerprint where its width
+/// and length allow one.
+pub(super) struct Asked {
+    pub(super) width: u32,
+    pub(super) exponent: u16,
+    pub(super) bytes: Vec<i8>,
+    pub(super) value: Option<(Matrix, u64)>,
+}
+
+impl Asked {
+    pub(super) fn new(width: u32, exponent: u16, bytes: Vec<i8>) -> Self {
+        let exact = width <= 5 && bytes.len() == 4 << (2 * width);
+        let entry = |entry: &[i8]| [0, 1, 2, 3].map(|i| i64::from(entry[i]));
+        let value = exact.then(|| Matrix {
+            width,
+            exponent: u32::from(exponent),
+            entries: bytes.chunks_exact(4).map(entry).collect(),
+        });
+        let value = value.map(|matrix| {
+            let fingerprint = matrix.fingerprint();
+            (matrix, fingerprint)
+        });
+        Self {
+            width,
+            exponent,
+            bytes,
+            value,
+        }
+    }
+}
+
+/// "13 for a record whose limits break 1 to 4 or whose count at any width up to
+/// Q is 0 or above E".
+fn bad_record(table: &Table) -> bool {
+    let limits = table.limits;
+    let bad_count = |width: u32| {
+        let count = table.record[3 * (width as usize - 1)];
+        count == 0 || count > u64::from(limits.entries)
+    };
+    limits.qubits < 1
+        || limits.qubits > 5
+        || limits.entries == 0
+        || limits.basis == 0
+        || limits.basis & !3967 != 0
+        || limits.gates > 64
+        || limits.entries > 1_000_000
+        || (1..=limits.qubits).any(bad_count)
+}
+
+/// The list of a node, read by walking parents; nothing where the chain is bad.
+fn chain(table: &Table, width: u32, node: usize) -> Option<Vec<u32>> {
+    let start = (width as usize - 1) * table.limits.entries as usize;
+    let mut list = Vec::new();
+    let mut node = node;
+    while node != 0 {
+        let (parent, code) = (table.parents[start + node], table.codes[start + node]);
+        let (kind, _) = gate(code, width)?;
+        let full = list.len() == table.limits.gates as usize;
+        if full || parent as usize >= node || table.limits.basis >> kind.number & 1 == 0 {
+            return None;
+        }
+        list.push(code);
+        node = parent as usize;
+    }
+    list.reverse();
+    (table.parents[start] == MARK && table.codes[start] == MARK).then_some(list)
+}
+
+/// The answer with a lent list of so many places.
+pub(super) fn decide(table: &Table, asked: &Asked, room: usize) -> Reply {
+    if bad_record(table) {
+        return Reply::Refused(13);
+    }
+    let entries = table.limits.entries as usize;
+    let places = table.limits.qubits as usize * entries;
+    let lengths = [
+        table.fingerprints.len(),
+        table.parents.len(),
+        table.codes.len(),
+    ];
+    if lengths.into_iter().any(|length| length < places) {
+        return Reply::Refused(5);
+    }
+    if asked.width > 5 {
+        return Reply::Refused(6);
+    }
+    let Some((matrix, fingerprint)) = &asked.value else {
+        return Reply::Refused(9);
+    };
+    if asked.bytes.contains(&-128) {
+        return Reply::Refused(10);
+    }
+    if asked.exponent > 0 && matrix.entries.iter().all(divisible) {
+        return Reply::Refused(11);
+    }
+    if room < table.limits.gates as usize {
+        return Reply::Refused(12);
+    }
+    if asked.width == 0 || asked.width > table.limits.qubits {
+        return Reply::None;
+    }
+    let width = asked.width as usize;
+    let count = table.record[3 * (width - 1)] as usize;
+    let part = &table.fingerprints[(width - 1) * entries..][..count];
+    let Some(node) = part.iter().position(|print| print == fingerprint) else {
+        return Reply::None;
+    };
+    let Some(list) = chain(table, asked.width, node) else {
+        return Reply::Refused(13);
+    };
+    match Matrix::of_list(asked.width, &list) {
+        Some(product) if product.equal_up_to_phase(matrix) => Reply::List(list),
+        _ => Reply::None,
+    }
+}

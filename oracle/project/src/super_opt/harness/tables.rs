@@ -1,0 +1,148 @@
+//! Tables of the original and its answers to matrices, as lines. Document 01's
+//! refusals 1 to 5 of a build and 6, 9, 10, 11 of a question are decided here;
+//! the original has none of 4, 5, 6, 9, 10, 11.
+
+use std::io::{self, Write};
+
+use super::codes::{code_of, code_of_gate};
+use super::lists::MOST_WIDTH;
+use crate::circuit::GateSet;
+use crate::super_opt::MurmConfig;
+use crate::super_opt::matrix::{matrix_of, unitary_fingerprint};
+use crate::super_opt::murm::Murm;
+use crate::super_opt::synthesis_arena::WidthTable;
+
+/// How many places each array has in the port's test program.
+pub(super) const PLACES: u64 = 100_000;
+
+/// The parent and the code of the root.
+const MARK: u32 = 4294967295;
+
+/// Q, G, E and B.
+#[derive(Clone, Copy)]
+pub(super) struct Limits {
+    pub(super) qubits: u32,
+    pub(super) gates: u32,
+    pub(super) entries: u32,
+    pub(super) basis: u32,
+}
+
+impl Limits {
+    pub(super) fn line(&self) -> String {
+        let Self {
+            qubits,
+            gates,
+            entries,
+            basis,
+        } = self;
+        format!("table {qubits} {gates} {entries} {basis}")
+    }
+
+    /// The first of the refusals 1 to 5.
+    pub(super) fn refusal(&self) -> Option<u32> {
+        let places = u64::from(self.qubits) * u64::from(self.entries);
+        let rows = [
+            (1, !(1..=5).contains(&self.qubits)),
+            (2, self.entries == 0),
+            (3, self.basis == 0 || self.basis & !3967 != 0),
+            (4, self.gates > 64 || self.entries > 1_000_000),
+            (5, places > PLACES),
+        ];
+        rows.iter().find(|(_, holds)| *holds).map(|(row, _)| *row)
+    }
+
+    /// The original's table. The limits are not refused.
+    pub(super) fn build(&self) -> Murm {
+        let config = MurmConfig {
+            max_qubits: self.qubits as usize,
+            max_gates: self.gates as usize,
+            max_entries_per_qubit: self.entries as usize,
+            basis: GateSet::from_bits_const(self.basis),
+        };
+        Murm::build(config).expect("the limits are not refused")
+    }
+}
+
+/// A line for each width, and one for each of its nodes.
+pub(super) fn write_table(table: &Murm, qubits: u32, out: &mut dyn Write) -> io::Result<()> {
+    for width in 1..=qubits as usize {
+        let (nodes, depth, saturated) = table.width(width);
+        let (entries, saturated) = (nodes.len(), u32::from(saturated));
+        writeln!(out, "table {width} {entries} {depth} {saturated}")?;
+        for (fingerprint, parent, code) in nodes_of(nodes) {
+            writeln!(out, "{fingerprint:016x} {parent} {code}")?;
+        }
+    }
+    Ok(())
+}
+
+/// Fingerprint, parent and code of each node. The fingerprints are private, and
+/// are read from what the original writes to a file: eight bytes for the count,
+/// then sixteen for each node, the fingerprint first.
+pub(super) fn nodes_of(table: &WidthTable) -> Vec<(u64, u32, u32)> {
+    let mut bytes = Vec::new();
+    table.write_to(&mut bytes).expect("memory can be written");
+    let written = bytes[8..].chunks_exact(16);
+    assert_eq!(written.len(), table.nodes.len(), "a record for each node");
+    written
+        .zip(&table.nodes)
+        .map(|(bytes, node)| {
+            let fingerprint = u64::from_le_bytes(bytes[..8].try_into().expect("eight bytes"));
+            let parent = node.parent.map_or(MARK, |parent| parent as u32);
+            (fingerprint, parent, node.gate.map_or(MARK, code_of))
+        })
+        .collect()
+}
+
+/// A matrix that a table is asked.
+#[derive(Clone)]
+pub(super) struct Question {
+    pub(super) width: u32,
+    pub(super) exponent: u16,
+    pub(super) coefficients: Vec<i8>,
+}
+
+impl Question {
+    pub(super) fn line(&self) -> String {
+        let mut line = format!("matrix {} {}", self.width, self.exponent);
+        for coefficient in &self.coefficients {
+            line.push(' ');
+            line.push_str(&coefficient.to_string());
+        }
+        line
+    }
+
+    /// The first of the refusals 6, 9, 10, 11.
+    fn refusal(&self) -> Option<u32> {
+        if self.width > MOST_WIDTH {
+            return Some(6);
+        }
+        if self.coefficients.len() != 4 << (2 * self.width) {
+            return Some(9);
+        }
+        if self.coefficients.contains(&i8::MIN) {
+            return Some(10);
+        }
+        let even = |entry: &[i8]| (entry[0] ^ entry[2]) & 1 == 0 && (entry[1] ^ entry[3]) & 1 == 0;
+        let divisible = self.exponent > 0 && self.coefficients.chunks_exact(4).all(even);
+        divisible.then_some(11)
+    }
+
+    /// The original's answer, with the fingerprint of the matrix.
+    pub(super) fn answer(&self, table: &Murm) -> String {
+        if let Some(row) = self.refusal() {
+            return format!("refused {row} 0");
+        }
+        let matrix = matrix_of(self.width as usize, self.exponent, &self.coefficients);
+        let fingerprint = unitary_fingerprint(&matrix).to_bits();
+        let Some(gates) = table.synthesize(&matrix) else {
+            return format!("{fingerprint:016x} none");
+        };
+        let mut line = format!("{fingerprint:016x} {}", gates.len());
+        for gate in &gates {
+            line.push(' ');
+            line.push_str(&code_of_gate(gate).to_string());
+        }
+        line
+    }
+}

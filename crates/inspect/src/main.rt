@@ -432,41 +432,41 @@ fn table_line(
 }
 
 // A coefficient, or anything else.
-enum Signed {
+enum Scalar {
     Value(Coefficient),
     Other,
 }
 
-fn positive(n: u32) -> Signed {
+fn positive(n: u32) -> Scalar {
     if 127 < n {
-        return Signed::Other;
+        return Scalar::Other;
     }
-    Signed::Value(n as Coefficient)
+    Scalar::Value(n as Coefficient)
 }
 
-fn negative(n: u32) -> Signed {
+fn negative(n: u32) -> Scalar {
     if n == 0 {
-        return Signed::Value(0);
+        return Scalar::Value(0);
     }
     if 128 < n {
-        return Signed::Other;
+        return Scalar::Other;
     }
-    Signed::Value(-1 - (n - 1) as Coefficient)
+    Scalar::Value(-1 - (n - 1) as Coefficient)
 }
 
 // The coefficient that a word writes: a number, after a `-` or not.
-fn signed(word: &[u8]) -> Signed {
+fn signed(word: &[u8]) -> Scalar {
     if word.len() < 1 {
-        return Signed::Other;
+        return Scalar::Other;
     }
     if word[0] == 45 {
         let Word::Number(n) = circuits_text::number(&word[1..]) else {
-            return Signed::Other;
+            return Scalar::Other;
         };
         return negative(n);
     }
     let Word::Number(n) = circuits_text::number(word) else {
-        return Signed::Other;
+        return Scalar::Other;
     };
     positive(n)
 }
@@ -485,12 +485,12 @@ fn coefficients(line: &[u8], from: usize, entries: &mut [Coefficient]) -> Line
         let first = p + 1;
         let e = circuits_text::find(line, first, SPACE);
         match signed(&line[first..e]) {
-            Signed::Value(x) => {
+            Scalar::Value(x) => {
                 entries[k] = x;
                 k += 1;
                 p = e;
             }
-            Signed::Other => {
+            Scalar::Other => {
                 return Line::Broken;
             }
         }

@@ -1,8 +1,8 @@
 -- `asked` takes no more codes than the lent list has. Assumes nothing.
 use mathlib.Core.Path.{sym}
 use native.Mathlib.Omega.{arith}
-use lib.Seq.{length-take-le}
 use borrow.Author.Needs.{needs}
+use lib.Seq.{length-take-le}
 use Rattle.inspect.proofs.asked.Statement.{statement}
 use Rattle.inspect.proofs.asked.Tie as tie
 
@@ -13,10 +13,8 @@ slice-aggregate-put-circuit c =
 
 put-circuit-requires : tie.Need-put-circuit-requires
 put-circuit-requires c κs =
-    let s = c .before .before .before .before .before .before .before .before in (
-      omega (arith, s .before .before .before .before .before .before .pre),
-      omega (arith, length-take-le (c .before .before .before .before .before .m .given .0 .0) (s .synthesize .last .1 .1 .1 .1 .1 .1 .1 .0) (omega arith)),
-    )
+    let s = c .before .before .before .before .before .before .before .before .before .before .before .before .before .before in
+    (omega (arith, s .pre), omega (arith, slice-aggregate-put-circuit c))
 
 pub asked-spec : {M : Type 1} → statement M
 asked-spec =

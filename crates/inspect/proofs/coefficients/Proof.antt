@@ -2,8 +2,8 @@
 use mathlib.Core.Path.{_≡_}
 use Prim.Native.Nat.{_≤_, _-_}
 use native.Mathlib.Omega.{arith}
-use lib.ListN.{length, length-set}
 use borrow.Author.Needs.{needs}
+use lib.ListN.{length, length-set}
 use Rattle.inspect.proofs.coefficients.Statement.{statement}
 use Rattle.inspect.proofs.coefficients.Tie as tie
 

@@ -1,9 +1,9 @@
 -- `lines` is safe and ends: each line begins with room left, and the place rises. Assumes nothing.
 use mathlib.Core.Path.{_≡_, sym}
 use Prim.Native.Nat.{_≤_, _-_}
+use borrow.Author.Needs.{needs}
 use lib.ListN.{length}
 use lib.Seq.{length-take-le}
-use borrow.Author.Needs.{needs}
 use Rattle.inspect.proofs.lines.Statement.{statement}
 use Rattle.inspect.proofs.lines.Tie as tie
 

@@ -1,8 +1,8 @@
 -- `matrix_line` takes no more of the line than there is. Assumes nothing.
 use mathlib.Core.Path.{sym}
 use native.Mathlib.Omega.{arith}
-use lib.Seq.{length-take-le}
 use borrow.Author.Needs.{needs}
+use lib.Seq.{length-take-le}
 use Rattle.inspect.proofs.matrix_line.Statement.{statement}
 use Rattle.inspect.proofs.matrix_line.Tie as tie
 

@@ -1,11 +1,11 @@
 -- `negative` stays in a coefficient's range: -1 less at most 127. Assumes nothing.
 use Prim.Native.Nat.{ℕ, zero, suc, _-_, _^_, _<_}
 use native.Mathlib.Omega.{arith}
+use borrow.Author.Needs.{needs}
 use lib.IntN.{pos, negsuc, _-ℤ_}
 use mir.Facts.{toZ-pos}
 use mir.Val.{SFits, hbits}
 use Rattle.cyclotomic.specs.Zomega.{near}
-use borrow.Author.Needs.{needs}
 use Rattle.inspect.proofs.negative.Statement.{statement}
 use Rattle.inspect.proofs.negative.Tie as tie
 

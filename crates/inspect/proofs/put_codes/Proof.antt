@@ -1,8 +1,8 @@
 -- `put_codes` stays in its room: at most 21 bytes for each code. Assumes nothing.
 use mathlib.Core.Path.{_≡_}
 use Prim.Native.Nat.{_≤_, _-_, _+_, _*_}
-use lib.ListN.{length}
 use borrow.Author.Needs.{needs}
+use lib.ListN.{length}
 use Rattle.inspect.proofs.put_codes.Statement.{statement}
 use Rattle.inspect.proofs.put_codes.Tie as tie
 

@@ -1,8 +1,8 @@
 -- `put_nodes` begins each node's line with room left. Assumes nothing.
 use mathlib.Core.Path.{_≡_}
 use Prim.Native.Nat.{_≤_, _-_}
-use lib.ListN.{length}
 use borrow.Author.Needs.{needs}
+use lib.ListN.{length}
 use Rattle.inspect.proofs.put_nodes.Statement.{statement}
 use Rattle.inspect.proofs.put_nodes.Tie as tie
 

@@ -5,7 +5,8 @@ use Rattle.inspect.proofs.table.Statement.{statement}
 use Rattle.inspect.proofs.table.Tie as tie
 
 put-widths-requires : tie.Need-put-widths-requires
-put-widths-requires c κs = let s = c .before .before .before .before .before .before .before .before .before .before .before .before .before in
+put-widths-requires c κs =
+    let s = c .before .before .before .before .before .before .before .before .before .before .before .before .before in
     omega (arith, s .build .kept, s .before .before .before .before .before .before .before .before .pre)
 
 pub table-spec : {M : Type 1} → statement M

@@ -5,7 +5,7 @@
 //   table Q G E B                    builds in arrays of 100,000 places, and prints for each width `table WIDTH ENTRIES DEPTH SATURATED`
 //                                    and then its nodes, each a line `FINGERPRINT PARENT CODE`; or `refused N 0`
 //   matrix WIDTH K COEFFICIENTS..    asks the table of the last `table` line, with a lent list of 64 places, and prints `FINGERPRINT none`,
-//                                    `FINGERPRINT COUNT CODES..` or `refused N 0`; where that line was refused, `refused 14 0`
+//                                    `FINGERPRINT COUNT CODES..` or `refused N 0`; with no such line, or if it was refused, `refused 14 0`
 // Document 01, "The program circuits": "Numbers are unsigned, up to 4294967295, at most ten digits, one space between, every line ended by a
 // newline. A line that breaks this prints `refused 14 0`." COUNT is up to 256, K up to 65535. A coefficient is such a number, after a `-`
 // or not, from -128 to 127; there are at most 4097. More than 1 MiB of input prints `refused 15 0` alone.
@@ -236,9 +236,7 @@ struct Told {
     last: Last,
 }
 
-fn digit(b: bool) -> u64
-    ensures { λ r. ⌜ r ≤ 1 ⌝ }
-{
+fn digit(b: bool) -> u64 {
     if b {
         return 1;
     }
@@ -292,7 +290,7 @@ fn put_nodes(
     p
 }
 
-// A width's row and its nodes, from a on.
+// A width's row and its nodes, which stand from a on. That they are within the arrays is tested, so that no contract of the build is used.
 fn put_width(
     out: &mut [u8],
     filled: usize,
@@ -546,7 +544,7 @@ fn print_of(width: u32, exponent: u16, entries: &[Coefficient]) -> u64 {
     f
 }
 
-// A table is asked. No list is longer than the lent one.
+// A table is asked. That a list is no longer than the lent one is tested, so that no contract of the entry is used.
 fn asked(
     out: &mut [u8],
     at: usize,
@@ -672,7 +670,7 @@ fn matrix_line(
     }
 }
 
-// A line that is none of those below.
+// A line that has no space, or begins with another word, or lacks its newline: the last table stays.
 fn no_line(out: &mut [u8], at: usize, last: Last) -> Told
     requires { ⌜ (at ≤ 16346) × (65536 ≤ length (now out)) ⌝ }
     ensures { λ r. ⌜ r .filled ≤ 65536 ⌝ }

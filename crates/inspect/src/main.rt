@@ -9,7 +9,7 @@
 // Document 01, "The program circuits": "Numbers are unsigned, up to 4294967295, at most ten digits, one space between, every line ended by a
 // newline. A line that breaks this prints `refused 14 0`." COUNT is up to 256, K up to 65535. A coefficient is such a number, after a `-`
 // or not, from -128 to 127; there are at most 4097. More than 1 MiB of input prints `refused 15 0` alone.
-// A new word has its arm in `answer`.
+// A new word has its case in `First`.
 ghost use mathlib.Core.Path.{_≡_};
 ghost use Prim.Native.Nat.{_+_, _*_, _≤_};
 ghost use lib.ListN.{length};
@@ -356,6 +356,18 @@ fn no_table(out: &mut [u8], at: usize, number: u64) -> Told
     }
 }
 
+// The number of a refused build.
+fn build_refusal(built: Building) -> u64 {
+    match built {
+        Building::Table(_) => 0,
+        Building::WidthLimit => 1,
+        Building::NoEntries => 2,
+        Building::Basis => 3,
+        Building::TooLarge => 4,
+        Building::ArrayTooShort => 5,
+    }
+}
+
 // A table is built and printed.
 fn table(
     out: &mut [u8],
@@ -378,19 +390,14 @@ fn table(
         max_entries_per_qubit: e,
         basis: GateSet(b),
     };
-    match murm::build(config, fingerprints, parents, codes) {
-        Building::Table(t) => {
-            let filled = put_widths(out, at, t, q, e, fingerprints, parents, codes);
-            Told {
-                filled,
-                last: Last::Table(t),
-            }
-        }
-        Building::WidthLimit => no_table(out, at, 1),
-        Building::NoEntries => no_table(out, at, 2),
-        Building::Basis => no_table(out, at, 3),
-        Building::TooLarge => no_table(out, at, 4),
-        Building::ArrayTooShort => no_table(out, at, 5),
+    let built = murm::build(config, fingerprints, parents, codes);
+    let Building::Table(t) = built else {
+        return no_table(out, at, build_refusal(built));
+    };
+    let filled = put_widths(out, at, t, q, e, fingerprints, parents, codes);
+    Told {
+        filled,
+        last: Last::Table(t),
     }
 }
 
@@ -544,6 +551,21 @@ fn print_of(width: u32, exponent: u16, entries: &[Coefficient]) -> u64 {
     f
 }
 
+// The number of a refused query.
+fn answer_refusal(answer: Synthesized) -> u64 {
+    match answer {
+        Synthesized::Circuit(_) => 0,
+        Synthesized::Nothing => 0,
+        Synthesized::ArrayTooShort => 5,
+        Synthesized::WidthTooLarge => 6,
+        Synthesized::LengthNotExact => 9,
+        Synthesized::OutOfRange => 10,
+        Synthesized::NotLowest => 11,
+        Synthesized::ListTooShort => 12,
+        Synthesized::BadTable => 13,
+    }
+}
+
 // A table is asked. That a list is no longer than the lent one is tested, so that no contract of the entry is used.
 fn asked(
     out: &mut [u8],
@@ -560,7 +582,7 @@ fn asked(
     ensures { λ r. ⌜ r ≤ at + 1382 ⌝ }
 {
     let mut list = [0u32; 64];
-    match murm::synthesize(
+    let answer = murm::synthesize(
         table,
         fingerprints,
         parents,
@@ -569,7 +591,8 @@ fn asked(
         exponent,
         entries,
         &mut list,
-    ) {
+    );
+    match answer {
         Synthesized::Circuit(m) => {
             if 64 < m {
                 return put_refused(out, at, 12, 0);
@@ -577,13 +600,7 @@ fn asked(
             put_circuit(out, at, print_of(width, exponent, entries), &list[..m])
         }
         Synthesized::Nothing => put_none(out, at, print_of(width, exponent, entries)),
-        Synthesized::ArrayTooShort => put_refused(out, at, 5, 0),
-        Synthesized::WidthTooLarge => put_refused(out, at, 6, 0),
-        Synthesized::LengthNotExact => put_refused(out, at, 9, 0),
-        Synthesized::OutOfRange => put_refused(out, at, 10, 0),
-        Synthesized::NotLowest => put_refused(out, at, 11, 0),
-        Synthesized::ListTooShort => put_refused(out, at, 12, 0),
-        Synthesized::BadTable => put_refused(out, at, 13, 0),
+        _ => put_refused(out, at, answer_refusal(answer), 0),
     }
 }
 
@@ -679,6 +696,27 @@ fn no_line(out: &mut [u8], at: usize, last: Last) -> Told
     Told { filled, last }
 }
 
+// What a line begins with.
+enum First {
+    List,
+    Table,
+    Matrix,
+    Other,
+}
+
+fn first_word(word: &[u8]) -> First {
+    if circuits_text::same_bytes(word, b"list") {
+        return First::List;
+    }
+    if circuits_text::same_bytes(word, b"table") {
+        return First::Table;
+    }
+    if circuits_text::same_bytes(word, b"matrix") {
+        return First::Matrix;
+    }
+    First::Other
+}
+
 // A line, given without its newline, goes by its first word.
 fn answer(
     out: &mut [u8],
@@ -698,18 +736,18 @@ fn answer(
         return no_line(out, at, last);
     }
     let rest = e + 1;
-    if circuits_text::same_bytes(&line[..e], b"list") {
-        let filled = list_line(out, at, &line[rest..]);
-        return Told { filled, last };
+    match first_word(&line[..e]) {
+        First::List => {
+            let filled = list_line(out, at, &line[rest..]);
+            Told { filled, last }
+        }
+        First::Table => table_line(out, at, &line[rest..], fingerprints, parents, codes),
+        First::Matrix => {
+            let filled = matrix_line(out, at, &line[rest..], last, fingerprints, parents, codes);
+            Told { filled, last }
+        }
+        First::Other => no_line(out, at, last),
     }
-    if circuits_text::same_bytes(&line[..e], b"table") {
-        return table_line(out, at, &line[rest..], fingerprints, parents, codes);
-    }
-    if circuits_text::same_bytes(&line[..e], b"matrix") {
-        let filled = matrix_line(out, at, &line[rest..], last, fingerprints, parents, codes);
-        return Told { filled, last };
-    }
-    no_line(out, at, last)
 }
 
 // The line from at to e; the last one lacks its newline where e is the input's end.

@@ -9,7 +9,7 @@ use Rattle.inspect.proofs.asked.Tie as tie
 slice-aggregate-put-circuit : tie.Need-slice-aggregate-put-circuit
 slice-aggregate-put-circuit c =
     let s = c .before .before .before .before .before .before .before .before .synthesize in
-    sym (length-take-le (c .before .before .before .before .before .m .given .0 .0) (s .last .1 .1 .1 .1 .1 .1 .1 .0) (omega arith))
+    sym (length-take-le (c .before .before .before .before .before .answer .given .0 .0) (s .last .1 .1 .1 .1 .1 .1 .1 .0) (omega arith))
 
 put-circuit-requires : tie.Need-put-circuit-requires
 put-circuit-requires c κs =
@@ -33,32 +33,8 @@ asked-spec =
     (λ c. search needs)
     (λ c κs. search needs)
     (λ c κs. search needs)
-    (λ c. search needs)
     (λ c κs. search needs)
-    (λ c. search needs)
     (λ c κs. search needs)
-    (λ c. search needs)
-    (λ c κs. search needs)
-    (λ c. search needs)
-    (λ c κs. search needs)
-    (λ c. search needs)
-    (λ c κs. search needs)
-    (λ c. search needs)
-    (λ c κs. search needs)
-    (λ c. search needs)
-    (λ c κs. search needs)
-    (λ c. search needs)
-    (λ c. search needs)
-    (λ c. search needs)
-    (λ c. search needs)
-    (λ c. search needs)
-    (λ c. search needs)
-    (λ c. search needs)
-    (λ c. search needs)
-    (λ c. search needs)
-    (λ c. search needs)
-    (λ c. search needs)
-    (λ c. search needs)
     (λ c. search needs)
     (λ c. search needs)
     (λ c. search needs)

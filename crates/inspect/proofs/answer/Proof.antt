@@ -6,9 +6,10 @@ use lib.Seq.{length-take-le}
 use Rattle.inspect.proofs.answer.Statement.{statement}
 use Rattle.inspect.proofs.answer.Tie as tie
 
-slice-aggregate-same-bytes : tie.Need-slice-aggregate-same-bytes
-slice-aggregate-same-bytes c =
-    sym (length-take-le (c .before .before .find .result) (c .before .before .before .before .before .args .line .now) (omega arith))
+slice-aggregate-first-word : tie.Need-slice-aggregate-first-word
+slice-aggregate-first-word c =
+    let f = c .before .before in
+    sym (length-take-le (f .find .result) (f .before .before .before .before .before .before .args .line .now) (omega arith))
 
 pub answer-spec : {M : Type 1} → statement M
 answer-spec =
@@ -19,15 +20,36 @@ answer-spec =
     (λ c. search needs)
     (λ c. search needs)
     (λ c. search needs)
-    slice-aggregate-same-bytes
+    slice-aggregate-first-word
+    (λ c κs. search needs)
+    (λ c. search needs)
+    (λ c. search needs)
+    (λ c. search needs)
     (λ c. search needs)
     (λ c κs. search needs)
     (λ c. search needs)
     (λ c. search needs)
     (λ c. search needs)
+    (λ c. search needs)
     (λ c κs. search needs)
     (λ c. search needs)
     (λ c. search needs)
+    (λ c. search needs)
+    (λ c. search needs)
     (λ c κs. search needs)
+    (λ c. search needs)
+    (λ c κs. search needs)
+    (λ c. search needs)
+    (λ c. search needs)
+    (λ c. search needs)
+    (λ c. search needs)
+    (λ c. search needs)
+    (λ c. search needs)
+    (λ c. search needs)
+    (λ c. search needs)
+    (λ c. search needs)
+    (λ c. search needs)
+    (λ c. search needs)
+    (λ c. search needs)
     (λ c. search needs)
     (λ c. search needs))

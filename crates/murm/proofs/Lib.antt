@@ -1,5 +1,7 @@
 pub mod Bytes
 pub mod Checks
 pub mod Answers
-pub mod Demand2
 pub mod Parts
+pub mod Asked
+pub mod Demand2
+pub mod Demands

@@ -1,6 +1,7 @@
 -- A width's part of a table whose record and arrays are not refused: where it lies, and how many of its places are counted. Assumes nothing.
 use mathlib.Core.Path.{_≡_, refl, sym, ap, _∙_}
 use mathlib.Core.Bool.{Bool, true, false, not, _&&_, _||_}
+use mathlib.Core.List.{List}
 use Prim.Native.Nat.{ℕ, zero, suc, _+_, _*_, _-_, _≤_, _<_}
 use native.Mathlib.Omega.{arith}
 use native.Mathlib.Nat.{mul-le-mul}
@@ -9,8 +10,10 @@ use lib.Dec.{eqb, ltb}
 use lib.ListN.{length}
 use Rattle.ints.proofs.Bools.{neither, clash}
 use Rattle.walk.specs.Walk.{any}
+use Rattle.width_answer.specs.Answers.{Outcome, outcome, answerOf, toldAnswered}
+use Rattle.width_answer.specs.declared.Answered.{Answered}
 use Rattle.tables.specs.Checks.{Limits, firstRow, limitRows, Arrays, roomRow}
-use Rattle.tables.specs.Tables.{Table, allWidths, widthAt, badCount, recordRow}
+use Rattle.tables.specs.Tables.{Width, Table, allWidths, widthAt, badCount, recordRow, Query, matrixOf, partOf, partAsked}
 use Rattle.tables.proofs.Accepted.{Accepted, accepted, roomy}
 use Rattle.tables.proofs.Filled.{room-at}
 
@@ -64,3 +67,20 @@ part t a w r m p q =
         with-width : (x : Bool) → x ≡ false → {y : Bool} → (not x && y) ≡ false → y ≡ false
         with-width true z f = clash refl z
         with-width false z f = f
+
+-- ---- an answer of the part, told on
+
+pub told-as : {r s : Answered} {l : List ℕ} {o : Outcome} → r ≡ s → outcome (toldAnswered r) l ≡ o → outcome (toldAnswered s) l ≡ o
+told-as {l = l} e h = ap (λ (x : Answered). outcome (toldAnswered x) l) (sym e) ∙ h
+
+-- the count is the record's
+pub with-count : (t : Table) (a : Arrays) (q : Query) (out : List ℕ) {v : Width} → v ≡ widthAt t (q .width)
+    → answerOf (partOf (q .width) (t .limits .entries) (a .prints)) (partOf (q .width) (t .limits .entries) (a .parents))
+    (partOf (q .width) (t .limits .entries) (a .codes)) (v .count) (q .width) (t .limits .basis) (t .limits .gates) (matrixOf q) out
+    ≡ partAsked t a q out
+with-count t a q out e =
+    ap
+    (λ (v : Width).
+    answerOf (partOf (q .width) (t .limits .entries) (a .prints)) (partOf (q .width) (t .limits .entries) (a .parents))
+    (partOf (q .width) (t .limits .entries) (a .codes)) (v .count) (q .width) (t .limits .basis) (t .limits .gates) (matrixOf q) out)
+    e

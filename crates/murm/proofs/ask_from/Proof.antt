@@ -27,12 +27,17 @@ answer-width-requires : tie.Need-answer-width-requires
 answer-width-requires c κs =
     let s = c .before .before .before .before .before .before .before .before in
     let p = s .pre in
-    let a = s .args in
-    (p .0,
-    ((room (a .start) (a .entries) (a .count) (a .fingerprints .now) (p .1 .1 .0 .0) (p .1 .0 .2),
-    room (a .start) (a .entries) (a .count) (a .parents .now) (p .1 .1 .0 .1) (p .1 .0 .2),
-    room (a .start) (a .entries) (a .count) (a .codes .now) (p .1 .1 .0 .2) (p .1 .0 .2)),
-    p .1 .1 .1))
+    let a = s .args in (
+      p .0,
+      (
+        (
+          room (a .start) (a .entries) (a .count) (a .fingerprints .now) (p .1 .1 .0 .0) (p .1 .0 .2),
+          room (a .start) (a .entries) (a .count) (a .parents .now) (p .1 .1 .0 .1) (p .1 .0 .2),
+          room (a .start) (a .entries) (a .count) (a .codes .now) (p .1 .1 .0 .2) (p .1 .0 .2),
+        ),
+        p .1 .1 .1,
+      ),
+    )
 
 returns : tie.Need-returns
 returns c =

@@ -3,3 +3,4 @@ pub mod Checks
 pub mod Answers
 pub mod Demand2
 pub mod Parts
+pub mod Builds

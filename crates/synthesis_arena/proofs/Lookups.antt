@@ -1,6 +1,6 @@
 -- Laws of the lookup: its steps, and what is found, said of nodes. Assumes nothing.
 use mathlib.Core.Path.{_≡_, refl, sym, ap, _∙_, subst}
-use mathlib.Core.Bool.{Bool, true, false}
+use mathlib.Core.Bool.{Bool, true, false, _||_}
 use mathlib.Core.List.{List}
 use Prim.Native.Nat.{ℕ, zero, suc, _+_, _-_, _≤_, _<_}
 use native.Mathlib.Numerals.{add-one}
@@ -10,6 +10,7 @@ use lib.Dec.{eqb}
 use lib.ListN.{getD}
 use borrow.Author.Tests.{eq-eqb, ne-eqb, eqb-true, eqb-false}
 use Rattle.ints.specs.Lists.{pick}
+use Rattle.ints.proofs.Bools.{neither}
 use Rattle.synthesis_arena.specs.Lookup.{Lookup, found, none, lowestOf, lowestFrom, LowestNode, Nowhere, LooksUp}
 
 -- ---- one node of the scan
@@ -32,6 +33,25 @@ module _ (fps : List ℕ) (count i f : ℕ) where
   lookup-end h =
       let e : count - i ≡ 0 = omega arith in
       rw e
+
+-- ---- nodes that are passed over together
+
+-- the nodes from the start to below i, and whether one of them has the fingerprint: if none has, the lookup may begin at i
+pub record Passed (fps : List ℕ) (from end f i : ℕ) (found : Bool) : Type 0 where
+  pub within : i ≤ end
+  pub none-has : (count : ℕ) → end ≤ count → found ≡ false → lowestFrom fps count i f ≡ lowestFrom fps count from f
+
+pub passed-none : (fps : List ℕ) (from end f : ℕ) → from ≤ end → Passed fps from end f from false
+passed-none fps from end f h = record { within = h; none-has = λ count p e. refl }
+
+pub passed-more : {fps : List ℕ} {from end f i : ℕ} {found : Bool} → Passed fps from end f i found → i < end
+    → Passed fps from end f (i + 1) (found || eqb (getD fps i 0) f)
+passed-more {fps} {from} {end} {f} {i} {found} w h = record {
+  within = omega arith;
+  none-has = λ count p e.
+      let n = neither found (eqb (getD fps i 0) f) e in
+      sym (lookup-on fps count i f (omega arith) (eqb-false (getD fps i 0) f (n .1))) ∙ w .none-has count p (n .0);
+}
 
 -- ---- what the definition says of nodes
 

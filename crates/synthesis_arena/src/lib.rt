@@ -2,7 +2,8 @@
 // a node is its last gate and the node that holds the rest, and its circuit is read by walking to node 0. Whatever the arrays hold is
 // decided: "Only caller-altered tables meet 13."
 ghost use mathlib.Core.Path.{_≡_};
-ghost use Prim.Native.Nat.{_<_, _≤_};
+ghost use mathlib.Core.Bool.{false};
+ghost use Prim.Native.Nat.{ℕ, _<_, _≤_};
 ghost use lib.ListN.{length};
 ghost use Rattle.synthesis_arena.specs.Lookup.{lowestFrom, toldFound};
 ghost use Rattle.synthesis_arena.specs.Chains.{marked, chainOf, depthOf, toldDepth, outcome, circuitOf, toldCircuit};
@@ -30,12 +31,46 @@ pub enum NodeCircuit {
     Bad,
 }
 
+// Whether one of the nodes from one on and below another has the fingerprint. There is no early return: this loop is many times faster without
+// one.
+fn has_print(fingerprints: &[u64], from: usize, end: usize, fingerprint: u64) -> bool
+    requires { ⌜ (from ≤ end) × (end ≤ length (now fingerprints)) ⌝ }
+    ensures { λ r. ⌜ ((count : ℕ) → end ≤ count → r ≡ false → lowestFrom (now (fingerprints .entry)) count end fingerprint ≡ lowestFrom (now (fingerprints .entry)) count from fingerprint) ⌝ }
+{
+    let mut found = false;
+    let mut i = from;
+    while i < end {
+        found = found | (fingerprints[i] == fingerprint);
+        i += 1;
+    }
+    found
+}
+
+// A place before which none of the nodes, from one on, has the fingerprint: whole blocks that do not have it are passed over.
+fn skip_blocks(fingerprints: &[u64], count: usize, from: usize, fingerprint: u64) -> usize
+    requires { ⌜ (from ≤ count) × (count ≤ length (now fingerprints)) ⌝ }
+    ensures { λ r. ⌜ lowestFrom (now (fingerprints .entry)) count r fingerprint ≡ lowestFrom (now (fingerprints .entry)) count from fingerprint ⌝ }
+{
+    let mut i = from;
+    while 64 <= count - i {
+        let end = i + 64;
+        if has_print(fingerprints, i, end, fingerprint) {
+            return i;
+        }
+        i = end;
+    }
+    i
+}
+
 // "The lowest node of that width with its fingerprint", of those from a place on and below the count.
 pub fn node_for(fingerprints: &[u64], count: usize, from: usize, fingerprint: u64) -> Found
     requires { ⌜ count ≤ length (now fingerprints) ⌝ }
     ensures { λ r. ⌜ toldFound r ≡ lowestFrom (now (fingerprints .entry)) count from fingerprint ⌝ }
 {
-    let mut i = from;
+    if count <= from {
+        return Found::NotFound;
+    }
+    let mut i = skip_blocks(fingerprints, count, from, fingerprint);
     while i < count {
         if fingerprints[i] == fingerprint {
             return Found::At(i);

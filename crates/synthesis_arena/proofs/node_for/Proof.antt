@@ -1,6 +1,6 @@
 -- `node_for` meets its contract: the lookup from the node reached is the lookup from the start. The measure is how many nodes are left.
 -- Assumes nothing.
-use mathlib.Core.Path.{_≡_, refl, sym, _∙_}
+use mathlib.Core.Path.{_≡_, sym, _∙_}
 use Prim.Native.Nat.{_-_}
 use native.Mathlib.Omega.{arith}
 use borrow.Author.Needs.{needs}
@@ -15,14 +15,14 @@ Inv-loop fingerprints count from fingerprint i₀ i = lowestFrom fingerprints co
 abbrev μ-loop : tie.MeasureT-loop
 μ-loop fingerprints count from fingerprint i₀ i = count - i
 
-returns : tie.Need-returns Inv-loop μ-loop
-returns c = lookup-here _ _ _ _ (omega (arith, c .before .before .loop-test .taken)) (c .if1 .taken) ∙ c .before .before .before .loop .inv
+returns-2 : tie.Need-returns-2 Inv-loop μ-loop
+returns-2 c = lookup-here _ _ _ _ (omega (arith, c .before .before .loop-test .taken)) (c .if2 .taken) ∙ c .before .before .before .loop .inv
 
 loop-again : tie.Need-loop-again Inv-loop μ-loop
-loop-again c = sym (lookup-on _ _ _ _ (omega (arith, c .before .before .loop-test .taken)) (c .if1 .left)) ∙ c .before .before .before .loop .inv
+loop-again c = sym (lookup-on _ _ _ _ (omega (arith, c .before .before .loop-test .taken)) (c .if2 .left)) ∙ c .before .before .before .loop .inv
 
-returns-2 : tie.Need-returns-2 Inv-loop μ-loop
-returns-2 c = lookup-end _ _ _ _ (omega (arith, c .loop-test .left)) ∙ c .before .loop .inv
+returns-3 : tie.Need-returns-3 Inv-loop μ-loop
+returns-3 c = lookup-end _ _ _ _ (omega (arith, c .loop-test .left)) ∙ c .before .loop .inv
 
 pub node-for-spec : {M : Type 1} → statement M
 node-for-spec =
@@ -30,11 +30,13 @@ node-for-spec =
     (tie.spec
     Inv-loop
     μ-loop
-    (λ c. refl)
+    (λ c. lookup-end _ _ _ _ (c .if1 .taken))
+    (λ c κs. search needs)
+    (λ c. c .skip-blocks .ensures)
     (λ c. search needs)
     (λ c. search needs)
-    returns
+    returns-2
     (λ c. search needs)
     (λ c. search needs)
     loop-again
-    returns-2)
+    returns-3)

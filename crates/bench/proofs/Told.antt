@@ -1,7 +1,6 @@
 -- What an entry's answer says as a number, where its case is known. Assumes nothing.
 use mathlib.Core.Path.{_≡_, sym, ap, _∙_}
 use mathlib.Core.List.{List}
-use Prim.Native.Nat.{ℕ}
 use lib.IntN.{ℤ}
 use Rattle.exact.specs.Answers.{Answer}
 use Rattle.murm.specs.Entries.{Outcome, outcome, toldListed, toldFingerprinted}

@@ -1,7 +1,6 @@
 -- A list in place, gate by gate: the places hold the product of the gates so far, and what is left of the list, from there on, says whether
 -- the whole list fits. Assumes nothing.
 use mathlib.Core.Path.{_≡_, refl, ap, _∙_, subst}
-use mathlib.Core.Bool.{Bool, true}
 use mathlib.Core.List.{List, [], _∷_}
 use Prim.Native.Nat.{ℕ, zero, suc, _+_, _≤_, _<_}
 use native.Mathlib.Omega.{arith}
@@ -9,7 +8,6 @@ use lib.IntN.{ℤ}
 use lib.ListN.{length, getD, take, drop, drop-of-length-le}
 use lib.Seq.{drop-cons, take-suc, take-all}
 use Rattle.ints.specs.Lists.{pick, all}
-use Rattle.ints.proofs.Bools.{and-left, and-right}
 use Rattle.exact.specs.Matrix.{Exact, Equal, identity}
 use Rattle.exact.specs.Rows.{Gate, act, gateOf}
 use Rattle.exact.specs.Lists.{product}

@@ -1,14 +1,13 @@
 -- What a table answers, row by row, as the definition has it. Assumes nothing.
-use mathlib.Core.Path.{_≡_, refl, sym, ap, _∙_}
+use mathlib.Core.Path.{_≡_, sym, ap, _∙_}
 use mathlib.Core.Bool.{true, false}
-use mathlib.Core.List.{List, [], _∷_, _++_}
+use mathlib.Core.List.{List}
 use Prim.Native.Nat.{ℕ, _≤_, _<_}
-use native.Mathlib.Omega.{arith}
 use borrow.Author.Tests.{eq-eqb, ne-eqb, lt-ltb, le-ltb}
 use lib.ListN.{length}
 use Rattle.width_answer.specs.Answers.{none, refused, outcome}
 use Rattle.tables.specs.Checks.{firstRow, Arrays, roomRow, queryRows}
-use Rattle.tables.specs.Tables.{Table, Query, recordRow, listRow, answerRows, partAsked, repliedBy, synthesized}
+use Rattle.tables.specs.Tables.{Table, Query, recordRow, answerRows, partAsked, repliedBy, synthesized}
 use Rattle.tables.proofs.Rows.{first-here, first-past, first-some, firstRow-append, numbered-query}
 use Rattle.murm.specs.Entries.{askedOf}
 

@@ -14,7 +14,7 @@ use borrow.Author.Count.{below-more}
 use borrow.Author.Tests.{eq-eqb, ne-eqb, ltb-true, ltb-false, not-true}
 use lib.Dec.{eqb, ltb}
 use Rattle.ints.specs.Lists.{pick, all}
-use Rattle.ints.proofs.Bools.{clash, and-left, and-right, or-false, or-assoc, neither}
+use Rattle.ints.proofs.Bools.{and-left, and-right, or-false, or-assoc, neither}
 use Rattle.ints.proofs.Machine.{range}
 use Rattle.cyclotomic.specs.Zomega.{limit, near, eqZ}
 use Rattle.circuit.specs.Codes.{valid}

@@ -1,6 +1,6 @@
 -- A width's part of a table whose record and arrays are not refused: where it lies, and how many of its places are counted. Assumes nothing.
 use mathlib.Core.Path.{_≡_, refl, sym, ap, _∙_}
-use mathlib.Core.Bool.{Bool, true, false, not, _&&_, _||_}
+use mathlib.Core.Bool.{Bool, true, false, not, _&&_}
 use mathlib.Core.List.{List}
 use Prim.Native.Nat.{ℕ, zero, suc, _+_, _*_, _-_, _≤_, _<_}
 use native.Mathlib.Omega.{arith}
@@ -12,7 +12,7 @@ use Rattle.ints.proofs.Bools.{neither, clash}
 use Rattle.walk.specs.Walk.{any}
 use Rattle.width_answer.specs.Answers.{Outcome, outcome, answerOf, toldAnswered}
 use Rattle.width_answer.specs.declared.Answered.{Answered}
-use Rattle.tables.specs.Checks.{Limits, firstRow, limitRows, Arrays, roomRow}
+use Rattle.tables.specs.Checks.{firstRow, limitRows, Arrays, roomRow}
 use Rattle.tables.specs.Tables.{Width, Table, allWidths, widthAt, badCount, recordRow, Query, matrixOf, partOf, partAsked}
 use Rattle.tables.proofs.Accepted.{Accepted, accepted, roomy}
 use Rattle.tables.proofs.Filled.{room-at}

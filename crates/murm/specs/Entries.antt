@@ -1,20 +1,19 @@
 -- What the public entries answer, for every input: the values, or the refusal's number and position, and what the lent bytes then hold.
 -- Assumes nothing.
-use mathlib.Core.Bool.{Bool, false, _&&_, _||_}
 use mathlib.Core.List.{List, [], _∷_}
 use Prim.Native.Nat.{ℕ, zero, suc, _*_, _^_}
-use lib.IntN.{ℤ, negsuc}
+use lib.IntN.{ℤ}
 use lib.Dec.{eqb, ltb}
 use lib.ListN.{length}
 use Rattle.ints.specs.Lists.{pick}
-use Rattle.cyclotomic.specs.Zomega.{Zω, limit, eqZ}
+use Rattle.cyclotomic.specs.Zomega.{Zω}
 use Rattle.circuit.specs.Codes.{valid}
-use Rattle.exact.specs.Matrix.{Exact, allDivisible}
+use Rattle.exact.specs.Matrix.{Exact}
 use Rattle.exact.specs.Lists.{product}
 use Rattle.exact.specs.Answers.{Answer, given, refused, listAnswer}
 use Rattle.exact.specs.Phase.{flat}
 use Rattle.exact.specs.Fingerprint.{fingerprint}
-use Rattle.places.specs.Places.{read, held}
+use Rattle.places.specs.Places.{held}
 use Rattle.width_answer.specs.Answers.{Reply}
 use Rattle.width_answer.specs.Answers as a
 use Rattle.tables.specs.Checks.{byteCount, firstRow, queryRows, Arrays}

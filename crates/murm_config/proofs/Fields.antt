@@ -1,10 +1,10 @@
 -- Widths by their numbers. Assumes nothing.
 use mathlib.Core.Path.{_≡_, refl}
-use mathlib.Core.List.{List, [], _∷_}
+use mathlib.Core.List.{[], _∷_}
 use Prim.Native.Nat.{ℕ, zero, suc, _≤_, _<_}
 use native.Mathlib.Omega.{arith}
 use Rattle.tables.specs.Checks.{Limits}
-use Rattle.tables.specs.Tables.{Width, Table, notBuilt, widthAt}
+use Rattle.tables.specs.Tables.{Width, notBuilt, widthAt}
 
 -- a number past the five has no row, nor has 0
 pub other-width : (l : Limits) (a b c d e : Width) (w : ℕ) → (w ≡ 1 → ⊥) → (w ≡ 2 → ⊥) → (w ≡ 3 → ⊥) → (w ≡ 4 → ⊥) → (w ≡ 5 → ⊥)

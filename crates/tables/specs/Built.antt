@@ -1,10 +1,9 @@
 -- "A built table". Assumes nothing.
 use mathlib.Core.Path.{_≡_}
 use mathlib.Core.Bool.{false}
-use mathlib.Core.List.{List}
 use Prim.Native.Nat.{ℕ, _+_, _*_, _-_, _≤_, _<_}
 use lib.ListN.{length, getD}
-use Rattle.walk.specs.Walk.{Node, root, gate}
+use Rattle.walk.specs.Walk.{root, gate}
 use Rattle.width_table.specs.Table.{printOf, parentOf}
 use Rattle.tables.specs.Checks.{firstRow, Limits, limitRows, Arrays, roomRow}
 use Rattle.tables.specs.Tables.{Table, recordOf, walkOf}

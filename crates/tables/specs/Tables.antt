@@ -8,10 +8,10 @@ use lib.ListN.{length, getD, take, drop}
 use Rattle.ints.specs.Lists.{pick}
 use Rattle.exact.specs.Matrix.{Exact}
 use Rattle.places.specs.Places.{held}
-use Rattle.walk.specs.Walk.{Node, Build, gate, any}
+use Rattle.walk.specs.Walk.{Build, gate, any}
 use Rattle.walk.specs.AtWidth.{built}
 use Rattle.width_table.specs.Table.{printOf, parentOf}
-use Rattle.width_answer.specs.Answers.{Reply, none, refused, Outcome, outcome, answerOf}
+use Rattle.width_answer.specs.Answers.{none, refused, Outcome, outcome, answerOf}
 use Rattle.tables.specs.Checks.{Row, row, firstRow, Limits, limitRows, Arrays, roomRow, queryRows}
 
 -- ---- the record

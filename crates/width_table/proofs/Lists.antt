@@ -9,7 +9,7 @@ use lib.Dec.{eqb}
 use lib.ListN.{length, getD, take}
 use lib.IntN.{ℤ}
 use Rattle.ints.specs.Lists.{all}
-use Rattle.ints.proofs.Bools.{and-both, and-right, and-left, clash}
+use Rattle.ints.proofs.Bools.{and-both, clash}
 use Rattle.circuit.specs.Codes.{valid, validFor, mark}
 use Rattle.circuit.proofs.Coded.{basis-valid}
 use Rattle.generators.proofs.Generated.{lists}

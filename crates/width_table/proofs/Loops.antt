@@ -16,7 +16,7 @@ use Rattle.circuit.specs.Sets.{member}
 use Rattle.circuit.specs.Codes.{kindNumber, valid, validFor, mark}
 use Rattle.generators.specs.Generators.{generators}
 use Rattle.generators.proofs.Generated.{lists}
-use Rattle.walk.specs.Walk.{Rules, Node, State, Build, root, listAt, child, try, tryAll, layer, settled, walked, deeper, ended, depths, begin, isNil, walk}
+use Rattle.walk.specs.Walk.{Rules, Node, State, Build, root, listAt, child, try, tryAll, layer, settled, deeper, ended, depths, begin, isNil, walk}
 use Rattle.walk.specs.AtWidth.{atWidth}
 use Rattle.walk.specs.Grown.{Grown, alone, more, ParentsTo}
 use Rattle.walk.proofs.Sequences.{length-snoc, all-snoc, prefix-snoc, prefix-at}

@@ -1,5 +1,5 @@
 -- `ask_from` meets its contract: the part of each array that is lent is `take entries (drop start ..)`. Assumes nothing.
-use mathlib.Core.Path.{_≡_, sym, ap, _∙_}
+use mathlib.Core.Path.{_≡_, ap, _∙_}
 use mathlib.Core.List.{List}
 use Prim.Native.Nat.{ℕ, _+_, _-_, _≤_}
 use native.Mathlib.Omega.{arith}
@@ -8,7 +8,7 @@ use lib.ListN.{length, take, drop, length-drop}
 use lib.Seq.{length-take-le}
 use Rattle.exact.specs.Matrix.{Exact}
 use Rattle.places.specs.Places.{held}
-use Rattle.width_answer.specs.Answers.{Outcome, answerOf}
+use Rattle.width_answer.specs.Answers.{answerOf}
 use Rattle.murm.proofs.ask_from.Statement.{statement}
 use Rattle.murm.proofs.ask_from.Tie as tie
 

@@ -1,5 +1,5 @@
 -- `ask_part` meets its contract: the part's bounds hold, and its answer is told on. Assumes nothing.
-use mathlib.Core.Path.{_≡_, ap, _∙_}
+use mathlib.Core.Path.{ap, _∙_}
 use native.Mathlib.Omega.{arith}
 use borrow.Author.Needs.{needs}
 use Rattle.tables.specs.Checks.{arrays}

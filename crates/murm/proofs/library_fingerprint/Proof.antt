@@ -1,5 +1,5 @@
 -- `library_fingerprint` meets its contract: a refusal is the check's, and else the fingerprint is the matrix's.
-use mathlib.Core.Path.{_≡_, sym, ap, _∙_}
+use mathlib.Core.Path.{sym, ap, _∙_}
 use borrow.Author.Needs.{needs}
 use Rattle.exact.specs.Answers.{given}
 use Rattle.murm.specs.Entries.{toldQueryCheck}

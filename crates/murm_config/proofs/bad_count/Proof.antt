@@ -1,7 +1,5 @@
 -- `bad_count` meets its contract. Assumes nothing.
-use mathlib.Core.Path.{_≡_}
 use borrow.Author.Tests.{lt-ltb, le-ltb, eq-eqb, ne-eqb}
-use borrow.Author.Needs.{needs}
 use Rattle.murm_config.proofs.bad_count.Statement.{statement}
 use Rattle.murm_config.proofs.bad_count.Tie as tie
 

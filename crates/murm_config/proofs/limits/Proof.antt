@@ -1,6 +1,5 @@
 -- `limits` meets its contract: each test that was passed decides its row. Assumes nothing.
 use mathlib.Core.Path.{sym, _∙_}
-use native.Mathlib.Omega.{arith}
 use borrow.Author.Needs.{needs}
 use borrow.Author.Tests.{not-true, not-false}
 use Rattle.murm_config.specs.Told.{toldConfig}

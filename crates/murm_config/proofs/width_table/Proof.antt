@@ -1,6 +1,4 @@
 -- `width_table` meets its contract: each number has its field. Assumes nothing.
-use mathlib.Core.Path.{_≡_}
-use borrow.Author.Needs.{needs}
 use Rattle.murm_config.proofs.Fields.{other-width}
 use Rattle.murm_config.proofs.width_table.Statement.{statement}
 use Rattle.murm_config.proofs.width_table.Tie as tie

@@ -1,6 +1,4 @@
 -- `with_width` meets its contract: each number has its field. Assumes nothing.
-use mathlib.Core.Path.{_≡_}
-use borrow.Author.Needs.{needs}
 use Rattle.murm_config.proofs.Fields.{is-five}
 use Rattle.murm_config.proofs.with_width.Statement.{statement}
 use Rattle.murm_config.proofs.with_width.Tie as tie

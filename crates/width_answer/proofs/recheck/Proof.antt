@@ -1,9 +1,7 @@
 -- `recheck` meets its contract: the list's answer decides whether every step fits, and the places hold its product.
-use mathlib.Core.Path.{_≡_, sym, subst}
-use mathlib.Core.List.{List}
+use mathlib.Core.Path.{_≡_, sym}
 use Prim.Native.Nat.{ℕ, _*_, _^_, _≤_}
 use native.Mathlib.Omega.{arith}
-use lib.IntN.{ℤ}
 use borrow.Author.Needs.{needs}
 use Rattle.places.specs.Places.{places}
 use Rattle.places.proofs.Placed.{area-le}

@@ -1,10 +1,6 @@
 -- `node_matrix` meets its contract: the node's chain is good, and every step of its list fits. Assumes nothing.
-use mathlib.Core.Path.{_≡_, subst}
-use mathlib.Core.List.{List}
-use Prim.Native.Nat.{ℕ}
 use native.Mathlib.Omega.{arith}
 use borrow.Author.Needs.{needs}
-use lib.IntN.{ℤ}
 use Rattle.lists.proofs.Walking.{ended-at}
 use Rattle.synthesis_arena.proofs.Told.{circuit-read, circuit-refused}
 use Rattle.width_table.proofs.Lists.{chain-not-bad, read-valid, read-fits, read-not-unfit}

@@ -9,16 +9,19 @@ use native.Mathlib.Omega.{arith}
 use borrow.Author.Tests.{le-ltb, ne-eqb}
 use Rattle.exact.specs.Matrix.{Lowest}
 use Rattle.exact.specs.Unitary.{Unitary}
-use Rattle.walk.specs.AtWidth.{answered}
+use Rattle.walk.specs.AtWidth.{atWidth, answered}
+use Rattle.walk.proofs.Nodes.{link, parents-rise, depth-parent, depths-rise, depths-step}
+use Rattle.walk.proofs.Layers.{walk-shape}
+use Rattle.walk.proofs.Exactly.{prints-distinct}
 use Rattle.walk.specs.Demand3.{Answers}
 use Rattle.walk.proofs.Demand3 as at-width
 use Rattle.width_answer.proofs.Meaning.{kind-of}
-use Rattle.tables.specs.Checks.{firstRow, Arrays, queryRows}
-use Rattle.tables.specs.Tables.{Table, Query, matrixOf, listRow, notAWidth}
+use Rattle.tables.specs.Checks.{firstRow, Limits, Arrays, queryRows}
+use Rattle.tables.specs.Tables.{Table, table, left, buildOf, Query, matrixOf, listRow, notAWidth}
 use Rattle.tables.specs.Built.{Built}
-use Rattle.tables.specs.Demand3.{Gives, GivesNone, Refuses, NotRefused, Decided, a-list, no-list, a-refusal, NoSmaller, Complete, Demand3}
+use Rattle.tables.specs.Demand3.{Gives, GivesNone, Refuses, NotRefused, Decided, a-list, no-list, a-refusal, NoSmaller, Complete, Ordered, Demand3}
 use Rattle.tables.proofs.Rows.{numbered-query, first-here, first-past, firstRow-append}
-use Rattle.tables.proofs.FromBuild.{build-built, build-refused}
+use Rattle.tables.proofs.FromBuild.{build-built, build-refused, built-again}
 use Rattle.tables.proofs.Counts.{counts}
 use Rattle.tables.proofs.Joined.{toldOption}
 use Rattle.tables.proofs.Replies.{number-of, rowOfAnswer, Case, not-a-width, part-asked, by-row, row-refuses, cases}
@@ -106,6 +109,22 @@ module _ (t : Table) (a : Arrays) (b : Built t a) where
           (sym (told-walk t a b q out e f) ∙ n)
       by (by-row r h e m) = absurd (omega (arith, number-of (sym m ∙ n), rows-up-to t a b q out))
 
+-- ---- the nodes of a width
+
+in-order : (l : Limits) (w : ℕ) → w ≤ 5 → Ordered l w
+in-order l w small =
+    let s = walk-shape (atWidth w (l .basis)) (l .gates) (l .entries) in
+    let b = s .layered .grown in
+    record {
+      below = λ j p h. link (atWidth w (l .basis)) b j h p .below;
+      parents-rise = λ i j p q h. parents-rise (atWidth w (l .basis)) b j h i p q;
+      one-deeper = λ j p h. depth-parent (atWidth w (l .basis)) b j h p;
+      depths-rise = λ i j q h. depths-rise (atWidth w (l .basis)) b i j q h;
+      depths-step = λ j h. depths-step (atWidth w (l .basis)) b j h;
+      short = λ j h. s .limit j h;
+      prints-differ = λ i j p h e. prints-distinct w (l .basis) small b i j p h e;
+    }
+
 -- ---- the demand
 
 pub demand : Demand3
@@ -123,4 +142,6 @@ demand = record {
   not-unitary = not-unitary;
   never-13 = λ t a b q out n. never-13 t a b q out n;
   counts = λ t a b w p q. counts t a b w p q;
+  ordered = λ t a b w p q. in-order (t .limits) w (widths-small t a b w q);
+  built-again = λ t a. (built-again t a, λ e. build-built (t .limits) a a t e .0);
 }

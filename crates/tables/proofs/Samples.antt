@@ -33,9 +33,11 @@ use Rattle.synthesis_arena.specs.Lookup.{lowestFrom}
 use Rattle.synthesis_arena.specs.Chains.{marked, chainOf}
 use Rattle.walk.specs.Walk.{skipped, try, tryAll, layer, deeper, depths, walk}
 use Rattle.walk.specs.Answer.{recheck, answerBy}
-use Rattle.walk.specs.AtWidth.{samePrint, atWidth, ListOf, NoSharedPrint, answered}
+use Rattle.walk.specs.AtWidth.{samePrint, atWidth, built, ListOf, NoSharedPrint, SkippedRightly, answered}
 use Rattle.walk.proofs.Nodes.{first}
 use Rattle.walk.proofs.Layers.{walk-shape}
+use Rattle.walk.proofs.Known.{present-no-clash}
+use Rattle.walk.proofs.Exactly.{no-clash}
 use Rattle.walk.proofs.NotEmpty.{no-shared, unsaturated}
 use Rattle.width_table.specs.Table.{printOf}
 use Rattle.width_answer.specs.Answers.{rechecked, answerOf}
@@ -176,7 +178,7 @@ module _ (a : Arrays) (p : Places 2 a) where
   not-refused : NotRefused (recordOf xLimits) (builtTo xLimits 1 a) askT lent
   not-refused r n = absurd (omega (arith, kind-of (sym (none-t lent (omega arith)) ∙ n)))
 
-  no-t : (m : List ℕ) → Reaches (recordOf xLimits) (builtTo xLimits 1 a) askT m → length m ≤ 8 → ⊥
+  no-t : (m : List ℕ) → Reaches (recordOf xLimits) askT m → length m ≤ 8 → ⊥
   unfolding recordOf
   no-t m r h =
       complete askT refl .none-exactly (omega arith) (omega arith) unsaturated lent not-refused .0 (none-t lent (omega arith)) m r h
@@ -185,6 +187,12 @@ module _ (a : Arrays) (p : Places 2 a) where
   zero-passes out h r n =
       not-refusal (answered 1 2 8 2 (matrixOf askZero)) r out
       (sym (told xLimits (builtTo xLimits 1 a) a-table askZero out (computed .zero-passes) h (omega arith) (omega arith)) ∙ n)
+
+skipped-rightly : SkippedRightly 1 2 8 2
+skipped-rightly =
+    let s = walk-shape (atWidth 1 2) 8 2 in
+    present-no-clash (atWidth 1 2) (PowerOf 1) 8 (no-clash 1 2 (omega arith) 8 (no-shared 8)) (built 1 2 8 2 .nodes) (s .layered .grown) (s .limit)
+    (built 1 2 8 2 .depth) (s .depth)
 
 -- ---- a larger table
 
@@ -243,6 +251,8 @@ samples = record {
   t-is = t-is;
   builds = λ a p. build-fills xLimits a (fills xLimits a (computed .x-limits) p);
   a-table = λ a p. a-table a p;
+  no-shared = no-shared 8;
+  skipped-rightly = skipped-rightly;
   complete = λ a p q e. complete a p q e;
   unsaturated = unsaturated;
   gives-x = λ a p out h. gives-x a p out h;

@@ -4,12 +4,14 @@ use mathlib.Core.Path.{_≡_}
 use mathlib.Core.Logic.{_↔_, _⊎_}
 use mathlib.Core.Bool.{false}
 use mathlib.Core.List.{List, _++_}
-use Prim.Native.Nat.{ℕ, _≤_, _<_}
-use lib.ListN.{length, drop}
+use Prim.Native.Nat.{ℕ, suc, _≤_, _<_}
+use lib.ListN.{length, getD, drop}
 use Rattle.exact.specs.Matrix.{PowerOf}
 use Rattle.exact.specs.Lists.{product}
 use Rattle.exact.specs.Unitary.{Unitary}
+use Rattle.walk.specs.Walk.{root, listAt, parentAt}
 use Rattle.walk.specs.AtWidth.{ListOf, NoSharedPrint, SkippedRightly}
+use Rattle.width_table.specs.Table.{printOf}
 use Rattle.width_answer.specs.Answers.{given, none, refused, outcome}
 use Rattle.tables.specs.Checks.{Limits, Arrays}
 use Rattle.tables.specs.Tables.{Table, walkOf, table, refusal, left, buildOf, widthAt, Query, matrixOf, synthesized}
@@ -49,19 +51,35 @@ pub record NoSmaller (l l′ : Limits) : Type 0 where
 
 -- ---- a list answered is shortest, none is told exactly where there is no list
 
-module _ (t : Table) (a : Arrays) (q : Query) where
+module _ (t : Table) (q : Query) where
   -- m is a list of the table's basis at the query's width, and its product is a power of omega times the matrix asked
   pub record Reaches (m : List ℕ) : Type 0 where
     pub of-basis : ListOf (q .width) (t .limits .basis) m
     pub power : PowerOf (q .width) (matrixOf q) (product (q .width) m)
 
+module _ (t : Table) (a : Arrays) (q : Query) where
   -- "a list answered is shortest: every list of that basis and width, of any length, whose product is a power of omega times the matrix has at
   -- least as many gates"; "at a built width that is not saturated, a matrix that is not refused gets "none" exactly when no list of that basis
   -- and width within the limit has such a product"
   pub record Complete : Type 0 where
-    pub shortest : (out l : List ℕ) → Gives t a q out l → (m : List ℕ) → Reaches m → length l ≤ length m
+    pub shortest : (out l : List ℕ) → Gives t a q out l → (m : List ℕ) → Reaches t q m → length l ≤ length m
     pub none-exactly : 0 < q .width → q .width ≤ t .limits .qubits → walkOf (t .limits) (q .width) .saturated ≡ false
-        → (out : List ℕ) → NotRefused t a q out → GivesNone t a q out ↔ ((m : List ℕ) → Reaches m → length m ≤ t .limits .gates → ⊥)
+        → (out : List ℕ) → NotRefused t a q out → GivesNone t a q out ↔ ((m : List ℕ) → Reaches t q m → length m ≤ t .limits .gates → ⊥)
+
+-- ---- the nodes of a width, in their order
+
+-- a parent lies below its node, and parents never fall; the depth of a node is one more than its parent's, depths never fall and rise by at most
+-- one, and none is above G; no two nodes have one fingerprint
+pub record Ordered (l : Limits) (w : ℕ) : Type 0 where
+  pub below : (j : ℕ) → 0 < j → j < length (walkOf l w .nodes) → parentAt (walkOf l w .nodes) j < j
+  pub parents-rise : (i j : ℕ) → 0 < i → i ≤ j → j < length (walkOf l w .nodes) → parentAt (walkOf l w .nodes) i ≤ parentAt (walkOf l w .nodes) j
+  pub one-deeper : (j : ℕ) → 0 < j → j < length (walkOf l w .nodes)
+      → length (listAt (walkOf l w .nodes) j) ≡ suc (length (listAt (walkOf l w .nodes) (parentAt (walkOf l w .nodes) j)))
+  pub depths-rise : (i j : ℕ) → i ≤ j → j < length (walkOf l w .nodes) → length (listAt (walkOf l w .nodes) i) ≤ length (listAt (walkOf l w .nodes) j)
+  pub depths-step : (j : ℕ) → suc j < length (walkOf l w .nodes) → length (listAt (walkOf l w .nodes) (suc j)) ≤ suc (length (listAt (walkOf l w .nodes) j))
+  pub short : (j : ℕ) → j < length (walkOf l w .nodes) → length (listAt (walkOf l w .nodes) j) ≤ l .gates
+  pub prints-differ : (i j : ℕ) → i < j → j < length (walkOf l w .nodes)
+      → printOf w (l .basis) (getD (walkOf l w .nodes) i root) ≡ printOf w (l .basis) (getD (walkOf l w .nodes) j root) → ⊥
 
 -- ---- the demand
 
@@ -92,3 +110,7 @@ pub record Demand3 : Type 0 where
   pub never-13 : (t : Table) (a : Arrays) → Built t a → (q : Query) (out : List ℕ) → Refuses t a q out 13 → ⊥
   pub counts : (t : Table) (a : Arrays) → Built t a → (w : ℕ) → 0 < w → w ≤ t .limits .qubits
       → (0 < widthAt t w .count) × (widthAt t w .count ≤ t .limits .entries)
+  -- the nodes that a built table holds are in order
+  pub ordered : (t : Table) (a : Arrays) → Built t a → (w : ℕ) → 0 < w → w ≤ t .limits .qubits → Ordered (t .limits) w
+  -- the arrays hold the record's table exactly where a build of its limits in them returns the record and changes nothing
+  pub built-again : (t : Table) (a : Arrays) → Built t a ↔ (buildOf (t .limits) a ≡ left (table t) a)

@@ -10,6 +10,7 @@ use Rattle.exact.specs.Matrix.{Equal, PowerOf}
 use Rattle.exact.specs.Lists.{product}
 use Rattle.exact.specs.Unitary.{Unitary}
 use Rattle.exact.specs.Fingerprint.{fingerprint}
+use Rattle.walk.specs.AtWidth.{NoSharedPrint, SkippedRightly}
 use Rattle.tables.specs.Checks.{Limits, Arrays, arrays}
 use Rattle.tables.specs.Tables.{walkOf, recordOf, builtTo, table, left, buildOf, Query, query, matrixOf}
 use Rattle.tables.specs.Built.{Built}
@@ -81,12 +82,14 @@ pub record Samples : Type 0 where
   pub builds : (a : Arrays) → Places 2 a → buildOf xLimits a ≡ left (table (recordOf xLimits)) (builtTo xLimits 1 a)
   pub a-table : (a : Arrays) → Places 2 a → Built (recordOf xLimits) (builtTo xLimits 1 a)
   -- (c): every condition is met, so what (c) states holds of each query of width 1, and width 1 is not saturated
+  pub no-shared : NoSharedPrint 1 2 8
+  pub skipped-rightly : SkippedRightly 1 2 8 2
   pub complete : (a : Arrays) → Places 2 a → (q : Query) → q .width ≡ 1 → Complete (recordOf xLimits) (builtTo xLimits 1 a) q
   pub unsaturated : walkOf xLimits 1 .saturated ≡ false
   -- X gets the list X; T gets none, and so no list of X within 8 gates has its product
   pub gives-x : (a : Arrays) → Places 2 a → (out : List ℕ) → 8 ≤ length out → Gives (recordOf xLimits) (builtTo xLimits 1 a) askX out (4096 ∷ [])
   pub none-t : (a : Arrays) → Places 2 a → (out : List ℕ) → 8 ≤ length out → GivesNone (recordOf xLimits) (builtTo xLimits 1 a) askT out
-  pub no-t : (a : Arrays) → Places 2 a → (m : List ℕ) → Reaches (recordOf xLimits) (builtTo xLimits 1 a) askT m → length m ≤ 8 → ⊥
+  pub no-t : (a : Arrays) → Places 2 a → (m : List ℕ) → Reaches (recordOf xLimits) askT m → length m ≤ 8 → ⊥
   -- (b): a larger table gives the same list where the lent list has G places, and refuses by 12 where it has fewer
   pub no-smaller : NoSmaller xLimits largerLimits
   pub larger-table : (a : Arrays) → Places 6 a → Built (recordOf largerLimits) (builtTo largerLimits 2 a)

@@ -1,4 +1,4 @@
--- What the public entries answer, for every input: the values, or the refusal's number and position, and what the lent bytes then hold.
+-- What the public entries answer, for every input: the values, or the refusal's number and position, and what the lent places then hold.
 -- Assumes nothing.
 use mathlib.Core.List.{List, [], _∷_}
 use Prim.Native.Nat.{ℕ, zero, suc, _*_, _^_}
@@ -30,7 +30,7 @@ use Rattle.murm.specs.declared.Building.the-variants as b
 use Rattle.murm.specs.declared.Synthesized.{Synthesized}
 use Rattle.murm.specs.declared.Synthesized.the-variants as s
 
--- ---- sizes and tests of document 01's table "Checked, and where"
+-- ---- row 7
 
 -- the position of the first code that is not valid; the number of codes if all are
 abbrev pub firstInvalid : ℕ → List ℕ → ℕ

@@ -15,7 +15,7 @@ pub record PastLimit (x : ℤ) (r : Bool) : Type 0 where
   pub told : r ≡ eqZ x (negsuc limit)
   pub small : r ≡ false → natAbs x ≤ limit
 
--- the same of all coefficients
+-- whether no coefficient is -128; then all are within the limit
 pub record InRange (l : List ℤ) (r : Bool) : Type 0 where
   pub told : r ≡ not (anyBelow l)
   pub small : r ≡ true → (i : ℕ) → i < length l → natAbs (getD l i (pos 0)) ≤ limit

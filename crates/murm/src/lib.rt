@@ -131,7 +131,7 @@ fn is_divisible(entries: &[Coefficient], n: usize, k: u16) -> bool
 }
 
 // Whether a matrix may be asked; else which of the rows 6, 9, 10, 11 is the first to refuse it.
-pub enum QueryCheck {
+enum QueryCheck {
     Allowed,
     WidthTooLarge,
     LengthNotExact,
@@ -140,7 +140,7 @@ pub enum QueryCheck {
 }
 
 // The checks of a query.
-pub fn check_query(width: u32, exponent: u16, entries: &[Coefficient]) -> QueryCheck
+fn check_query(width: u32, exponent: u16, entries: &[Coefficient]) -> QueryCheck
     ensures { λ r. ⌜ Checked width exponent (now (entries .entry)) (toldQueryCheck r) ⌝ }
 {
     if width > 5 {
@@ -187,7 +187,8 @@ pub enum Building {
     ArrayTooShort,
 }
 
-// "a table is built": rows 1, 2, 3, 4, 5. A refusal leaves the three arrays as they were.
+// "a table is built": rows 1, 2, 3, 4, 5. A refusal leaves the three arrays as they were; else widths 1 to Q are filled, and all other places
+// keep what they held.
 pub fn build(
     config: MurmConfig,
     fingerprints: &mut [u64],
@@ -277,13 +278,13 @@ fn ask_part(
     ensures { λ r. ⌜ replied (toldSynthesized r) (now (out .exit)) ≡ partAsked (toldMurm table) (arrays (now (fingerprints .entry)) (now (parents .entry)) (now (codes .entry))) (query width exponent (now (matrix .entry))) (now (out .entry)) ⌝ }
 {
     let e = table.config.max_entries_per_qubit as usize;
-    let a = (width as usize - 1) * e;
+    let start = (width as usize - 1) * e;
     let row = murm_config::width_table(table, width);
     match ask_from(
         fingerprints,
         parents,
         codes,
-        a,
+        start,
         e,
         row.count,
         width,

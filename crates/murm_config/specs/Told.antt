@@ -1,8 +1,6 @@
--- The numbers and values of the structs and of each case of an enum. Assumes nothing.
-use mathlib.Core.Bool.{Bool, not, _&&_, _||_}
+-- The numbers and values of the structs and of each case of an enum, and what the functions on a record give. Assumes nothing.
 use mathlib.Core.List.{[], _∷_}
 use Prim.Native.Nat.{ℕ, _-_}
-use lib.Dec.{eqb, ltb}
 use lib.ListN.{set, replicate}
 use Rattle.tables.specs.Checks.{Limits}
 use Rattle.tables.specs.Tables.{Width, Table, notBuilt}
@@ -31,10 +29,6 @@ toldMurm m = record {
   limits = toldConfig (m .config);
   widths = toldWidth (m .width1) ∷ toldWidth (m .width2) ∷ toldWidth (m .width3) ∷ toldWidth (m .width4) ∷ toldWidth (m .width5) ∷ [];
 }
-
--- a count at a width, by the limits
-abbrev pub badCountOf : ℕ → ℕ → ℕ → ℕ → Bool
-badCountOf qubits entries w count = not (ltb qubits w) && (eqb count 0 || ltb entries count)
 
 -- no width is built
 abbrev pub emptyOf : Limits → Table

@@ -1,12 +1,10 @@
 // The limits of a table, config.rs of the original, `MurmConfig`; and its record, murm.rs, `Murm`, whose nodes are in three lent arrays.
 ghost use mathlib.Core.Path.{_≡_};
-ghost use mathlib.Core.Bool.{_||_};
 ghost use Prim.Native.Nat.{_<_, _≤_};
-ghost use lib.Dec.{ltb};
-ghost use Rattle.tables.specs.Checks.{firstRow, limitRows, placesOf};
-ghost use Rattle.tables.specs.Tables.{allWidths, widthAt, badCount, recordRow};
+ghost use Rattle.tables.specs.Checks.{firstRow, limitRows, tooShort};
+ghost use Rattle.tables.specs.Tables.{allWidths, widthAt, badCountOf, badCount, recordRow};
 ghost use Rattle.walk.specs.Walk.{any};
-ghost use Rattle.murm_config.specs.Told.{toldConfig, toldLimitCheck, toldWidth, toldMurm, badCountOf, withWidth, emptyOf};
+ghost use Rattle.murm_config.specs.Told.{toldConfig, toldLimitCheck, toldWidth, toldMurm, withWidth, emptyOf};
 use circuit::GateSet;
 use width_table::WidthTable;
 
@@ -65,10 +63,10 @@ pub fn limits(config: MurmConfig) -> LimitCheck
     LimitCheck::Accepted
 }
 
-// Whether an array of these three lengths is shorter than Q × E.
+// Whether one of three arrays of these lengths is shorter than Q × E.
 pub fn too_short(config: MurmConfig, prints: usize, parents: usize, codes: usize) -> bool
     requires { ⌜ (config .«max_qubits» ≤ 5) × (config .«max_entries_per_qubit» ≤ 1000000) ⌝ }
-    ensures { λ r. ⌜ r ≡ (ltb prints (placesOf (toldConfig config)) || (ltb parents (placesOf (toldConfig config)) || ltb codes (placesOf (toldConfig config)))) ⌝ }
+    ensures { λ r. ⌜ r ≡ tooShort (toldConfig config) prints parents codes ⌝ }
 {
     let size = config.max_qubits as usize * config.max_entries_per_qubit as usize;
     if prints < size {

@@ -1,4 +1,4 @@
--- Document 01's table "Checked, and where": the conditions by which a build or an answer is refused. Assumes nothing.
+-- Document 01's table "Checked, and where": rows 1 to 5, and a query's rows 6, 9, 10, 11. Rows 12 and 13 are in Tables.antt. Assumes nothing.
 use mathlib.Core.Bool.{Bool, false, not, _&&_, _||_}
 use mathlib.Core.List.{List, [], _∷_}
 use Prim.Native.Nat.{ℕ, _*_, _^_}
@@ -28,7 +28,7 @@ firstRow (r ∷ rs) = pick (r .holds) (r .number) (firstRow rs)
 
 -- ---- the four limits
 
--- "Width limit Q", "Gate limit G", "Entry limit E", "Basis B"
+-- "Width limit Q", "Gate limit G", "Entry limit E", "Basis B": each a 32-bit number
 pub record Limits : Type 0 where
   pub qubits : ℕ
   pub gates : ℕ
@@ -55,10 +55,13 @@ arrays f u c = record { prints = f; parents = u; codes = c }
 abbrev pub placesOf : Limits → ℕ
 placesOf l = l .qubits * l .entries
 
--- row 5: "an array shorter than Q × E"
+-- "an array shorter than Q × E": by the lengths of the three
+abbrev pub tooShort : Limits → ℕ → ℕ → ℕ → Bool
+tooShort l f u c = ltb f (placesOf l) || (ltb u (placesOf l) || ltb c (placesOf l))
+
+-- row 5
 abbrev pub roomRow : Limits → Arrays → Row
-roomRow l a =
-    row (ltb (length (a .prints)) (placesOf l) || (ltb (length (a .parents)) (placesOf l) || ltb (length (a .codes)) (placesOf l))) 5
+roomRow l a = row (tooShort l (length (a .prints)) (length (a .parents)) (length (a .codes))) 5
 
 -- ---- a query
 

@@ -42,7 +42,7 @@ module _ (t : Table) (a : Arrays) (q : Query) (out : List ℕ) where
     no-list : GivesNone → Decided
     a-refusal : (r : ℕ) → Refuses r → Decided
 
--- "No smaller limit: Q, G and E are each at least the other table's."
+-- "of that basis with no smaller limit": "Q, G and E are each at least the other table's"
 pub record NoSmaller (l l′ : Limits) : Type 0 where
   pub basis : l′ .basis ≡ l .basis
   pub qubits : l .qubits ≤ l′ .qubits

@@ -22,7 +22,7 @@ use Rattle.tables.specs.Demand3.{Gives, GivesNone, Refuses, NotRefused, 
 abbrev pub xLimits : Limits
 xLimits = record { qubits = 1; gates = 8; entries = 2; basis = 2 }
 
--- each limit is larger
+-- Q, G and E are each larger; the basis is the same
 abbrev pub largerLimits : Limits
 largerLimits = record { qubits = 2; gates = 9; entries = 3; basis = 2 }
 

@@ -31,7 +31,7 @@ pub record Table : Type 0 where
 abbrev pub notBuilt : Width
 notBuilt = record { count = 0; depth = 0; saturated = false }
 
--- a width's row; there is none for 0
+-- a width's row; 0 and the numbers above 5 have that of a width that was not built
 abbrev pub widthAt : Table → ℕ → Width
 widthAt t zero = notBuilt
 widthAt t (suc v) = getD (t .widths) v notBuilt
@@ -46,10 +46,11 @@ allWidths = 1 ∷ 2 ∷ 3 ∷ 4 ∷ 5 ∷ []
 abbrev pub walkOf : Limits → ℕ → Build
 walkOf l w = built w (l .basis) (l .gates) (l .entries)
 
--- "entry count, completed depth, saturated": the walk's; a width above Q has zeros
+-- "entry count, completed depth, saturated": the walk's
 abbrev pub widthOf : Build → Width
 widthOf b = record { count = length (b .nodes); depth = b .depth; saturated = b .saturated }
 
+-- a width's row of the record; above Q, which document 01 leaves free, that of a width that was not built
 abbrev pub rowOf : Limits → ℕ → Width
 rowOf l w = pick (ltb (l .qubits) w) notBuilt (widthOf (walkOf l w))
 
@@ -128,8 +129,11 @@ abbrev pub matrixOf : Query → Exact
 matrixOf q = held (q .width) (q .exponent) (q .bytes)
 
 -- "whose count at any width up to Q is 0 or above E"
+abbrev pub badCountOf : ℕ → ℕ → ℕ → ℕ → Bool
+badCountOf qubits entries w count = not (ltb qubits w) && (eqb count 0 || ltb entries count)
+
 abbrev pub badCount : Table → ℕ → Bool
-badCount t w = not (ltb (t .limits .qubits) w) && (eqb (widthAt t w .count) 0 || ltb (t .limits .entries) (widthAt t w .count))
+badCount t w = badCountOf (t .limits .qubits) (t .limits .entries) w (widthAt t w .count)
 
 -- row 13: "a record whose limits break 1 to 4 or whose count at any width up to Q is 0 or above E"
 abbrev pub recordRow : Table → Row

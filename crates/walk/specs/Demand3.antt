@@ -1,4 +1,5 @@
--- Demand 3 at one width, in document 01's words. Lists are oldest gate first. Assumes nothing.
+-- Demand 3 at one width, in document 01's words. Lists are oldest gate first. The demand itself, of the entries, is
+-- tables/specs/Demand3.antt. Assumes nothing.
 use mathlib.Core.Path.{_≡_}
 use mathlib.Core.Logic.{_↔_}
 use mathlib.Core.Bool.{Bool, false}

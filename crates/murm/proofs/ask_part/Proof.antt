@@ -16,8 +16,8 @@ sound c =
     part (toldMurm (c .args .table)) (arrays (c .args .fingerprints .now) (c .args .parents .now) (c .args .codes .now)) (c .args .width) (c .pre .0 .2)
     (c .pre .1 .0) (c .pre .0 .0) (c .pre .0 .1)
 
-mul-a : tie.Need-mul-a
-mul-a c = record { fits = omega (arith, sound (c .before .before .before .before .before) .start) }
+mul-start : tie.Need-mul-start
+mul-start c = record { fits = omega (arith, sound (c .before .before .before .before .before) .start) }
 
 ask-from-requires : tie.Need-ask-from-requires
 ask-from-requires c κs =
@@ -59,7 +59,7 @@ ask-part-spec =
     (tie.spec
     (λ c. search needs)
     (λ c. search needs)
-    mul-a
+    mul-start
     (λ c κs. search needs)
     (λ c. search needs)
     ask-from-requires

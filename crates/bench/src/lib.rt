@@ -3,11 +3,16 @@
 ghost use mathlib.Core.Path.{_≡_};
 ghost use Prim.Native.Nat.{_+_, _*_, _^_, _≤_};
 ghost use lib.ListN.{length};
+ghost use lib.Seq.{sets};
 ghost use Rattle.exact.specs.Fits.{AllSmall};
 ghost use Rattle.exact.specs.Fingerprint.{fingerprint};
 ghost use Rattle.places.specs.Places.{read, held};
-ghost use Rattle.murm.specs.Entries.{listed, fingerprinted};
+ghost use Rattle.tables.specs.Checks.{arrays};
+ghost use Rattle.tables.specs.Tables.{query, overlay};
+ghost use Rattle.murm_config.specs.Told.{toldConfig, toldWidth, toldMurm};
+ghost use Rattle.murm.specs.Entries.{listed, fingerprinted, toldBuilding, toldSynthesized};
 ghost use Rattle.bench.specs.Numbers.{orElse};
+ghost use Rattle.bench.specs.Tables.{limitsOf, widthIn, tableOf, digitOf, widthNumbers, numbersOf, buildNumber, recorded, builtAs, benchBuilt, replyNumber, answered, benchAnswered};
 use circuit::GateSet;
 use cyclotomic::Coefficient;
 use murm::Building;
@@ -59,7 +64,9 @@ pub extern "C" fn bench_fingerprint(m: &[Coefficient], n: usize, k: u16) -> u64
 }
 
 // Q, G, E and B.
-fn config_of(q: u32, g: u32, e: u32, b: u32) -> MurmConfig {
+fn config_of(q: u32, g: u32, e: u32, b: u32) -> MurmConfig
+    ensures { λ r. ⌜ toldConfig r ≡ limitsOf q g e b ⌝ }
+{
     MurmConfig {
         max_qubits: q,
         max_gates: g,
@@ -68,7 +75,9 @@ fn config_of(q: u32, g: u32, e: u32, b: u32) -> MurmConfig {
     }
 }
 
-fn digit(b: bool) -> u64 {
+fn digit(b: bool) -> u64
+    ensures { λ r. ⌜ r ≡ digitOf b ⌝ }
+{
     if b {
         return 1;
     }
@@ -78,7 +87,7 @@ fn digit(b: bool) -> u64 {
 // A record as 15 numbers: count, depth and saturated (0 or 1) of each width from 1 to 5. Those of a width stand from a place on.
 fn put_width(numbers: &mut [u64], at: usize, row: WidthTable)
     requires { ⌜ at + 3 ≤ length (now numbers) ⌝ }
-    ensures { λ _. ⌜ length (now (numbers .exit)) ≡ length (now (numbers .entry)) ⌝ }
+    ensures { λ _. ⌜ now (numbers .exit) ≡ sets (now (numbers .entry)) at (widthNumbers (toldWidth row)) ⌝ }
 {
     numbers[at] = row.count as u64;
     numbers[at + 1] = row.depth as u64;
@@ -87,6 +96,7 @@ fn put_width(numbers: &mut [u64], at: usize, row: WidthTable)
 
 fn put_record(numbers: &mut [u64], table: Murm)
     requires { ⌜ 15 ≤ length (now numbers) ⌝ }
+    ensures { λ _. ⌜ now (numbers .exit) ≡ overlay (numbersOf (toldMurm table)) (now (numbers .entry)) ⌝ }
 {
     put_width(numbers, 0, table.width1);
     put_width(numbers, 3, table.width2);
@@ -98,6 +108,7 @@ fn put_record(numbers: &mut [u64], table: Murm)
 // A width's row out of a record; every number other than 0 is saturated.
 fn width_of(numbers: &[u64], at: usize) -> WidthTable
     requires { ⌜ at + 3 ≤ length (now numbers) ⌝ }
+    ensures { λ r. ⌜ toldWidth r ≡ widthIn (now (numbers .entry)) at ⌝ }
 {
     let count = numbers[at] as usize;
     let depth = numbers[at + 1] as usize;
@@ -111,6 +122,7 @@ fn width_of(numbers: &[u64], at: usize) -> WidthTable
 
 fn murm_of(config: MurmConfig, numbers: &[u64]) -> Murm
     requires { ⌜ 15 ≤ length (now numbers) ⌝ }
+    ensures { λ r. ⌜ toldMurm r ≡ tableOf (toldConfig config) (now (numbers .entry)) ⌝ }
 {
     let width1 = width_of(numbers, 0);
     let width2 = width_of(numbers, 3);
@@ -130,6 +142,8 @@ fn murm_of(config: MurmConfig, numbers: &[u64]) -> Murm
 // What a build came to: 0, with the record, or the number of the refusal.
 fn built(building: Building, numbers: &mut [u64]) -> u64
     requires { ⌜ 15 ≤ length (now numbers) ⌝ }
+    ensures { λ r. ⌜ r ≡ buildNumber (toldBuilding building) ⌝ }
+    ensures { λ _. ⌜ now (numbers .exit) ≡ recorded (toldBuilding building) (now (numbers .entry)) ⌝ }
 {
     match building {
         Building::Table(table) => {
@@ -155,7 +169,9 @@ pub extern "C" fn bench_build(
     parents: &mut [u32],
     codes: &mut [u32],
     numbers: &mut [u64],
-) -> u64 {
+) -> u64
+    ensures { λ r. ⌜ builtAs r (arrays (now (fingerprints .exit)) (now (parents .exit)) (now (codes .exit))) (now (numbers .exit)) ≡ benchBuilt (limitsOf q g e b) (arrays (now (fingerprints .entry)) (now (parents .entry)) (now (codes .entry))) (now (numbers .entry)) ⌝ }
+{
     if numbers.len() < 15 {
         return 99;
     }
@@ -163,8 +179,24 @@ pub extern "C" fn bench_build(
     built(building, numbers)
 }
 
-// The entry for answers: how many gates, with the list in the first places of `out`; 1000 for none; 2000 and the number of the refusal.
-// 2099 for a record of less than 15 places.
+// How many gates; 1000 for none; 2000 and the number of the refusal.
+fn reply(told: Synthesized) -> u64
+    ensures { λ r. ⌜ r ≡ replyNumber (toldSynthesized told) ⌝ }
+{
+    match told {
+        Synthesized::Circuit(m) => m as u64,
+        Synthesized::Nothing => 1000,
+        Synthesized::ArrayTooShort => 2005,
+        Synthesized::WidthTooLarge => 2006,
+        Synthesized::LengthNotExact => 2009,
+        Synthesized::OutOfRange => 2010,
+        Synthesized::NotLowest => 2011,
+        Synthesized::ListTooShort => 2012,
+        Synthesized::BadTable => 2013,
+    }
+}
+
+// The entry for answers, with the list in the first places of `out`. 2099 for a record of less than 15 places.
 #[no_mangle]
 pub extern "C" fn bench_synthesize(
     q: u32,
@@ -179,12 +211,15 @@ pub extern "C" fn bench_synthesize(
     exponent: u16,
     matrix: &[Coefficient],
     out: &mut [u32],
-) -> u64 {
+) -> u64
+    ensures { λ r. ⌜ answered r (now (out .exit)) ≡ benchAnswered (limitsOf q g e b) (now (numbers .entry)) (arrays (now (fingerprints .entry)) (now (parents .entry)) (now (codes .entry))) (query width exponent (now (matrix .entry))) (now (out .entry)) ⌝ }
+{
     if numbers.len() < 15 {
         return 2099;
     }
-    match murm::synthesize(
-        murm_of(config_of(q, g, e, b), numbers),
+    let table = murm_of(config_of(q, g, e, b), numbers);
+    let told = murm::synthesize(
+        table,
         fingerprints,
         parents,
         codes,
@@ -192,15 +227,6 @@ pub extern "C" fn bench_synthesize(
         exponent,
         matrix,
         out,
-    ) {
-        Synthesized::Circuit(m) => m as u64,
-        Synthesized::Nothing => 1000,
-        Synthesized::ArrayTooShort => 2005,
-        Synthesized::WidthTooLarge => 2006,
-        Synthesized::LengthNotExact => 2009,
-        Synthesized::OutOfRange => 2010,
-        Synthesized::NotLowest => 2011,
-        Synthesized::ListTooShort => 2012,
-        Synthesized::BadTable => 2013,
-    }
+    );
+    reply(told)
 }

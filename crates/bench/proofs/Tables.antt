@@ -1,0 +1,52 @@
+-- What the entries for tables come to as numbers: a record that is too short, and else the library's answer. Assumes nothing.
+use mathlib.Core.Path.{_≡_, sym, ap, _∙_}
+use mathlib.Core.List.{List}
+use Prim.Native.Nat.{ℕ, _≤_, _<_}
+use borrow.Author.Tests.{lt-ltb, le-ltb}
+use lib.ListN.{length}
+use Rattle.width_answer.specs.Answers.{Reply, outcome}
+use Rattle.tables.specs.Checks.{Limits, Arrays}
+use Rattle.tables.specs.Tables.{Table, BuildReply, Left, left, overlay, buildOf, Query, synthesized}
+use Rattle.murm_config.specs.Told.{toldMurm}
+use Rattle.murm_config.specs.declared.Murm.{Murm}
+use Rattle.murm.specs.Entries.{toldBuilding}
+use Rattle.murm.specs.declared.Building.{Building}
+use Rattle.murm.specs.declared.Building.the-variants as b
+use Rattle.bench.specs.Tables.{tableOf, numbersOf, buildNumber, recorded, builtAs, builtBy, benchBuilt, replyNumber, answered, answeredBy, benchAnswered}
+
+-- ---- a build
+
+pub table-told : (old : List ℕ) (m : Murm) {t : Building} {new : List ℕ} → t ≡ b.Table m → new ≡ overlay (numbersOf (toldMurm m)) old
+    → (0 ≡ buildNumber (toldBuilding t)) × (new ≡ recorded (toldBuilding t) old)
+table-told old m e h = (
+  ap (λ (x : Building). buildNumber (toldBuilding x)) (sym e),
+  h ∙ ap (λ (x : Building). recorded (toldBuilding x) old) (sym e),
+)
+
+pub short-built : (l : Limits) (a : Arrays) (numbers : List ℕ) → length numbers < 15 → builtAs 99 a numbers ≡ benchBuilt l a numbers
+unfolding benchBuilt
+short-built l a numbers h = rw (lt-ltb (length numbers) 15 h)
+
+pub long-built : (l : Limits) (a : Arrays) (numbers : List ℕ) (t : BuildReply) {l′ : Limits} {a′ : Arrays} {r : ℕ} {new : List ℕ} → 15 ≤ length numbers
+    → l′ ≡ l → left t a′ ≡ buildOf l′ a → r ≡ buildNumber t → new ≡ recorded t numbers → builtAs r a′ new ≡ benchBuilt l a numbers
+unfolding benchBuilt
+long-built l a numbers t {a′} {new} h hl e hr hn =
+    rw (le-ltb (length numbers) 15 h)
+    (ap (λ (z : ℕ). builtAs z a′ new) hr
+    ∙ (ap (builtAs (buildNumber t) a′) hn ∙ ap (λ (o : Left). builtBy o numbers) (e ∙ ap (λ (z : Limits). buildOf z a) hl)))
+
+-- ---- an answer
+
+pub short-answered : (l : Limits) (numbers : List ℕ) (a : Arrays) (q : Query) (out : List ℕ) → length numbers < 15
+    → answered 2099 out ≡ benchAnswered l numbers a q out
+unfolding benchAnswered
+short-answered l numbers a q out h = rw (lt-ltb (length numbers) 15 h)
+
+pub long-answered : (l : Limits) (numbers : List ℕ) (a : Arrays) (q : Query) (out : List ℕ) (t : Reply) {l′ : Limits} {m : Table} {r : ℕ} {new : List ℕ}
+    → 15 ≤ length numbers → l′ ≡ l → m ≡ tableOf l′ numbers → outcome t new ≡ synthesized m a q out → r ≡ replyNumber t
+    → answered r new ≡ benchAnswered l numbers a q out
+unfolding benchAnswered
+long-answered l numbers a q out t {new} h hl hm e hr =
+    rw (le-ltb (length numbers) 15 h)
+    (ap (λ (z : ℕ). answered z new) hr
+    ∙ ap answeredBy (e ∙ ap (λ (z : Table). synthesized z a q out) (hm ∙ ap (λ (z : Limits). tableOf z numbers) hl)))

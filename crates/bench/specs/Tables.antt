@@ -1,0 +1,90 @@
+-- A table's limits and record as numbers, and what a build and an answer come to as numbers. Assumes nothing.
+use mathlib.Core.Bool.{Bool, not}
+use mathlib.Core.List.{List, [], _∷_, _++_}
+use Prim.Native.Nat.{ℕ, _+_}
+use lib.Dec.{eqb, ltb}
+use lib.ListN.{length, getD}
+use Rattle.ints.specs.Lists.{pick}
+use Rattle.width_answer.specs.Answers.{Reply, Outcome, given, none, refused}
+use Rattle.tables.specs.Checks.{Limits, Arrays}
+use Rattle.tables.specs.Tables.{Width, Table, BuildReply, table, refusal, Left, overlay, buildOf, Query, synthesized}
+
+-- ---- a record as 15 numbers: count, depth and saturated (1 or 0) of each width from 1 to 5
+
+abbrev pub limitsOf : ℕ → ℕ → ℕ → ℕ → Limits
+limitsOf q g e b = record { qubits = q; gates = g; entries = e; basis = b }
+
+-- a width's row at the places from i on; every number other than 0 is saturated
+abbrev pub widthIn : List ℕ → ℕ → Width
+widthIn numbers i = record { count = getD numbers i 0; depth = getD numbers (i + 1) 0; saturated = not (eqb (getD numbers (i + 2) 0) 0) }
+
+abbrev pub tableOf : Limits → List ℕ → Table
+tableOf l numbers = record {
+  limits = l;
+  widths = widthIn numbers 0 ∷ widthIn numbers 3 ∷ widthIn numbers 6 ∷ widthIn numbers 9 ∷ widthIn numbers 12 ∷ [];
+}
+
+abbrev pub digitOf : Bool → ℕ
+digitOf b = pick b 1 0
+
+abbrev pub widthNumbers : Width → List ℕ
+widthNumbers w = w .count ∷ w .depth ∷ digitOf (w .saturated) ∷ []
+
+abbrev pub widthsNumbers : List Width → List ℕ
+widthsNumbers [] = []
+widthsNumbers (w ∷ ws) = widthNumbers w ++ widthsNumbers ws
+
+abbrev pub numbersOf : Table → List ℕ
+numbersOf t = widthsNumbers (t .widths)
+
+-- ---- a build
+
+-- 0, or the number of the refusal
+abbrev pub buildNumber : BuildReply → ℕ
+buildNumber (table t) = 0
+buildNumber (refusal r p) = r
+
+-- what the lent record holds: the table's on its first places, and all as they were where the build is refused
+abbrev pub recorded : BuildReply → List ℕ → List ℕ
+recorded (table t) numbers = overlay (numbersOf t) numbers
+recorded (refusal r p) numbers = numbers
+
+-- the number returned, the three arrays and the lent record after it
+pub record Built : Type 0 where
+  pub number : ℕ
+  pub arrays : Arrays
+  pub numbers : List ℕ
+
+abbrev pub builtAs : ℕ → Arrays → List ℕ → Built
+builtAs r a numbers = record { number = r; arrays = a; numbers = numbers }
+
+abbrev pub builtBy : Left → List ℕ → Built
+builtBy o numbers = builtAs (buildNumber (o .reply)) (o .arrays) (recorded (o .reply) numbers)
+
+-- 99 for a record of less than 15 places
+unfoldable pub benchBuilt : Limits → Arrays → List ℕ → Built
+benchBuilt l a numbers = pick (ltb (length numbers) 15) (builtAs 99 a numbers) (builtBy (buildOf l a) numbers)
+
+-- ---- an answer
+
+-- how many gates; 1000 for none; 2000 and the number of the refusal
+abbrev pub replyNumber : Reply → ℕ
+replyNumber (given m) = m
+replyNumber none = 1000
+replyNumber (refused r p) = 2000 + r
+
+-- the number returned, and the lent list after it
+pub record Answered : Type 0 where
+  pub number : ℕ
+  pub list : List ℕ
+
+abbrev pub answered : ℕ → List ℕ → Answered
+answered r out = record { number = r; list = out }
+
+abbrev pub answeredBy : Outcome → Answered
+answeredBy o = answered (replyNumber (o .reply)) (o .list)
+
+-- 2099 for a record of less than 15 places
+unfoldable pub benchAnswered : Limits → List ℕ → Arrays → Query → List ℕ → Answered
+benchAnswered l numbers a q out =
+    pick (ltb (length numbers) 15) (answered 2099 out) (answeredBy (synthesized (tableOf l numbers) a q out))

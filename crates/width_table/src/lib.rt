@@ -7,11 +7,11 @@ ghost use Prim.Native.Nat.{ℕ, suc, _*_, _^_, _-_, _<_, _≤_};
 ghost use lib.ListN.{length};
 ghost use Rattle.circuit.specs.Codes.{valid};
 ghost use Rattle.generators.specs.Generators.{generators};
-ghost use Rattle.exact.specs.Matrix.{Equal};
+ghost use Rattle.exact.specs.Matrix.{Equal, identity};
 ghost use Rattle.exact.specs.Lists.{product};
 ghost use Rattle.exact.specs.Fingerprint.{fingerprint};
 ghost use Rattle.places.specs.Places.{places, held};
-ghost use Rattle.matrix.specs.Step.{IsMatrix, Ready};
+ghost use Rattle.matrix.specs.Step.{Holds, Ready};
 ghost use Rattle.walk.specs.Walk.{listAt, prod, pruned, candidate, try, tryAll, layer, begin, depths};
 ghost use Rattle.walk.specs.AtWidth.{atWidth, fitsBy, built};
 ghost use Rattle.width_table.specs.Table.{prunedAt, printAfter, toldCandidate, unsaturated, Copied, Room, Live, Start, After, Whole, Readable};
@@ -62,14 +62,20 @@ fn is_pruned(codes: &[u32], node: usize, gate: u32) -> bool
     gate < last
 }
 
-// The matrix of a node, formed from its list. The two other arms are never taken.
-fn node_matrix(width: u32, basis: u32, parents: &[u32], codes: &[u32], node: usize) -> UnitaryMatrix
+// The matrix of a node, formed from its list in places that hold the identity. Returns the exponent. The two other arms are never taken.
+fn form_node(
+    m: &mut [Coefficient; 4096],
+    width: u32,
+    basis: u32,
+    parents: &[u32],
+    codes: &[u32],
+    node: usize,
+) -> u16
     requires { ⌜ width ≤ 5 ⌝ }
+    requires { ⌜ Holds width 0 (now m) identity ⌝ }
     requires { ⌜ Readable width basis (now parents) (now codes) node ⌝ }
-    ensures { λ r. ⌜ ((h : Readable width basis (now (parents .entry)) (now (codes .entry)) node) → IsMatrix width (product width (h .list) .k) r (product width (h .list))) ⌝ }
+    ensures { λ r. ⌜ ((h : Readable width basis (now (parents .entry)) (now (codes .entry)) node) → Holds width r (now (m .exit)) (product width (h .list))) ⌝ }
 {
-    let n = width as usize;
-    let start = UnitaryMatrix::identity(n);
     let mut list: [u32; 64] = [0; 64];
     let NodeCircuit::Length(size) = synthesis_arena::circuit(
         parents,
@@ -80,16 +86,11 @@ fn node_matrix(width: u32, basis: u32, parents: &[u32], codes: &[u32], node: usi
         node,
         &mut list,
     ) else {
-        return start;
+        return 0;
     };
-    let mut data = start.data;
-    match lists::apply_gates(&mut data, n, &list[0..size]) {
-        Walked::Fits(k) => UnitaryMatrix {
-            num_qubits: n,
-            denominator_exponent: k,
-            data,
-        },
-        Walked::UnfitAt(_) => start,
+    match lists::apply_gates(m, width as usize, &list[0..size]) {
+        Walked::Fits(k) => k,
+        Walked::UnfitAt(_) => 0,
     }
 }
 
@@ -227,10 +228,10 @@ fn try_node(
     requires { ⌜ Live width basis entries (now fingerprints) (now parents) (now codes) count node (suc node) ⌝ }
     ensures { λ r. ⌜ ((h : Live width basis entries (now (fingerprints .entry)) (now (parents .entry)) (now (codes .entry)) count node (suc node)) → After width basis (h .f0) (h .u0) (h .c0) (tryAll (atWidth width basis) entries (unsaturated (h .ns)) node (generators width basis)) (now (fingerprints .exit)) (now (parents .exit)) (now (codes .exit)) (r .count) (r .saturated)) ⌝ }
 {
-    let m = node_matrix(width, basis, parents, codes, node);
-    let k = m.denominator_exponent;
-    let data = m.data;
-    let mut scratch = m.data;
+    let one = UnitaryMatrix::identity(width as usize);
+    let mut data = one.data;
+    let k = form_node(&mut data, width, basis, parents, codes, node);
+    let mut scratch = one.data;
     let mut n = count;
     let mut j = 0;
     while j < gates.len() {

@@ -1,4 +1,5 @@
 pub mod Columns
 pub mod Tries
+pub mod Copies
 pub mod Lists
 pub mod Loops

@@ -30,8 +30,7 @@ use Rattle.exact.proofs.Keeps.{equal-lowest}
 use Rattle.synthesis_arena.specs.Chains.{Chain, good, bad, then, marked, chainOf}
 use Rattle.synthesis_arena.proofs.Chaining.{chain-more}
 use Rattle.places.specs.Places.{held}
-use Rattle.matrix.specs.Step.{IsMatrix, Ready}
-use Rattle.matrix.specs.declared.UnitaryMatrix.{UnitaryMatrix}
+use Rattle.matrix.specs.Step.{Holds, Ready}
 use Rattle.walk.specs.Walk.{Node, root, listAt, parentAt, prod}
 use Rattle.walk.specs.Answer.{stepsFit, recheck}
 use Rattle.walk.specs.AtWidth.{atWidth}
@@ -114,16 +113,13 @@ module _ {n basis E : ℕ} (small : n ≤ 5) where
     }
 
 -- a matrix formed from a list is ready for a gate, and is the walk's
-module _ (n : ℕ) {m : UnitaryMatrix} (l : List ℕ) (w : IsMatrix n (product n (reverse l) .k) m (product n (reverse l))) where
-  formed : Equal n (held n (m .«denominator_exponent») (m .data)) (product n (reverse l))
-  formed = subst (λ (z : ℕ). Equal n (held n z (m .data)) (product n (reverse l))) (sym (w .exponent)) (w .holds .equal)
+module _ (n : ℕ) {k : ℕ} {m : List ℤ} (l : List ℕ) (w : Holds n k m (product n (reverse l))) where
+  pub formed-ready : Ready n k m
+  formed-ready = record { long = w .long; small = w .small; lowest = equal-lowest n (equal-sym n (w .equal)) (product-lowest n (reverse l)) }
 
-  pub formed-ready : Ready n (m .«denominator_exponent») (m .data)
-  formed-ready = record { long = w .holds .long; small = w .holds .small; lowest = equal-lowest n (equal-sym n formed) (product-lowest n (reverse l)) }
-
-  pub formed-is : (basis : ℕ) → n ≤ 5 → {p : List ℕ} → p ≡ l → Equal n (held n (m .«denominator_exponent») (m .data)) (prod (atWidth n basis) p)
+  pub formed-is : (basis : ℕ) → n ≤ 5 → {p : List ℕ} → p ≡ l → Equal n (held n k m) (prod (atWidth n basis) p)
   formed-is basis small e =
-      subst (λ (x : Exact). Equal n (held n (m .«denominator_exponent») (m .data)) x) (product-is n basis small l ∙ ap (prod (atWidth n basis)) (sym e)) formed
+      subst (λ (x : Exact). Equal n (held n k m) x) (product-is n basis small l ∙ ap (prod (atWidth n basis)) (sym e)) (w .equal)
 
 -- ---- a node's matrix, by the arms of the code
 
@@ -162,11 +158,10 @@ module _ {n basis : ℕ} {u c : List ℕ} {node : ℕ} (h : Readable n basis u c
     pub read-valid : all (valid n) (take (m - 0) new) ≡ true
     read-valid = subst (λ (z : List ℕ). all (valid n) z ≡ true) (sym part) (basis-valid n basis (r .list) (r .gates .valid))
 
-    pub read-fits : {l : List ℤ} {k : ℕ} → Ended n (take (m - 0) new) l (Fits k)
-        → IsMatrix n (product n (h .list) .k) (record { «num_qubits» = n; «denominator_exponent» = k; «data» = l }) (product n (h .list))
+    pub read-fits : {l : List ℤ} {k : ℕ} → Ended n (take (m - 0) new) l (Fits k) → Holds n k l (product n (h .list))
     read-fits {l} {k} w =
         let e = subst (λ (z : List ℕ). Ended n z l (Fits k)) read-is w in
-        record { width = refl; exponent = exponent-is n (h .list) (e .answer); holds = e .end }
+        subst (λ (z : ℕ). Holds n z l (product n (h .list))) (sym (exponent-is n (h .list) (e .answer))) (e .end)
 
     pub read-not-unfit : {l : List ℤ} {i : ℕ} → Ended n (take (m - 0) new) l (UnfitAt i) → ⊥
     read-not-unfit {l} {i} w =

@@ -4,6 +4,7 @@ use mathlib.Core.Bool.{Bool, false, _||_, _&&_}
 use mathlib.Core.List.{List, [], _∷_, _++_, map}
 use Prim.Native.Nat.{ℕ, zero, suc, _≤_, _<_}
 use lib.Dec.{ltb}
+use lib.IntN.{ℤ, pos}
 use lib.ListN.{length, getD, drop}
 use Rattle.ints.specs.Lists.{pick}
 use Rattle.cyclotomic.specs.Told.{doesNotFit}
@@ -36,6 +37,11 @@ printAfter n g x = pick (stepFits n (gateOf n g) x) (given (fingerprint n (act n
 abbrev pub toldCandidate : Candidate → Answer
 toldCandidate (Print f) = given f
 toldCandidate DoesNotFit = refused doesNotFit 0
+
+-- the first i places are another list's, and the length is as it was
+pub record Copied (from old new : List ℤ) (i : ℕ) : Type 0 where
+  pub long : length new ≡ length old
+  pub first : (j : ℕ) → j < i → getD new j (pos 0) ≡ getD from j (pos 0)
 
 -- ---- the arrays
 

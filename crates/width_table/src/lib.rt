@@ -1,21 +1,23 @@
 // The table of one width: node 0, then depth by depth each node of the last layer tries each generator. murm.rs of the original,
-// `Murm::build`, the part for one width. The matrix of a node is formed once from its list, and each generator is tried on a copy of it.
+// `Murm::build`, the part for one width. The matrix of a node is formed once from its list, and each generator is tried on a
+// copy of its places.
 ghost use mathlib.Core.Path.{_≡_};
 ghost use mathlib.Core.Bool.{true, false};
-ghost use Prim.Native.Nat.{ℕ, suc, _-_, _<_, _≤_};
+ghost use Prim.Native.Nat.{ℕ, suc, _*_, _^_, _-_, _<_, _≤_};
 ghost use lib.ListN.{length};
 ghost use Rattle.circuit.specs.Codes.{valid};
 ghost use Rattle.generators.specs.Generators.{generators};
-ghost use Rattle.exact.specs.Matrix.{Equal};
+ghost use Rattle.exact.specs.Matrix.{Equal, identity};
 ghost use Rattle.exact.specs.Lists.{product};
 ghost use Rattle.exact.specs.Fingerprint.{fingerprint};
-ghost use Rattle.places.specs.Places.{held};
-ghost use Rattle.matrix.specs.Step.{IsMatrix, Ready};
+ghost use Rattle.places.specs.Places.{places, held};
+ghost use Rattle.matrix.specs.Step.{Holds, Ready};
 ghost use Rattle.walk.specs.Walk.{listAt, prod, pruned, candidate, try, tryAll, layer, begin, depths};
 ghost use Rattle.walk.specs.AtWidth.{atWidth, fitsBy, built};
-ghost use Rattle.width_table.specs.Table.{prunedAt, printAfter, toldCandidate, unsaturated, Room, Live, Start, After, Whole, Readable};
+ghost use Rattle.width_table.specs.Table.{prunedAt, printAfter, toldCandidate, unsaturated, Copied, Room, Live, Start, After, Whole, Readable};
 use circuit::GateSet;
 use circuit::LibraryGate;
+use cyclotomic::Coefficient;
 use lists::Walked;
 use matrix::Applied;
 use matrix::UnitaryMatrix;
@@ -60,14 +62,20 @@ fn is_pruned(codes: &[u32], node: usize, gate: u32) -> bool
     gate < last
 }
 
-// The matrix of a node, formed from its list. The two other arms are never taken.
-fn node_matrix(width: u32, basis: u32, parents: &[u32], codes: &[u32], node: usize) -> UnitaryMatrix
+// The matrix of a node, formed from its list in places that hold the identity. Returns the exponent. The two other arms are never taken.
+fn form_node(
+    m: &mut [Coefficient; 4096],
+    width: u32,
+    basis: u32,
+    parents: &[u32],
+    codes: &[u32],
+    node: usize,
+) -> u16
     requires { ⌜ width ≤ 5 ⌝ }
+    requires { ⌜ Holds width 0 (now m) identity ⌝ }
     requires { ⌜ Readable width basis (now parents) (now codes) node ⌝ }
-    ensures { λ r. ⌜ ((h : Readable width basis (now (parents .entry)) (now (codes .entry)) node) → IsMatrix width (product width (h .list) .k) r (product width (h .list))) ⌝ }
+    ensures { λ r. ⌜ ((h : Readable width basis (now (parents .entry)) (now (codes .entry)) node) → Holds width r (now (m .exit)) (product width (h .list))) ⌝ }
 {
-    let n = width as usize;
-    let start = UnitaryMatrix::identity(n);
     let mut list: [u32; 64] = [0; 64];
     let NodeCircuit::Length(size) = synthesis_arena::circuit(
         parents,
@@ -78,36 +86,48 @@ fn node_matrix(width: u32, basis: u32, parents: &[u32], codes: &[u32], node: usi
         node,
         &mut list,
     ) else {
-        return start;
+        return 0;
     };
-    let mut data = start.data;
-    match lists::apply_gates(&mut data, n, &list[0..size]) {
-        Walked::Fits(k) => UnitaryMatrix {
-            num_qubits: n,
-            denominator_exponent: k,
-            data,
-        },
-        Walked::UnfitAt(_) => start,
+    match lists::apply_gates(m, width as usize, &list[0..size]) {
+        Walked::Fits(k) => k,
+        Walked::UnfitAt(_) => 0,
     }
 }
 
-// The fingerprint of a matrix after a gate. "A candidate whose matrix does not fit is skipped."
-fn candidate_print(m: UnitaryMatrix, n: usize, gate: u32) -> Candidate
+// The places of a matrix of width n are copied to the first places of another slice.
+fn copy_matrix(to: &mut [Coefficient], from: &[Coefficient], n: usize)
+    requires { ⌜ n ≤ 5 ⌝ }
+    requires { ⌜ (4 * (2 ^ n * 2 ^ n) ≤ length (now to)) × (4 * (2 ^ n * 2 ^ n) ≤ length (now from)) ⌝ }
+    ensures { λ _. ⌜ Copied (now (from .entry)) (now (to .entry)) (now (to .exit)) (4 * (2 ^ n * 2 ^ n)) ⌝ }
+{
+    let size = 4 * places::area(n);
+    let mut i = 0;
+    while i < size {
+        to[i] = from[i];
+        i += 1;
+    }
+}
+
+// The fingerprint of a matrix after a gate, which is applied to a copy in `scratch`. "A candidate whose matrix does not fit is skipped."
+fn candidate_print(
+    m: &[Coefficient],
+    exponent: u16,
+    n: usize,
+    gate: u32,
+    scratch: &mut [Coefficient; 4096],
+) -> Candidate
     requires { ⌜ n ≤ 5 ⌝ }
     requires { ⌜ valid n gate ≡ true ⌝ }
-    requires { ⌜ Ready n (m .«denominator_exponent») (m .data) ⌝ }
-    ensures { λ r. ⌜ toldCandidate r ≡ printAfter n gate (held n (m .«denominator_exponent») (m .data)) ⌝ }
+    requires { ⌜ Ready n exponent (now m) ⌝ }
+    requires { ⌜ length (now scratch) ≡ places ⌝ }
+    ensures { λ r. ⌜ toldCandidate r ≡ printAfter n gate (held n exponent (now (m .entry))) ⌝ }
+    ensures { λ _. ⌜ length (now (scratch .exit)) ≡ places ⌝ }
 {
-    let mut data = m.data;
-    let Applied::Done(k) = matrix::apply_gate_left(
-        &mut data,
-        n,
-        LibraryGate(gate),
-        m.denominator_exponent,
-    ) else {
+    copy_matrix(scratch, m, n);
+    let Applied::Done(k) = matrix::apply_gate_left(scratch, n, LibraryGate(gate), exponent) else {
         return Candidate::DoesNotFit;
     };
-    Candidate::Print(prints::unitary_fingerprint(&data, n, k))
+    Candidate::Print(prints::unitary_fingerprint(scratch, n, k))
 }
 
 // "A known fingerprint is skipped. An unknown one at count E sets saturated and ends the width"; "Otherwise the node is appended."
@@ -147,9 +167,11 @@ fn append(
 
 // One candidate: a generator after a node, whose matrix is at hand.
 fn try_candidate(
-    m: UnitaryMatrix,
+    m: &[Coefficient],
+    exponent: u16,
     width: u32,
     gate: u32,
+    scratch: &mut [Coefficient; 4096],
     fingerprints: &mut [u64],
     parents: &mut [u32],
     codes: &mut [u32],
@@ -159,9 +181,11 @@ fn try_candidate(
 ) -> Tried
     requires { ⌜ width ≤ 5 ⌝ }
     requires { ⌜ valid width gate ≡ true ⌝ }
-    requires { ⌜ Ready width (m .«denominator_exponent») (m .data) ⌝ }
+    requires { ⌜ Ready width exponent (now m) ⌝ }
+    requires { ⌜ length (now scratch) ≡ places ⌝ }
     requires { ⌜ Room entries count node (now fingerprints) (now parents) (now codes) ⌝ }
-    ensures { λ r. ⌜ ((basis : ℕ) (h : Live width basis entries (now (fingerprints .entry)) (now (parents .entry)) (now (codes .entry)) count node (suc node)) → Equal width (held width (m .«denominator_exponent») (m .data)) (prod (atWidth width basis) (listAt (h .ns) node)) → After width basis (h .f0) (h .u0) (h .c0) (try (atWidth width basis) entries (unsaturated (h .ns)) node gate) (now (fingerprints .exit)) (now (parents .exit)) (now (codes .exit)) (r .count) (r .saturated)) ⌝ }
+    ensures { λ r. ⌜ ((basis : ℕ) (h : Live width basis entries (now (fingerprints .entry)) (now (parents .entry)) (now (codes .entry)) count node (suc node)) → Equal width (held width exponent (now (m .entry))) (prod (atWidth width basis) (listAt (h .ns) node)) → After width basis (h .f0) (h .u0) (h .c0) (try (atWidth width basis) entries (unsaturated (h .ns)) node gate) (now (fingerprints .exit)) (now (parents .exit)) (now (codes .exit)) (r .count) (r .saturated)) ⌝ }
+    ensures { λ _. ⌜ length (now (scratch .exit)) ≡ places ⌝ }
 {
     if is_pruned(codes, node, gate) {
         return Tried {
@@ -169,7 +193,7 @@ fn try_candidate(
             saturated: false,
         };
     }
-    let Candidate::Print(print) = candidate_print(m, width as usize, gate) else {
+    let Candidate::Print(print) = candidate_print(m, exponent, width as usize, gate, scratch) else {
         return Tried {
             count,
             saturated: false, // "It saturates nothing."
@@ -204,14 +228,19 @@ fn try_node(
     requires { ⌜ Live width basis entries (now fingerprints) (now parents) (now codes) count node (suc node) ⌝ }
     ensures { λ r. ⌜ ((h : Live width basis entries (now (fingerprints .entry)) (now (parents .entry)) (now (codes .entry)) count node (suc node)) → After width basis (h .f0) (h .u0) (h .c0) (tryAll (atWidth width basis) entries (unsaturated (h .ns)) node (generators width basis)) (now (fingerprints .exit)) (now (parents .exit)) (now (codes .exit)) (r .count) (r .saturated)) ⌝ }
 {
-    let m = node_matrix(width, basis, parents, codes, node);
+    let one = UnitaryMatrix::identity(width as usize);
+    let mut data = one.data;
+    let k = form_node(&mut data, width, basis, parents, codes, node);
+    let mut scratch = one.data;
     let mut n = count;
     let mut j = 0;
     while j < gates.len() {
         let t = try_candidate(
-            m,
+            &data,
+            k,
             width,
             gates[j],
+            &mut scratch,
             fingerprints,
             parents,
             codes,

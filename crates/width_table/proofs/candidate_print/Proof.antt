@@ -1,44 +1,57 @@
--- `candidate_print` meets its contract: the gate's step, and its result's fingerprint. Assumes nothing.
-use mathlib.Core.Path.{sym, _∙_}
+-- `candidate_print` meets its contract: the gate's step on the copy, and its result's fingerprint. Assumes nothing.
+use mathlib.Core.Path.{ap, _∙_}
 use native.Mathlib.Omega.{arith}
+use lib.ListN.{length}
 use borrow.Author.Needs.{needs}
 use Rattle.exact.proofs.Answered.{step-given, step-refused}
 use Rattle.exact.proofs.Prints.{fingerprint-equal}
 use Rattle.places.proofs.Placed.{area-le}
 use Rattle.lists.proofs.Walking.{at-answer}
-use Rattle.width_table.proofs.Tries.{given-print, refused-print}
+use Rattle.width_table.proofs.Copies.{copied-ready, copied-given, copied-refused}
 use Rattle.width_table.proofs.candidate_print.Statement.{statement}
 use Rattle.width_table.proofs.candidate_print.Tie as tie
 
+copy-matrix-requires : tie.Need-copy-matrix-requires
+copy-matrix-requires c κs =
+    let p = c .before .pre in
+    (p .0, (omega (arith, area-le _ (p .0), p .1 .1 .1), omega (arith, area-le _ (p .0), p .1 .1 .0 .long)))
+
+apply-gate-left-requires : tie.Need-apply-gate-left-requires
+apply-gate-left-requires c κs =
+    let p = c .before .before .before .pre in
+    (p .0, (p .1 .0, copied-ready _ (c .before .copy-matrix .ensures) _ (p .1 .1 .1) (p .1 .1 .0)))
+
 returns : tie.Need-returns
 returns c =
-    let s = at-answer (c .enum-told .given .1) (c .before .before .apply-gate-left .ensures) in
-    refused-print _ _ _ (step-refused _ _ _ (s .answer))
-
-slice-aggregate-unitary-fingerprint : tie.Need-slice-aggregate-unitary-fingerprint
-slice-aggregate-unitary-fingerprint c =
-    let s = at-answer (c .before .before .k .given .1) (c .before .before .before .before .apply-gate-left .ensures) in
-    sym (s .left .long)
+    let a = c .before .before in
+    let m = a .before .before in
+    let s = at-answer (c .enum-told .given .1) (a .apply-gate-left .ensures) in
+    (copied-refused _ _ _ (m .copy-matrix .ensures) (step-refused _ _ _ (s .answer)), ap length (s .left) ∙ m .copy-matrix .ensures .long ∙ m .before .before .pre .1 .1 .1)
 
 unitary-fingerprint-requires : tie.Need-unitary-fingerprint-requires
 unitary-fingerprint-requires c κs =
-    let s = at-answer (c .before .before .k .given .1) (c .before .before .before .before .apply-gate-left .ensures) in
-    let p = c .before .before .before .before .before .before .before .pre in
+    let k = c .before .before .before in
+    let a = k .before .before in
+    let s = at-answer (k .k .given .1) (a .apply-gate-left .ensures) in
+    let p = a .before .before .before .before .pre in
     (p .0, (omega (arith, area-le _ (p .0), s .left .long), s .left .small))
 
 returns-2 : tie.Need-returns-2
 returns-2 c =
-    let s = at-answer (c .before .before .before .k .given .1) (c .before .before .before .before .before .apply-gate-left .ensures) in
-    given-print _ _ _ (step-given _ _ _ (s .answer)) (c .unitary-fingerprint .ensures ∙ fingerprint-equal _ (s .left .equal))
+    let k = c .before .before .before .before in
+    let a = k .before .before in
+    let m = a .before .before in
+    let s = at-answer (k .k .given .1) (a .apply-gate-left .ensures) in
+    (copied-given _ _ _ (m .copy-matrix .ensures) (step-given _ _ _ (s .answer)) (c .unitary-fingerprint .ensures ∙ fingerprint-equal _ (s .left .equal)), s .left .long)
 
 pub candidate-print-spec : {M : Type 1} → statement M
 candidate-print-spec =
     tie.close
     (tie.spec
-    (λ c κs. search needs)
+    copy-matrix-requires
+    apply-gate-left-requires
     (λ c. search needs)
     (λ c. search needs)
     returns
-    slice-aggregate-unitary-fingerprint
     unitary-fingerprint-requires
     returns-2)

@@ -32,20 +32,30 @@ pub struct UnitaryMatrix {
     pub data: [Coefficient; 4096],
 }
 
+// The identity of width n: 1 at the diagonal's places, 0 at all others.
+pub fn identity_data(n: usize) -> [Coefficient; 4096]
+    requires { ⌜ n ≤ 5 ⌝ }
+    ensures { λ r. ⌜ Holds n 0 r identity ⌝ }
+    ensures { λ r. ⌜ Blank n r ⌝ }
+{
+    let mut data: [Coefficient; 4096] = [0; 4096];
+    let d = places::dim(n);
+    let mut i = 0;
+    while i < d {
+        places::put_at(&mut data, i * (d + 1), Cyclotomic::one());
+        i += 1;
+    }
+    data
+}
+
 impl UnitaryMatrix {
-    // The identity of width n: 1 at the diagonal's places, 0 at all others.
+    // The identity of width n.
     pub fn identity(n: usize) -> UnitaryMatrix
         requires { ⌜ n ≤ 5 ⌝ }
         ensures { λ r. ⌜ IsMatrix n 0 r identity ⌝ }
         ensures { λ r. ⌜ Blank n (r .data) ⌝ }
     {
-        let mut data: [Coefficient; 4096] = [0; 4096];
-        let d = places::dim(n);
-        let mut i = 0;
-        while i < d {
-            places::put_at(&mut data, i * (d + 1), Cyclotomic::one());
-            i += 1;
-        }
+        let data = identity_data(n);
         UnitaryMatrix {
             num_qubits: n,
             denominator_exponent: 0,

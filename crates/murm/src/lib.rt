@@ -21,7 +21,6 @@ use cyclotomic::Coefficient;
 use cyclotomic::LIMIT;
 use cyclotomic::Wide;
 use lists::Walked;
-use matrix::UnitaryMatrix;
 use murm_config::LimitCheck;
 use murm_config::Murm;
 use murm_config::MurmConfig;
@@ -87,8 +86,7 @@ pub fn library_circuit_matrix(width: u32, codes: &[u32], out: &mut [Coefficient]
     if i < codes.len() {
         return Listed::NotValid(i);
     }
-    let m = UnitaryMatrix::identity(n);
-    let mut data = m.data;
+    let mut data = matrix::identity_data(n);
     match lists::apply_gates(&mut data, n, codes) {
         Walked::Fits(k) => {
             copy_places(out, &data[0..size]);

@@ -14,7 +14,6 @@ ghost use Rattle.width_answer.specs.Answers.{rechecked, outcome, ofChain
 use circuit::GateSet;
 use cyclotomic::Coefficient;
 use lists::Walked;
-use matrix::UnitaryMatrix;
 use synthesis_arena::Found;
 use synthesis_arena::NodeCircuit;
 
@@ -33,8 +32,7 @@ pub fn recheck(codes: &[u32], n: usize, exponent: u16, query: &[Coefficient]) ->
     requires { ⌜ AllSmall n (read n (now query)) ⌝ }
     ensures { λ r. ⌜ r ≡ rechecked n (now (codes .entry)) (held n exponent (now (query .entry))) ⌝ }
 {
-    let m = UnitaryMatrix::identity(n);
-    let mut data = m.data;
+    let mut data = matrix::identity_data(n);
     match lists::apply_gates(&mut data, n, codes) {
         Walked::Fits(k) => prints::equivalent_up_to_global_phase(&data, query, n, k, exponent),
         Walked::UnfitAt(_) => false,

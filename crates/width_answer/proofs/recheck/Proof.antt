@@ -22,7 +22,7 @@ slice-aggregate-equivalent-up-to-global-phase c =
 equivalent-up-to-global-phase-requires : tie.Need-equivalent-up-to-global-phase-requires
 equivalent-up-to-global-phase-requires c κs =
     let w = ended-at (c .before .before .k .given .1) (c .before .before .before .before .apply-gates .ensures .0) in
-    let p = c .before .before .before .before .before .before .before .before .before .pre in
+    let p = c .before .before .before .before .before .before .before .before .pre in
     (p .0, ((whole _ _ (p .0) (w .end .long), p .1 .1 .0), (w .end .small, p .1 .1 .1)))
 
 returns : tie.Need-returns

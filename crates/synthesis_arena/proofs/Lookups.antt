@@ -2,7 +2,7 @@
 use mathlib.Core.Path.{_≡_, refl, sym, ap, _∙_, subst}
 use mathlib.Core.Bool.{Bool, true, false, _||_}
 use mathlib.Core.List.{List}
-use Prim.Native.Nat.{ℕ, zero, suc, _+_, _-_, _≤_, _<_}
+use Prim.Native.Nat.{ℕ, zero, suc, _+_, _-_, _%_, _≤_, _<_}
 use native.Mathlib.Numerals.{add-one}
 use native.Mathlib.Omega.{arith}
 use native.Mathlib.Decide.{ℕ-discrete}
@@ -44,13 +44,14 @@ pub record Passed (fps : List ℕ) (from end f i : ℕ) (found : Bool) : Type 0 
 pub passed-none : (fps : List ℕ) (from end f : ℕ) → from ≤ end → Passed fps from end f from false
 passed-none fps from end f h = record { within = h; none-has = λ count p e. refl }
 
-pub passed-more : {fps : List ℕ} {from end f i : ℕ} {found : Bool} → Passed fps from end f i found → i < end
-    → Passed fps from end f (i + 1) (found || eqb (getD fps i 0) f)
-passed-more {fps} {from} {end} {f} {i} {found} w h = record {
+-- one node more: its lower half was compared
+pub passed-more : {fps : List ℕ} {from end f i a b : ℕ} {found : Bool} → Passed fps from end f i found → i < end → a ≡ getD fps i 0 % 4294967296
+    → b ≡ f % 4294967296 → Passed fps from end f (i + 1) (found || eqb a b)
+passed-more {fps} {from} {end} {f} {i} {a} {b} {found} w h p q = record {
   within = omega arith;
-  none-has = λ count p e.
-      let n = neither found (eqb (getD fps i 0) f) e in
-      sym (lookup-on fps count i f (omega arith) (eqb-false (getD fps i 0) f (n .1))) ∙ w .none-has count p (n .0);
+  none-has = λ count l e.
+      let n = neither found (eqb a b) e in
+      sym (lookup-on fps count i f (omega arith) (λ z. eqb-false a b (n .1) (p ∙ ap (λ (v : ℕ). v % 4294967296) z ∙ sym q))) ∙ w .none-has count l (n .0);
 }
 
 -- ---- what the definition says of nodes

@@ -3,7 +3,7 @@
 // decided: "Only caller-altered tables meet 13."
 ghost use mathlib.Core.Path.{_≡_};
 ghost use mathlib.Core.Bool.{false};
-ghost use Prim.Native.Nat.{ℕ, _<_, _≤_};
+ghost use Prim.Native.Nat.{ℕ, _%_, _<_, _≤_};
 ghost use lib.ListN.{length};
 ghost use Rattle.synthesis_arena.specs.Lookup.{lowestFrom, toldFound};
 ghost use Rattle.synthesis_arena.specs.Chains.{marked, chainOf, depthOf, toldDepth, outcome, circuitOf, toldCircuit};
@@ -31,16 +31,24 @@ pub enum NodeCircuit {
     Bad,
 }
 
-// Whether one of the nodes from one on and below another has the fingerprint. There is no early return: this loop is many times faster without
-// one.
-fn has_print(fingerprints: &[u64], from: usize, end: usize, fingerprint: u64) -> bool
+// The lower 32 bits of a fingerprint.
+fn low(fingerprint: u64) -> u32
+    ensures { λ r. ⌜ r ≡ fingerprint % 4294967296 ⌝ }
+{
+    (fingerprint % 4294967296) as u32
+}
+
+// Whether one of the nodes from one on and below another may have the fingerprint: its lower half, four of which are compared at once. There
+// is no early return: this loop is many times faster without one.
+fn may_have(fingerprints: &[u64], from: usize, end: usize, fingerprint: u64) -> bool
     requires { ⌜ (from ≤ end) × (end ≤ length (now fingerprints)) ⌝ }
     ensures { λ r. ⌜ ((count : ℕ) → end ≤ count → r ≡ false → lowestFrom (now (fingerprints .entry)) count end fingerprint ≡ lowestFrom (now (fingerprints .entry)) count from fingerprint) ⌝ }
 {
+    let half = low(fingerprint);
     let mut found = false;
     let mut i = from;
     while i < end {
-        found = found | (fingerprints[i] == fingerprint);
+        found = found | (low(fingerprints[i]) == half);
         i += 1;
     }
     found
@@ -54,7 +62,7 @@ fn skip_blocks(fingerprints: &[u64], count: usize, from: usize, fingerprint: u64
     let mut i = from;
     while 64 <= count - i {
         let end = i + 64;
-        if has_print(fingerprints, i, end, fingerprint) {
+        if may_have(fingerprints, i, end, fingerprint) {
             return i;
         }
         i = end;

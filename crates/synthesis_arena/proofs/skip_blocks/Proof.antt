@@ -20,7 +20,7 @@ loop-again c =
     let l = c .before .before .before .loop in
     let t = c .before .before .loop-test .taken in
     let a = c .before .before .before .before .before .args in
-    (omega (arith, t, l .inv .0), c .before .has-print .ensures (a .count) (omega (arith, t, l .inv .0)) (c .if1 .left) ∙ l .inv .1)
+    (omega (arith, t, l .inv .0), c .before .may-have .ensures (a .count) (omega (arith, t, l .inv .0)) (c .if1 .left) ∙ l .inv .1)
 
 pub skip-blocks-spec : {M : Type 1} → statement M
 skip-blocks-spec =

@@ -1,0 +1,141 @@
+// The lines that the program `circuits` prints, put into a lent array of bytes. Document 01, "The program circuits".
+ghost use mathlib.Core.Path.{_≡_};
+ghost use Prim.Native.Nat.{_+_, _*_, _≤_};
+ghost use lib.ListN.{length};
+ghost use Rattle.circuits_text.specs.Writing.{Put};
+ghost use Rattle.circuits_lines.specs.Lines.{numberThen, refusedLine, noneLine, digitOf, tableLine, nodeLine, nodeLines, spacedCode, spacedCodes, answerLine};
+use circuits_text::NEWLINE;
+use circuits_text::SPACE;
+
+// A number and a byte after it: at most 21 bytes.
+fn put_number(out: &mut [u8], at: usize, n: u64, after: u8) -> usize
+    requires { ⌜ at + 21 ≤ length (now out) ⌝ }
+    ensures { λ r. ⌜ Put at (numberThen n after) r (now (out .entry)) (now (out .exit)) ⌝ }
+    ensures { λ r. ⌜ r ≤ at + 21 ⌝ }
+{
+    let next = circuits_text::put_decimal(out, at, n);
+    circuits_text::put_byte(out, next, after)
+}
+
+// The same for a 32-bit number: at most 11 bytes, where 21 are left.
+fn put_short(out: &mut [u8], at: usize, n: u32, after: u8) -> usize
+    requires { ⌜ at + 21 ≤ length (now out) ⌝ }
+    ensures { λ r. ⌜ Put at (numberThen n after) r (now (out .entry)) (now (out .exit)) ⌝ }
+    ensures { λ r. ⌜ r ≤ at + 11 ⌝ }
+{
+    put_number(out, at, n as u64, after)
+}
+
+// `refused` number position: at most 50 bytes.
+pub fn put_refused(out: &mut [u8], at: usize, number: u64, position: u64) -> usize
+    requires { ⌜ at + 50 ≤ length (now out) ⌝ }
+    ensures { λ r. ⌜ Put at (refusedLine number position) r (now (out .entry)) (now (out .exit)) ⌝ }
+    ensures { λ r. ⌜ r ≤ at + 50 ⌝ }
+{
+    let first = circuits_text::put_bytes(out, at, b"refused ");
+    let second = put_number(out, first, number, SPACE);
+    put_number(out, second, position, NEWLINE)
+}
+
+// `none`: 5 bytes.
+pub fn put_none(out: &mut [u8], at: usize) -> usize
+    requires { ⌜ at + 5 ≤ length (now out) ⌝ }
+    ensures { λ r. ⌜ Put at noneLine r (now (out .entry)) (now (out .exit)) ⌝ }
+    ensures { λ r. ⌜ r ≡ at + 5 ⌝ }
+{
+    circuits_text::put_bytes(out, at, b"none\n")
+}
+
+// 0 or 1.
+fn digit(b: bool) -> u64
+    ensures { λ r. ⌜ r ≡ digitOf b ⌝ }
+{
+    if b {
+        return 1;
+    }
+    0
+}
+
+// `table` width, entries, depth, saturated: at most 90 bytes.
+pub fn put_table_line(
+    out: &mut [u8],
+    at: usize,
+    width: u32,
+    count: usize,
+    depth: usize,
+    saturated: bool,
+) -> usize
+    requires { ⌜ at + 90 ≤ length (now out) ⌝ }
+    ensures { λ r. ⌜ Put at (tableLine width count depth saturated) r (now (out .entry)) (now (out .exit)) ⌝ }
+    ensures { λ r. ⌜ r ≤ at + 90 ⌝ }
+{
+    let first = circuits_text::put_bytes(out, at, b"table ");
+    let second = put_number(out, first, width as u64, SPACE);
+    let third = put_number(out, second, count as u64, SPACE);
+    let fourth = put_number(out, third, depth as u64, SPACE);
+    put_number(out, fourth, digit(saturated), NEWLINE)
+}
+
+// Node, parent, code: at most 33 bytes, where 43 are left.
+fn put_node(out: &mut [u8], at: usize, node: u32, parent: u32, code: u32) -> usize
+    requires { ⌜ at + 43 ≤ length (now out) ⌝ }
+    ensures { λ r. ⌜ Put at (nodeLine node parent code) r (now (out .entry)) (now (out .exit)) ⌝ }
+    ensures { λ r. ⌜ r ≤ at + 33 ⌝ }
+{
+    let first = put_short(out, at, node, SPACE);
+    let second = put_short(out, first, parent, SPACE);
+    put_short(out, second, code, NEWLINE)
+}
+
+// The nodes of a width's filled places: at most 33 bytes each, and 10 more are left.
+pub fn put_nodes(out: &mut [u8], at: usize, parents: &[u32], codes: &[u32], count: usize) -> usize
+    requires { ⌜ (at + 33 * count + 10 ≤ length (now out)) × (count ≤ 1000000) ⌝ }
+    requires { ⌜ (count ≤ length (now parents)) × (count ≤ length (now codes)) ⌝ }
+    ensures { λ r. ⌜ Put at (nodeLines (now (parents .entry)) (now (codes .entry)) count) r (now (out .entry)) (now (out .exit)) ⌝ }
+    ensures { λ r. ⌜ r ≤ at + 33 * count ⌝ }
+{
+    let mut p = at;
+    let mut i = 0;
+    while i < count {
+        p = put_node(out, p, i as u32, parents[i], codes[i]);
+        i += 1;
+    }
+    p
+}
+
+// A code after a space: at most 11 bytes, where 21 are left.
+fn put_code(out: &mut [u8], at: usize, code: u32) -> usize
+    requires { ⌜ at + 21 ≤ length (now out) ⌝ }
+    ensures { λ r. ⌜ Put at (spacedCode code) r (now (out .entry)) (now (out .exit)) ⌝ }
+    ensures { λ r. ⌜ r ≤ at + 11 ⌝ }
+{
+    let next = circuits_text::put_byte(out, at, SPACE);
+    circuits_text::put_decimal(out, next, code as u64)
+}
+
+// Each code after a space: at most 11 bytes each, and 10 more are left.
+fn put_codes(out: &mut [u8], at: usize, codes: &[u32]) -> usize
+    requires { ⌜ at + 11 * length (now codes) + 10 ≤ length (now out) ⌝ }
+    ensures { λ r. ⌜ Put at (spacedCodes (now (codes .entry))) r (now (out .entry)) (now (out .exit)) ⌝ }
+    ensures { λ r. ⌜ r ≤ at + 11 * length (now (codes .entry)) ⌝ }
+{
+    let mut p = at;
+    let mut i = 0;
+    while i < codes.len() {
+        p = put_code(out, p, codes[i]);
+        i += 1;
+    }
+    p
+}
+
+// Gate count, T charge, codes: at most 42 bytes and 11 for each code, and 10 more are left.
+pub fn put_answer(out: &mut [u8], at: usize, codes: &[u32]) -> usize
+    requires { ⌜ at + 11 * length (now codes) + 52 ≤ length (now out) ⌝ }
+    ensures { λ r. ⌜ Put at (answerLine (now (codes .entry))) r (now (out .entry)) (now (out .exit)) ⌝ }
+    ensures { λ r. ⌜ r ≤ at + 11 * length (now (codes .entry)) + 42 ⌝ }
+{
+    let first = put_number(out, at, codes.len() as u64, SPACE);
+    let second = circuits_text::put_decimal(out, first, circuit::t_charge(codes) as u64);
+    let third = put_codes(out, second, codes);
+    circuits_text::put_byte(out, third, NEWLINE)
+}

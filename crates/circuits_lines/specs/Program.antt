@@ -46,27 +46,39 @@ replyText (a.given m) list = answerLine (take m list)
 replyText a.none list = noneLine
 replyText (a.refused number position) list = refusedLine number position
 
+abbrev pub answerText : a.Outcome → List ℕ
+answerText o = replyText (o .reply) (o .list)
+
 -- the list that is lent to an answer: 64 places, as many as G is at most
 unfoldable pub lentList : List ℕ
 lentList = replicate 64 0
 
 -- what the table answers to a matrix
 unfoldable pub matrixText : Table → Arrays → ℕ → ℕ → List ℤ → List ℕ
-matrixText t m width exponent bytes =
-    replyText (synthesized t m (query width exponent bytes) lentList .reply) (synthesized t m (query width exponent bytes) lentList .list)
+matrixText t m width exponent bytes = answerText (synthesized t m (query width exponent bytes) lentList)
 
 -- by the answer to the list, and what the lent bytes then hold
 abbrev pub listedText : Table → Arrays → ℕ → Answer → List ℤ → List ℕ
 listedText t m width (e.given k) bytes = matrixText t m width k bytes
 listedText t m width (e.refused number position) bytes = refusedLine number position
 
+abbrev pub outcomeText : Table → Arrays → ℕ → Outcome → List ℕ
+outcomeText t m width o = listedText t m width (o .answer) (o .bytes)
+
 -- the bytes that are lent for a list's matrix: "exactly 4 × 4^n"; none for a width that is refused
+abbrev pub lentCount : ℕ → ℕ
+lentCount width = pick (ltb 5 width) 0 (byteCount width)
+
 unfoldable pub lentBytes : ℕ → List ℤ
-lentBytes width = replicate (pick (ltb 5 width) 0 (byteCount width)) (pos 0)
+lentBytes width = replicate (lentCount width) (pos 0)
+
+-- as many as the largest matrix takes
+unfoldable pub lentMost : List ℤ
+lentMost = replicate 4096 (pos 0)
 
 -- a list's matrix is asked of the table
 unfoldable pub listText : Table → Arrays → ℕ → List ℕ → List ℕ
-listText t m width codes = listedText t m width (listed width codes (lentBytes width) .answer) (listed width codes (lentBytes width) .bytes)
+listText t m width codes = outcomeText t m width (listed width codes (lentBytes width))
 
 -- "Each later line: width, count up to 256, that many codes."
 abbrev pub isQuery : List ℕ → Bool

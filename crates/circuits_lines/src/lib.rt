@@ -1,11 +1,19 @@
 // The lines that the program `circuits` prints, put into a lent array of bytes. Document 01, "The program circuits".
 ghost use mathlib.Core.Path.{_≡_};
 ghost use Prim.Native.Nat.{_+_, _*_, _≤_};
-ghost use lib.ListN.{length};
+ghost use lib.ListN.{length, take};
+ghost use Rattle.tables.specs.Checks.{arrays};
+ghost use Rattle.murm_config.specs.Told.{toldMurm};
+ghost use Rattle.murm.specs.Entries.{toldSynthesized, listed};
 ghost use Rattle.circuits_text.specs.Writing.{Put};
 ghost use Rattle.circuits_lines.specs.Lines.{numberThen, refusedLine, noneLine, digitOf, tableLine, nodeLine, nodeLines, spacedCode, spacedCodes, answerLine};
+ghost use Rattle.circuits_lines.specs.Program.{replyText, lentList, matrixText, outcomeText, lentCount, lentMost, listText, isQuery, queryText};
 use circuits_text::NEWLINE;
 use circuits_text::SPACE;
+use cyclotomic::Coefficient;
+use murm::Listed;
+use murm::Synthesized;
+use murm_config::Murm;
 
 // A number and a byte after it: at most 21 bytes.
 fn put_number(out: &mut [u8], at: usize, n: u64, after: u8) -> usize
@@ -138,4 +146,195 @@ pub fn put_answer(out: &mut [u8], at: usize, codes: &[u32]) -> usize
     let second = circuits_text::put_decimal(out, first, circuit::t_charge(codes) as u64);
     let third = put_codes(out, second, codes);
     circuits_text::put_byte(out, third, NEWLINE)
+}
+
+// The first m codes of a list, all where it has fewer: at most 746 bytes, where 756 are left.
+fn put_first(out: &mut [u8], at: usize, list: &[u32], m: usize) -> usize
+    requires { ⌜ (at + 756 ≤ length (now out)) × (length (now list) ≤ 64) ⌝ }
+    ensures { λ r. ⌜ Put at (answerLine (take m (now (list .entry)))) r (now (out .entry)) (now (out .exit)) ⌝ }
+    ensures { λ r. ⌜ r ≤ at + 746 ⌝ }
+{
+    if m <= list.len() {
+        return put_answer(out, at, &list[..m]);
+    }
+    put_answer(out, at, list)
+}
+
+// What a table answered, with the list lent to it.
+fn put_reply(out: &mut [u8], at: usize, answer: Synthesized, list: &[u32]) -> usize
+    requires { ⌜ (at + 756 ≤ length (now out)) × (length (now list) ≤ 64) ⌝ }
+    ensures { λ r. ⌜ Put at (replyText (toldSynthesized answer) (now (list .entry))) r (now (out .entry)) (now (out .exit)) ⌝ }
+    ensures { λ r. ⌜ r ≤ at + 746 ⌝ }
+{
+    match answer {
+        Synthesized::Circuit(m) => put_first(out, at, list, m),
+        Synthesized::Nothing => put_none(out, at),
+        Synthesized::ArrayTooShort => put_refused(out, at, 5, 0),
+        Synthesized::WidthTooLarge => put_refused(out, at, 6, 0),
+        Synthesized::LengthNotExact => put_refused(out, at, 9, 0),
+        Synthesized::OutOfRange => put_refused(out, at, 10, 0),
+        Synthesized::NotLowest => put_refused(out, at, 11, 0),
+        Synthesized::ListTooShort => put_refused(out, at, 12, 0),
+        Synthesized::BadTable => put_refused(out, at, 13, 0),
+    }
+}
+
+// The list lent to an answer.
+fn list_space() -> [u32; 64]
+    ensures { λ r. ⌜ r ≡ lentList ⌝ }
+{
+    [0; 64]
+}
+
+// A matrix is asked of the table.
+fn put_matrix(
+    out: &mut [u8],
+    at: usize,
+    table: Murm,
+    prints: &[u64],
+    parents: &[u32],
+    codes: &[u32],
+    width: u32,
+    exponent: u16,
+    bytes: &[Coefficient],
+) -> usize
+    requires { ⌜ at + 756 ≤ length (now out) ⌝ }
+    ensures { λ r. ⌜ Put at (matrixText (toldMurm table) (arrays (now (prints .entry)) (now (parents .entry)) (now (codes .entry))) width exponent (now (bytes .entry))) r (now (out .entry)) (now (out .exit)) ⌝ }
+    ensures { λ r. ⌜ r ≤ at + 746 ⌝ }
+{
+    let mut list = list_space();
+    let answer = murm::synthesize(
+        table,
+        prints,
+        parents,
+        codes,
+        width,
+        exponent,
+        bytes,
+        &mut list,
+    );
+    put_reply(out, at, answer, &list)
+}
+
+// A list's matrix is formed in the lent bytes, and asked of the table.
+fn put_listed(
+    out: &mut [u8],
+    at: usize,
+    table: Murm,
+    prints: &[u64],
+    parents: &[u32],
+    codes: &[u32],
+    width: u32,
+    gates: &[u32],
+    bytes: &mut [Coefficient],
+) -> usize
+    requires { ⌜ at + 756 ≤ length (now out) ⌝ }
+    ensures { λ r. ⌜ Put at (outcomeText (toldMurm table) (arrays (now (prints .entry)) (now (parents .entry)) (now (codes .entry))) width (listed width (now (gates .entry)) (now (bytes .entry)))) r (now (out .entry)) (now (out .exit)) ⌝ }
+    ensures { λ r. ⌜ r ≤ at + 746 ⌝ }
+{
+    match murm::library_circuit_matrix(width, gates, bytes) {
+        Listed::Matrix(k) => put_matrix(out, at, table, prints, parents, codes, width, k, bytes),
+        Listed::WidthTooLarge => put_refused(out, at, 6, 0),
+        Listed::LengthNotExact => put_refused(out, at, 9, 0),
+        Listed::NotValid(i) => put_refused(out, at, 7, i as u64),
+        Listed::DoesNotFit(i) => put_refused(out, at, 8, i as u64),
+    }
+}
+
+// How many bytes a list's matrix takes; none for a width that is refused.
+fn byte_count(width: u32) -> usize
+    ensures { λ r. ⌜ r ≡ lentCount width ⌝ }
+    ensures { λ r. ⌜ r ≤ 4096 ⌝ }
+{
+    match width {
+        0 => 4,
+        1 => 16,
+        2 => 64,
+        3 => 256,
+        4 => 1024,
+        5 => 4096,
+        _ => 0,
+    }
+}
+
+// Bytes for the largest matrix.
+fn byte_space() -> [Coefficient; 4096]
+    ensures { λ r. ⌜ r ≡ lentMost ⌝ }
+{
+    [0; 4096]
+}
+
+// A list's matrix is asked of the table.
+fn put_list(
+    out: &mut [u8],
+    at: usize,
+    table: Murm,
+    prints: &[u64],
+    parents: &[u32],
+    codes: &[u32],
+    width: u32,
+    gates: &[u32],
+) -> usize
+    requires { ⌜ at + 756 ≤ length (now out) ⌝ }
+    ensures { λ r. ⌜ Put at (listText (toldMurm table) (arrays (now (prints .entry)) (now (parents .entry)) (now (codes .entry))) width (now (gates .entry))) r (now (out .entry)) (now (out .exit)) ⌝ }
+    ensures { λ r. ⌜ r ≤ at + 746 ⌝ }
+{
+    let mut bytes = byte_space();
+    let n = byte_count(width);
+    put_listed(
+        out,
+        at,
+        table,
+        prints,
+        parents,
+        codes,
+        width,
+        gates,
+        &mut bytes[..n],
+    )
+}
+
+// "Each later line: width, count up to 256, that many codes."
+fn is_query(numbers: &[u32]) -> bool
+    ensures { λ r. ⌜ r ≡ isQuery (now (numbers .entry)) ⌝ }
+{
+    if numbers.len() < 2 {
+        return false;
+    }
+    if 256 < numbers[1] {
+        return false;
+    }
+    if numbers.len() != numbers[1] as usize + 2 {
+        return false;
+    }
+    true
+}
+
+// A query's line by its numbers: at most 746 bytes, where 756 are left.
+pub fn put_query(
+    out: &mut [u8],
+    at: usize,
+    table: Murm,
+    prints: &[u64],
+    parents: &[u32],
+    codes: &[u32],
+    numbers: &[u32],
+) -> usize
+    requires { ⌜ at + 756 ≤ length (now out) ⌝ }
+    ensures { λ r. ⌜ Put at (queryText (toldMurm table) (arrays (now (prints .entry)) (now (parents .entry)) (now (codes .entry))) (now (numbers .entry))) r (now (out .entry)) (now (out .exit)) ⌝ }
+    ensures { λ r. ⌜ r ≤ at + 746 ⌝ }
+{
+    if !is_query(numbers) {
+        return put_refused(out, at, 14, 0);
+    }
+    put_list(
+        out,
+        at,
+        table,
+        prints,
+        parents,
+        codes,
+        numbers[0],
+        &numbers[2..],
+    )
 }

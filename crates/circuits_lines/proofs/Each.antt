@@ -24,12 +24,12 @@ pub nodes-more :
 unfolding nodeLines
 nodes-more parents codes i = sym (each-more i (λ j. nodeLine j (getD parents j 0) (getD codes j 0)))
 
-each-append : (xs ys : List ℕ) (f : ℕ → List ℕ) → each (xs ++ ys) f ≡ each xs f ++ each ys f
+pub each-append : (xs ys : List ℕ) (f : ℕ → List ℕ) → each (xs ++ ys) f ≡ each xs f ++ each ys f
 unfolding each
 each-append [] ys f = refl
 each-append (x ∷ xs) ys f = rw (each-append xs ys f, append-assoc)
 
-each-one : (x : ℕ) (f : ℕ → List ℕ) → each (x ∷ []) f ≡ f x
+pub each-one : (x : ℕ) (f : ℕ → List ℕ) → each (x ∷ []) f ≡ f x
 unfolding each
 each-one x f = append-nil (f x)
 

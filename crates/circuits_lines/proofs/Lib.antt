@@ -1,3 +1,4 @@
 pub mod Each
 pub mod Replies
 pub mod Queries
+pub mod Widths

@@ -94,15 +94,21 @@ queryTexts t m (l ∷ ls) = readLine l (queryText t m) ++ queryTexts t m ls
 
 -- ---- the table
 
--- a width's row of the record, and its nodes
-unfoldable pub widthText : Table → Arrays → ℕ → List ℕ
-widthText t m w =
-    tableLine w (widthAt t w .count) (widthAt t w .depth) (widthAt t w .saturated)
-    ++ nodeLines (partOf w (t .limits .entries) (m .parents)) (partOf w (t .limits .entries) (m .codes)) (widthAt t w .count)
+-- "`table` width, entries, depth, saturated (0 or 1), then that width's nodes": by the row of the record and the width's places
+unfoldable pub rowText : ℕ → Width → List ℕ → List ℕ → List ℕ
+rowText w row parents codes = tableLine w (row .count) (row .depth) (row .saturated) ++ nodeLines parents codes (row .count)
 
--- "For each width rising it prints .."
-unfoldable pub tableText : Table → Arrays → List ℕ
-tableText t m = each (range 1 (t .limits .qubits)) (widthText t m)
+-- a width of a table
+unfoldable pub widthText : Table → List ℕ → List ℕ → ℕ → List ℕ
+widthText t parents codes w = rowText w (widthAt t w) (partOf w (t .limits .entries) parents) (partOf w (t .limits .entries) codes)
+
+-- "For each width rising it prints ..": widths 1 to q
+unfoldable pub widthTexts : Table → List ℕ → List ℕ → ℕ → List ℕ
+widthTexts t parents codes q = each (range 1 q) (widthText t parents codes)
+
+-- all widths
+abbrev pub tableText : Table → List ℕ → List ℕ → List ℕ
+tableText t parents codes = widthTexts t parents codes (t .limits .qubits)
 
 -- ---- line one, and the whole
 
@@ -112,7 +118,7 @@ limitsOf ns = record { qubits = getD ns 0 0; gates = getD ns 1 0; entries = getD
 
 -- "A refused build prints its refusal and stops too."
 abbrev pub replyThen : BuildReply → Arrays → List InputLine → List ℕ
-replyThen (table t) m ls = tableText t m ++ queryTexts t m ls
+replyThen (table t) m ls = tableText t (m .parents) (m .codes) ++ queryTexts t m ls
 replyThen (refusal number position) m ls = refusedLine number position
 
 -- a table is built in the lent arrays

@@ -1,19 +1,22 @@
 // The lines that the program `circuits` prints, put into a lent array of bytes. Document 01, "The program circuits".
 ghost use mathlib.Core.Path.{_≡_};
-ghost use Prim.Native.Nat.{_+_, _*_, _≤_};
-ghost use lib.ListN.{length, take};
-ghost use Rattle.tables.specs.Checks.{arrays};
-ghost use Rattle.murm_config.specs.Told.{toldMurm};
+ghost use mathlib.Core.Bool.{false};
+ghost use Prim.Native.Nat.{_+_, _*_, _<_, _≤_};
+ghost use lib.ListN.{length, take, drop};
+ghost use Rattle.tables.specs.Checks.{arrays, placesOf};
+ghost use Rattle.tables.specs.Tables.{recordRow};
+ghost use Rattle.murm_config.specs.Told.{toldConfig, toldWidth, toldMurm};
 ghost use Rattle.murm.specs.Entries.{toldSynthesized, listed};
 ghost use Rattle.circuits_text.specs.Writing.{Put};
 ghost use Rattle.circuits_lines.specs.Lines.{numberThen, refusedLine, noneLine, digitOf, tableLine, nodeLine, nodeLines, spacedCode, spacedCodes, answerLine};
-ghost use Rattle.circuits_lines.specs.Program.{replyText, lentList, matrixText, outcomeText, lentCount, lentMost, listText, isQuery, queryText};
+ghost use Rattle.circuits_lines.specs.Program.{replyText, lentList, matrixText, outcomeText, lentCount, lentMost, listText, isQuery, queryText, rowText, widthText, widthTexts};
 use circuits_text::NEWLINE;
 use circuits_text::SPACE;
 use cyclotomic::Coefficient;
 use murm::Listed;
 use murm::Synthesized;
 use murm_config::Murm;
+use width_table::WidthTable;
 
 // A number and a byte after it: at most 21 bytes.
 fn put_number(out: &mut [u8], at: usize, n: u64, after: u8) -> usize
@@ -337,4 +340,92 @@ pub fn put_query(
         numbers[0],
         &numbers[2..],
     )
+}
+
+// A width's line and its nodes: at most 90 bytes and 33 for each node, and 10 more are left.
+fn put_row(
+    out: &mut [u8],
+    at: usize,
+    width: u32,
+    row: WidthTable,
+    parents: &[u32],
+    codes: &[u32],
+) -> usize
+    requires { ⌜ (at + 33 * row .count + 100 ≤ length (now out)) × (row .count ≤ 1000000) ⌝ }
+    requires { ⌜ (row .count ≤ length (now parents)) × (row .count ≤ length (now codes)) ⌝ }
+    ensures { λ r. ⌜ Put at (rowText width (toldWidth row) (now (parents .entry)) (now (codes .entry))) r (now (out .entry)) (now (out .exit)) ⌝ }
+    ensures { λ r. ⌜ r ≤ at + 33 * row .count + 90 ⌝ }
+{
+    let next = put_table_line(out, at, width, row.count, row.depth, row.saturated);
+    put_nodes(out, next, parents, codes, row.count)
+}
+
+// The same for a part of each array.
+fn put_from(
+    out: &mut [u8],
+    at: usize,
+    width: u32,
+    row: WidthTable,
+    start: usize,
+    entries: usize,
+    parents: &[u32],
+    codes: &[u32],
+) -> usize
+    requires { ⌜ (at + 33 * entries + 100 ≤ length (now out)) × (row .count ≤ entries) × (entries ≤ 1000000) ⌝ }
+    requires { ⌜ (start ≤ 5000000) × (start + entries ≤ length (now parents)) × (start + entries ≤ length (now codes)) ⌝ }
+    ensures { λ r. ⌜ Put at (rowText width (toldWidth row) (take entries (drop start (now (parents .entry)))) (take entries (drop start (now (codes .entry))))) r (now (out .entry)) (now (out .exit)) ⌝ }
+    ensures { λ r. ⌜ r ≤ at + 33 * entries + 90 ⌝ }
+{
+    let end = start + entries;
+    put_row(
+        out,
+        at,
+        width,
+        row,
+        &parents[start..end],
+        &codes[start..end],
+    )
+}
+
+// A width of a table.
+fn put_width(
+    out: &mut [u8],
+    at: usize,
+    table: Murm,
+    width: u32,
+    parents: &[u32],
+    codes: &[u32],
+) -> usize
+    requires { ⌜ (0 < width) × (width ≤ table .config .«max_qubits») × (recordRow (toldMurm table) .holds ≡ false) ⌝ }
+    requires { ⌜ (placesOf (toldConfig (table .config)) ≤ length (now parents)) × (placesOf (toldConfig (table .config)) ≤ length (now codes)) ⌝ }
+    requires { ⌜ at + 33 * table .config .«max_entries_per_qubit» + 100 ≤ length (now out) ⌝ }
+    ensures { λ r. ⌜ Put at (widthText (toldMurm table) (now (parents .entry)) (now (codes .entry)) width) r (now (out .entry)) (now (out .exit)) ⌝ }
+    ensures { λ r. ⌜ r ≤ at + 33 * table .config .«max_entries_per_qubit» + 90 ⌝ }
+{
+    let e = table.config.max_entries_per_qubit as usize;
+    let start = (width as usize - 1) * e;
+    let row = murm_config::width_table(table, width);
+    put_from(out, at, width, row, start, e, parents, codes)
+}
+
+// Widths 1 to q of a table, by recursion on q.
+fn put_widths(
+    out: &mut [u8],
+    at: usize,
+    table: Murm,
+    q: u32,
+    parents: &[u32],
+    codes: &[u32],
+) -> usize
+    requires { ⌜ (q ≤ table .config .«max_qubits») × (recordRow (toldMurm table) .holds ≡ false) ⌝ }
+    requires { ⌜ (placesOf (toldConfig (table .config)) ≤ length (now parents)) × (placesOf (toldConfig (table .config)) ≤ length (now codes)) ⌝ }
+    requires { ⌜ at + q * (33 * table .config .«max_entries_per_qubit» + 90) + 10 ≤ length (now out) ⌝ }
+    ensures { λ r. ⌜ Put at (widthTexts (toldMurm table) (now (parents .entry)) (now (codes .entry)) q) r (now (out .entry)) (now (out .exit)) ⌝ }
+    ensures { λ r. ⌜ r ≤ at + q * (33 * table .config .«max_entries_per_qubit» + 90) ⌝ }
+{
+    if q == 0 {
+        return at;
+    }
+    let next = put_widths(out, at, table, q - 1, parents, codes);
+    put_width(out, next, table, q, parents, codes)
 }

@@ -2,3 +2,4 @@ pub mod Each
 pub mod Replies
 pub mod Queries
 pub mod Widths
+pub mod LineReads

@@ -9,7 +9,8 @@ ghost use Rattle.murm_config.specs.Told.{toldConfig, toldWidth, toldMurm};
 ghost use Rattle.murm.specs.Entries.{toldSynthesized, listed};
 ghost use Rattle.circuits_text.specs.Writing.{Put};
 ghost use Rattle.circuits_lines.specs.Lines.{numberThen, refusedLine, noneLine, digitOf, tableLine, nodeLine, nodeLines, spacedCode, spacedCodes, answerLine};
-ghost use Rattle.circuits_lines.specs.Program.{replyText, lentList, matrixText, outcomeText, lentCount, lentMost, listText, isQuery, queryText, rowText, widthText, widthTexts};
+ghost use Rattle.circuits_lines.specs.Program.{ended, readLine, replyText, lentList, matrixText, outcomeText, lentCount, lentMost, listText, isQuery, queryText, rowText, widthText, widthTexts};
+use circuits_text::Line;
 use circuits_text::NEWLINE;
 use circuits_text::SPACE;
 use cyclotomic::Coefficient;
@@ -428,4 +429,32 @@ fn put_widths(
     }
     let next = put_widths(out, at, table, q - 1, parents, codes);
     put_width(out, next, table, q, parents, codes)
+}
+
+// Places for the numbers of a query: a width, a count, 256 codes.
+fn number_space() -> [u32; 258]
+    ensures { λ r. ⌜ 258 ≡ length r ⌝ }
+{
+    [0; 258]
+}
+
+// A query's line, given without its newline: at most 746 bytes, where 756 are left.
+fn put_query_line(
+    out: &mut [u8],
+    at: usize,
+    table: Murm,
+    prints: &[u64],
+    parents: &[u32],
+    codes: &[u32],
+    line: &[u8],
+) -> usize
+    requires { ⌜ at + 756 ≤ length (now out) ⌝ }
+    ensures { λ r. ⌜ Put at (readLine (ended (now (line .entry))) (queryText (toldMurm table) (arrays (now (prints .entry)) (now (parents .entry)) (now (codes .entry))))) r (now (out .entry)) (now (out .exit)) ⌝ }
+    ensures { λ r. ⌜ r ≤ at + 746 ⌝ }
+{
+    let mut numbers = number_space();
+    match circuits_text::numbers(line, &mut numbers) {
+        Line::Numbers(n) => put_query(out, at, table, prints, parents, codes, &numbers[..n]),
+        Line::Broken => put_refused(out, at, 14, 0),
+    }
 }

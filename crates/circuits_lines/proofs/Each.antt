@@ -7,7 +7,7 @@ use native.Mathlib.Numerals.{add-one}
 use native.Mathlib.Omega.{arith}
 use lib.ListN.{length, getD, take, take-append-drop}
 use lib.Seq.{take-suc}
-use Rattle.ints.specs.Lists.{range, each}
+use Rattle.ints.specs.Lists.{each}
 use Rattle.ints.proofs.Runs.{each-none, each-more}
 use Rattle.circuits_text.specs.Writing.{Put}
 use Rattle.circuits_text.proofs.Placing.{put-as, then-put}

@@ -3,3 +3,5 @@ pub mod Replies
 pub mod Queries
 pub mod Widths
 pub mod LineReads
+pub mod InputLines
+pub mod Rooms

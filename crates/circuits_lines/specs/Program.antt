@@ -11,7 +11,7 @@ use Rattle.exact.specs.Answers as e
 use Rattle.width_answer.specs.Answers.{Reply}
 use Rattle.width_answer.specs.Answers as a
 use Rattle.tables.specs.Checks.{Limits, Arrays, arrays, byteCount}
-use Rattle.tables.specs.Tables.{Width, Table, widthAt, BuildReply, table, refusal, Left, buildOf, query, partOf, synthesized}
+use Rattle.tables.specs.Tables.{Width, Table, widthAt, BuildReply, table, refusal, buildOf, query, partOf, synthesized}
 use Rattle.murm.specs.Entries.{Outcome, listed}
 use Rattle.circuits_text.specs.Reading.{newline, words, allNumbers, numbers}
 use Rattle.circuits_lines.specs.Lines.{refusedLine, noneLine, tableLine, nodeLines, answerLine}

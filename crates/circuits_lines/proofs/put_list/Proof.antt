@@ -1,7 +1,6 @@
 -- `put_list` meets its contract. Assumes nothing.
 use mathlib.Core.List.{List}
 use mathlib.Core.Path.{ap}
-use native.Mathlib.Omega.{arith}
 use lib.IntN.{ℤ}
 use Rattle.tables.specs.Checks.{arrays}
 use Rattle.murm.specs.Entries.{listed}

@@ -1,5 +1,4 @@
 -- `put_matrix` meets its contract. Assumes nothing.
-use native.Mathlib.Omega.{arith}
 use Rattle.tables.specs.Checks.{arrays}
 use Rattle.murm_config.specs.Told.{toldMurm}
 use Rattle.circuits_lines.proofs.Replies.{matrix-as}

@@ -3,7 +3,6 @@ use Prim.Native.Nat.{_+_, _-_, _*_, _≤_}
 use native.Mathlib.Omega.{arith}
 use borrow.Author.Needs.{needs}
 use mathlib.Core.Path.{_≡_, ap}
-use lib.ListN.{length}
 use Rattle.circuits_text.proofs.Placing.{put-as}
 use Rattle.circuits_lines.specs.Lines.{nodeLines}
 use Rattle.circuits_lines.proofs.Each.{Laid, laid-none, laid-on, nodes-none, nodes-more}

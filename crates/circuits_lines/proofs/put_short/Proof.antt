@@ -1,5 +1,5 @@
 -- `put_short` meets its contract: a 32-bit number has at most ten digits. Assumes nothing.
-use lib.ListN.{length, length-append}
+use lib.ListN.{length-append}
 use mathlib.Core.List.{[], _∷_}
 use native.Mathlib.Omega.{arith}
 use Rattle.circuits_text.specs.Writing.{decimal}

@@ -5,3 +5,4 @@ pub mod Widths
 pub mod LineReads
 pub mod InputLines
 pub mod Rooms
+pub mod Example

@@ -1,0 +1,8 @@
+pub mod Each
+pub mod Replies
+pub mod Queries
+pub mod Widths
+pub mod LineReads
+pub mod InputLines
+pub mod Rooms
+pub mod Example

@@ -1,0 +1,63 @@
+-- `put_list` meets its contract. Assumes nothing.
+use mathlib.Core.List.{List}
+use mathlib.Core.Path.{ap}
+use lib.IntN.{ℤ}
+use Rattle.tables.specs.Checks.{arrays}
+use Rattle.murm.specs.Entries.{listed}
+use Rattle.murm_config.specs.Told.{toldMurm}
+use Rattle.circuits_text.proofs.Placing.{put-as}
+use Rattle.circuits_lines.specs.Program.{outcomeText, listText}
+use Rattle.circuits_lines.proofs.Queries.{lent-part, lent-length}
+use borrow.Author.Needs.{needs}
+use Rattle.circuits_lines.proofs.put_list.Statement.{statement}
+use Rattle.circuits_lines.proofs.put_list.Tie as tie
+
+-- src/lib.rt:282:21
+byte-space-requires : tie.Need-byte-space-requires
+byte-space-requires c κs = search needs
+
+-- src/lib.rt:283:9
+byte-count-requires : tie.Need-byte-count-requires
+byte-count-requires c κs = search needs
+
+-- src/lib.rt:293:9
+array-borrow-prefix-bytes : tie.Need-array-borrow-prefix-bytes
+array-borrow-prefix-bytes c = search needs
+
+-- src/lib.rt:293:9
+slice-aggregate-put-listed : tie.Need-slice-aggregate-put-listed
+slice-aggregate-put-listed c =
+    let n = c .before .before .byte-count in
+    lent-length (n .result) (c .before .before .before .byte-space .result) (n .ensures .1) (c .before .before .before .byte-space .ensures)
+
+-- src/lib.rt:284:5
+put-listed-requires : tie.Need-put-listed-requires
+put-listed-requires c κs = search needs
+
+-- src/lib.rt:268:1
+same-length : tie.Need-same-length
+same-length c = search needs
+
+-- src/lib.rt:268:1
+returns : tie.Need-returns
+unfolding listText
+returns c =
+    let s = c .before .before .before .before .before .before .before .before .before .before .before .before .before .args in
+    let d = c .before .before .before .put-listed .ensures in
+    let n = c .before .before .before .before .before .before .byte-count in
+    let e = lent-part (s .width) (n .result) (c .before .before .before .before .before .before .before .byte-space .result) (n .ensures .0) (n .ensures .1) (c .before .before .before .before .before .before .before .byte-space .ensures) in (
+      put-as (ap (λ (bytes : List ℤ). outcomeText (toldMurm (s .table)) (arrays (s .prints .now) (s .parents .now) (s .codes .now)) (s .width) (listed (s .width) (s .gates .now) bytes)) e) (d .0),
+      d .1,
+    )
+
+pub put-list-spec : {M : Type 1} → statement M
+put-list-spec =
+    tie.close
+    (tie.spec
+    byte-space-requires
+    byte-count-requires
+    array-borrow-prefix-bytes
+    slice-aggregate-put-listed
+    put-listed-requires
+    same-length
+    returns)

@@ -1,0 +1,93 @@
+-- `put_nodes` meets its contract. Assumes nothing.
+use Prim.Native.Nat.{_+_, _-_, _*_, _≤_}
+use native.Mathlib.Omega.{arith}
+use borrow.Author.Needs.{needs}
+use mathlib.Core.Path.{_≡_, ap}
+use Rattle.circuits_text.proofs.Placing.{put-as}
+use Rattle.circuits_lines.specs.Lines.{nodeLines}
+use Rattle.circuits_lines.proofs.Each.{Laid, laid-none, laid-on, nodes-none, nodes-more}
+use Rattle.circuits_lines.proofs.put_nodes.Statement.{statement}
+use Rattle.circuits_lines.proofs.put_nodes.Tie as tie
+
+abbrev Inv-loop : tie.InvT-loop
+Inv-loop out₀ at parents codes count p₀ i₀ out p i = (i ≤ count) × (p ≤ at + 33 * i) × Laid (nodeLines parents codes i) at p out₀ out
+
+abbrev μ-loop : tie.MeasureT-loop
+μ-loop out₀ at parents codes count p₀ i₀ out p i = count - i
+
+-- src/lib.rt:105:5
+loop-holds : tie.Need-loop-holds Inv-loop μ-loop
+loop-holds c = (omega arith, omega arith, laid-none (nodes-none _ _) (omega arith))
+
+-- src/lib.rt:106:30
+cast-put-node : tie.Need-cast-put-node Inv-loop μ-loop
+cast-put-node c = search needs
+
+-- src/lib.rt:106:40
+mul-put-node : tie.Need-mul-put-node Inv-loop μ-loop
+mul-put-node c = search needs
+
+-- src/lib.rt:106:40
+shared-slice-read-put-node : tie.Need-shared-slice-read-put-node Inv-loop μ-loop
+shared-slice-read-put-node c = search needs
+
+-- src/lib.rt:106:52
+mul-put-node-2 : tie.Need-mul-put-node-2 Inv-loop μ-loop
+mul-put-node-2 c = search needs
+
+-- src/lib.rt:106:52
+shared-slice-read-put-node-2 : tie.Need-shared-slice-read-put-node-2 Inv-loop μ-loop
+shared-slice-read-put-node-2 c = search needs
+
+-- src/lib.rt:106:9
+put-node-requires : tie.Need-put-node-requires Inv-loop μ-loop
+put-node-requires c κs = search needs
+
+-- src/lib.rt:107:9
+add-i : tie.Need-add-i Inv-loop μ-loop
+add-i c = search needs
+
+-- src/lib.rt:105:5
+loop-less : tie.Need-loop-less Inv-loop μ-loop
+loop-less c = search needs
+
+-- src/lib.rt:105:5
+loop-again : tie.Need-loop-again Inv-loop μ-loop
+loop-again c =
+    let l = c .before .before .before .before .before .before .before .loop in
+    let d = c .before .before .put-node in (
+      omega (arith, c .before .before .before .before .before .before .loop-test .taken),
+      omega (arith, l .inv .1, d .ensures .1),
+      laid-on (nodes-more _ _ (l .i)) (l .inv .2) (d .ensures .0) (d .kept .0),
+    )
+
+-- src/lib.rt:91:1
+same-length : tie.Need-same-length Inv-loop μ-loop
+same-length c = search needs
+
+-- src/lib.rt:91:1
+returns : tie.Need-returns Inv-loop μ-loop
+returns c =
+    let l = c .before .loop in
+    let s = c .before .before .before .before .before .args in
+    let e : l .i ≡ s .count = omega (arith, l .inv .0, c .loop-test .left) in
+    (put-as (ap (nodeLines _ _) e) (l .inv .2 .put), omega (arith, l .inv .0, l .inv .1))
+
+pub put-nodes-spec : {M : Type 1} → statement M
+put-nodes-spec =
+    tie.close
+    (tie.spec
+    Inv-loop
+    μ-loop
+    loop-holds
+    cast-put-node
+    mul-put-node
+    shared-slice-read-put-node
+    mul-put-node-2
+    shared-slice-read-put-node-2
+    put-node-requires
+    add-i
+    loop-less
+    loop-again
+    same-length
+    returns)

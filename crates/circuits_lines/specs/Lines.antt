@@ -1,0 +1,56 @@
+-- The lines that the program `circuits` prints, as bytes. Each ends in a newline. Assumes nothing.
+use mathlib.Core.Bool.{Bool}
+use mathlib.Core.List.{List, [], _∷_, _++_}
+use Prim.Native.Nat.{ℕ}
+use lib.ListN.{length, getD}
+use Rattle.ints.specs.Lists.{pick, range, each}
+use Rattle.circuit.specs.Charge.{charge}
+use Rattle.circuits_text.specs.Reading.{space, newline}
+use Rattle.circuits_text.specs.Writing.{decimal}
+
+-- a number, and the byte after it
+abbrev pub numberThen : ℕ → ℕ → List ℕ
+numberThen n after = decimal n ++ (after ∷ [])
+
+-- the bytes of `refused` and of `table`, each with a space after it
+abbrev pub refusedWord : List ℕ
+refusedWord = 114 ∷ 101 ∷ 102 ∷ 117 ∷ 115 ∷ 101 ∷ 100 ∷ space ∷ []
+
+abbrev pub tableWord : List ℕ
+tableWord = 116 ∷ 97 ∷ 98 ∷ 108 ∷ 101 ∷ space ∷ []
+
+-- "`refused` number position"
+unfoldable pub refusedLine : ℕ → ℕ → List ℕ
+refusedLine number position = (refusedWord ++ numberThen number space) ++ numberThen position newline
+
+-- "`none`"
+unfoldable pub noneLine : List ℕ
+noneLine = 110 ∷ 111 ∷ 110 ∷ 101 ∷ newline ∷ []
+
+-- "saturated (0 or 1)"
+abbrev pub digitOf : Bool → ℕ
+digitOf b = pick b 1 0
+
+-- "`table` width, entries, depth, saturated (0 or 1)"
+unfoldable pub tableLine : ℕ → ℕ → ℕ → Bool → List ℕ
+tableLine width entries depth saturated =
+    (((tableWord ++ numberThen width space) ++ numberThen entries space) ++ numberThen depth space) ++ numberThen (digitOf saturated) newline
+
+-- "a line of node, parent, code"
+unfoldable pub nodeLine : ℕ → ℕ → ℕ → List ℕ
+nodeLine node parent code = (numberThen node space ++ numberThen parent space) ++ numberThen code newline
+
+-- "then that width's nodes, each a line of node, parent, code": as many as are filled, from the width's places
+unfoldable pub nodeLines : List ℕ → List ℕ → ℕ → List ℕ
+nodeLines parents codes count = each (range 0 count) (λ i. nodeLine i (getD parents i 0) (getD codes i 0))
+
+-- a code after a space
+abbrev pub spacedCode : ℕ → List ℕ
+spacedCode code = (space ∷ []) ++ decimal code
+
+unfoldable pub spacedCodes : List ℕ → List ℕ
+spacedCodes codes = each codes spacedCode
+
+-- "gate count, T charge and codes"
+unfoldable pub answerLine : List ℕ → List ℕ
+answerLine codes = ((numberThen (length codes) space ++ decimal (charge codes)) ++ spacedCodes codes) ++ (newline ∷ [])

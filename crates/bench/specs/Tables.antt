@@ -4,10 +4,10 @@ use mathlib.Core.List.{List, [], _∷_, _++_}
 use Prim.Native.Nat.{ℕ, _+_}
 use lib.Dec.{eqb, ltb}
 use lib.ListN.{length, getD}
-use Rattle.ints.specs.Lists.{pick}
+use Rattle.ints.specs.Lists.{pick, over}
 use Rattle.width_answer.specs.Answers.{Reply, Outcome, given, none, refused}
 use Rattle.tables.specs.Checks.{Limits, Arrays}
-use Rattle.tables.specs.Tables.{Width, Table, BuildReply, table, refusal, Left, overlay, buildOf, Query, synthesized}
+use Rattle.tables.specs.Tables.{Width, Table, BuildReply, table, refusal, Left, buildOf, Query, synthesized}
 
 -- ---- a record as 15 numbers: count, depth and saturated (1 or 0) of each width from 1 to 5
 
@@ -46,7 +46,7 @@ buildNumber (refusal r p) = r
 
 -- what the lent record holds: the table's on its first places, and all as they were where the build is refused
 abbrev pub recorded : BuildReply → List ℕ → List ℕ
-recorded (table t) numbers = overlay (numbersOf t) numbers
+recorded (table t) numbers = over (numbersOf t) numbers
 recorded (refusal r p) numbers = numbers
 
 -- the number returned, the three arrays and the lent record after it

@@ -4,11 +4,12 @@ ghost use mathlib.Core.Path.{_≡_};
 ghost use Prim.Native.Nat.{_+_, _*_, _^_, _≤_};
 ghost use lib.ListN.{length};
 ghost use lib.Seq.{sets};
+ghost use Rattle.ints.specs.Lists.{over};
 ghost use Rattle.exact.specs.Fits.{AllSmall};
 ghost use Rattle.exact.specs.Fingerprint.{fingerprint};
 ghost use Rattle.places.specs.Places.{read, held};
 ghost use Rattle.tables.specs.Checks.{arrays};
-ghost use Rattle.tables.specs.Tables.{query, overlay};
+ghost use Rattle.tables.specs.Tables.{query};
 ghost use Rattle.murm_config.specs.Told.{toldConfig, toldWidth, toldMurm};
 ghost use Rattle.murm.specs.Entries.{listed, fingerprinted, toldBuilding, toldSynthesized};
 ghost use Rattle.bench.specs.Numbers.{orElse};
@@ -96,7 +97,7 @@ fn put_width(numbers: &mut [u64], at: usize, row: WidthTable)
 
 fn put_record(numbers: &mut [u64], table: Murm)
     requires { ⌜ 15 ≤ length (now numbers) ⌝ }
-    ensures { λ _. ⌜ now (numbers .exit) ≡ overlay (numbersOf (toldMurm table)) (now (numbers .entry)) ⌝ }
+    ensures { λ _. ⌜ now (numbers .exit) ≡ over (numbersOf (toldMurm table)) (now (numbers .entry)) ⌝ }
 {
     put_width(numbers, 0, table.width1);
     put_width(numbers, 3, table.width2);

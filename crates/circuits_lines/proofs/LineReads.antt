@@ -8,11 +8,11 @@ use borrow.Author.Tests.{leb-true, leb-false, le-leb, ne-eqb}
 use lib.Dec.{leb}
 use lib.ListN.{length, getD, take}
 use lib.Seq.{take-all, take-at}
-use Rattle.ints.specs.Lists.{pick}
+use Rattle.ints.specs.Lists.{pick, over}
 use Rattle.ints.proofs.Bools.{both-true}
 use Rattle.tables.specs.Checks.{Arrays}
 use Rattle.tables.specs.Tables.{Table}
-use Rattle.circuits_text.specs.Reading.{words, isNumber, allNumbers, numbers, lineOf, over, ReadInto}
+use Rattle.circuits_text.specs.Reading.{words, isNumber, allNumbers, numbers, lineOf, ReadInto}
 use Rattle.circuits_text.specs.declared.Line.{Line}
 use Rattle.circuits_text.specs.declared.Line.the-variants.{Numbers, Broken}
 use Rattle.circuits_lines.specs.Program.{ended, readLine, brokenText, isQuery, queryText}

@@ -10,12 +10,12 @@ use borrow.Author.Tests.{eq-eqb, ne-eqb, le-leb, lt-leb, leb-true, eqb-true}
 use lib.Dec.{eqb, leb}
 use lib.ListN.{length, getD, set, take, drop, length-append, length-drop, length-set, drop-of-length-le}
 use lib.Seq.{drop-cons, take-at, take-all, set-at, drop-drop}
-use Rattle.ints.specs.Lists.{pick, all}
+use Rattle.ints.specs.Lists.{pick, all, over}
 use Rattle.ints.proofs.Bools.{clash, both-true, and-left, and-right}
 use Rattle.circuits_text.specs.declared.Word.the-variants.{Number, Other}
 use Rattle.circuits_text.specs.declared.Line.{Line}
 use Rattle.circuits_text.specs.declared.Line.the-variants.{Numbers, Broken}
-use Rattle.circuits_text.specs.Reading.{space, before, sameBytes, longer, words, over, ReadInto}
+use Rattle.circuits_text.specs.Reading.{space, before, sameBytes, longer, words, ReadInto}
 use Rattle.circuits_text.specs.Reading.{isDigit, valueFrom, value, isNumber, wordOf, allNumbers, numbers, lineOf}
 
 -- ---- a byte that is looked for

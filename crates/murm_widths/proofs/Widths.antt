@@ -6,9 +6,9 @@ use native.Mathlib.Numerals.{add-one}
 use native.Mathlib.Omega.{arith}
 use lib.Dec.{ltb}
 use lib.ListN.{length}
-use Rattle.ints.specs.Lists.{pick}
+use Rattle.ints.specs.Lists.{pick, over}
 use Rattle.tables.specs.Checks.{Limits}
-use Rattle.tables.specs.Tables.{Width, Table, notBuilt, allWidths, walkOf, widthOf, recordOf, printsOf, parentsOf, codesOf, overlay, within, filledTo}
+use Rattle.tables.specs.Tables.{Width, Table, notBuilt, allWidths, walkOf, widthOf, recordOf, printsOf, parentsOf, codesOf, within, filledTo}
 use Rattle.murm_config.specs.Told.{emptyOf, withWidth}
 use Rattle.murm_widths.specs.Limited.{limitsOf}
 
@@ -58,10 +58,10 @@ done-none column E old = (refl, refl)
 
 -- one width more: its column is new
 pub done-more : (column : ℕ → List ℕ) (E v : ℕ) (new old xs ys : List ℕ) → new ≡ column (v + 1) → length ys ≡ length xs
-    → ys ≡ within (v * E) E (overlay new) xs → Done column E v old xs → Done column E (v + 1) old ys
+    → ys ≡ within (v * E) E (over new) xs → Done column E v old xs → Done column E (v + 1) old ys
 unfolding filledTo
 done-more column E v new old xs ys s l h p =
-    (l ∙ p .0, h ∙ (ap (λ (z : List ℕ). within (v * E) E (overlay z) xs) s ∙ (ap (within (v * E) E (overlay (column (v + 1)))) (p .1) ∙ rw add-one)))
+    (l ∙ p .0, h ∙ (ap (λ (z : List ℕ). within (v * E) E (over z) xs) s ∙ (ap (within (v * E) E (over (column (v + 1)))) (p .1) ∙ rw add-one)))
 
 -- all widths, by columns of equal limits
 pub done-all : (column column′ : ℕ → List ℕ) (E v q : ℕ) (old xs : List ℕ) → column ≡ column′ → v ≡ q → Done column E v old xs

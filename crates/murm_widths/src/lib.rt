@@ -3,8 +3,9 @@
 ghost use mathlib.Core.Path.{_≡_};
 ghost use Prim.Native.Nat.{_+_, _*_, _≤_, _<_};
 ghost use lib.ListN.{length};
+ghost use Rattle.ints.specs.Lists.{over};
 ghost use Rattle.tables.specs.Checks.{placesOf};
-ghost use Rattle.tables.specs.Tables.{widthOf, walkOf, recordOf, printsOf, parentsOf, codesOf, overlay, within, filledTo};
+ghost use Rattle.tables.specs.Tables.{widthOf, walkOf, recordOf, printsOf, parentsOf, codesOf, within, filledTo};
 ghost use Rattle.murm_config.specs.Told.{toldConfig, toldWidth, toldMurm};
 ghost use Rattle.murm_widths.specs.Limited.{limitsOf};
 use circuit::GateSet;
@@ -25,9 +26,9 @@ fn build_part(
     requires { ⌜ (v < 5) × (gates ≤ 64) × (0 < entries) × (entries ≤ 1000000) ⌝ }
     requires { ⌜ (v * entries + entries ≤ length (now fingerprints)) × (v * entries + entries ≤ length (now parents)) × (v * entries + entries ≤ length (now codes)) ⌝ }
     ensures { λ r. ⌜ toldWidth r ≡ widthOf (walkOf (limitsOf gates entries basis) (v + 1)) ⌝ }
-    ensures { λ _. ⌜ now (fingerprints .exit) ≡ within (v * entries) entries (overlay (printsOf (limitsOf gates entries basis) (v + 1))) (now (fingerprints .entry)) ⌝ }
-    ensures { λ _. ⌜ now (parents .exit) ≡ within (v * entries) entries (overlay (parentsOf (limitsOf gates entries basis) (v + 1))) (now (parents .entry)) ⌝ }
-    ensures { λ _. ⌜ now (codes .exit) ≡ within (v * entries) entries (overlay (codesOf (limitsOf gates entries basis) (v + 1))) (now (codes .entry)) ⌝ }
+    ensures { λ _. ⌜ now (fingerprints .exit) ≡ within (v * entries) entries (over (printsOf (limitsOf gates entries basis) (v + 1))) (now (fingerprints .entry)) ⌝ }
+    ensures { λ _. ⌜ now (parents .exit) ≡ within (v * entries) entries (over (parentsOf (limitsOf gates entries basis) (v + 1))) (now (parents .entry)) ⌝ }
+    ensures { λ _. ⌜ now (codes .exit) ≡ within (v * entries) entries (over (codesOf (limitsOf gates entries basis) (v + 1))) (now (codes .entry)) ⌝ }
 {
     let e = entries as usize;
     let a = v as usize * e;

@@ -9,6 +9,7 @@ use borrow.Author.Tests.{eqb-true, ne-eqb}
 use lib.Dec.{eqb}
 use lib.ListN.{length, getD, take, drop, length-map, take-append-drop}
 use lib.Seq.{getD-take, getD-drop, length-take-le, ext-getD}
+use Rattle.ints.specs.Lists.{over}
 use Rattle.ints.proofs.Bools.{clash}
 use Rattle.exact.proofs.Values.{pick-ind}
 use Rattle.walk.specs.Walk.{Node, root, gate}
@@ -17,7 +18,7 @@ use Rattle.walk.proofs.Nodes.{first}
 use Rattle.walk.proofs.Layers.{walk-shape}
 use Rattle.width_table.specs.Table.{printOf, parentOf}
 use Rattle.tables.specs.Checks.{firstRow, Limits, limitRows, Arrays, placesOf, roomRow}
-use Rattle.tables.specs.Tables.{Table, walkOf, recordOf, printsOf, parentsOf, codesOf, overlay, within, filledTo, builtTo}
+use Rattle.tables.specs.Tables.{Table, walkOf, recordOf, printsOf, parentsOf, codesOf, within, filledTo, builtTo}
 use Rattle.tables.specs.Tables.{BuildReply, table, refusal, Left, left, buildRows, leftBy, buildOf}
 use Rattle.tables.specs.Built.{Built}
 use Rattle.tables.proofs.Rows.{numbered-limits, first-none, first-past, firstRow-append, append-none}
@@ -129,8 +130,8 @@ build-refused l a b r p =
 
 -- ---- a build in arrays that hold its nodes
 
-overlay-same : (new old : List ℕ) → length new ≤ length old → ((j : ℕ) → j < length new → getD old j 0 ≡ getD new j 0) → overlay new old ≡ old
-overlay-same new old h f =
+over-same : (new old : List ℕ) → length new ≤ length old → ((j : ℕ) → j < length new → getD old j 0 ≡ getD new j 0) → over new old ≡ old
+over-same new old h f =
     let l = length-take-le (length new) old h in
     let e : take (length new) old ≡ new = ext-getD 0 (take (length new) old) new l
     (λ i p. getD-take (length new) old i 0 (omega (arith, l)) ∙ f i (omega (arith, l))) in
@@ -149,9 +150,9 @@ module _ (column : ℕ → List ℕ) (E : ℕ) (short : (w : ℕ) → length (co
   filled-same (suc q) old h f =
       let r = room-at q (suc q) E (omega arith) in
       let p = part-length (q * E) E old (omega (arith, r)) in
-      ap (within (q * E) E (overlay (column (suc q)))) (filled-same q old (omega (arith, r)) (λ v j lt. f v j (omega arith)))
-      ∙ within-same (q * E) E (overlay (column (suc q))) old
-      (overlay-same (column (suc q)) (take E (drop (q * E) old)) (omega (arith, p, short (suc q)))
+      ap (within (q * E) E (over (column (suc q)))) (filled-same q old (omega (arith, r)) (λ v j lt. f v j (omega arith)))
+      ∙ within-same (q * E) E (over (column (suc q))) old
+      (over-same (column (suc q)) (take E (drop (q * E) old)) (omega (arith, p, short (suc q)))
       (λ j d. getD-take E (drop (q * E) old) j 0 (omega (arith, short (suc q))) ∙ getD-drop (q * E) old j 0 ∙ f q j (omega arith) d))
 
 module _ (l : Limits) (some : 0 < l .entries) (p : ℕ → Node → ℕ) (column : ℕ → List ℕ) (is : (w : ℕ) → column w ≡ map (p w) (walkOf l w .nodes)) where

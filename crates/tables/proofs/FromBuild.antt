@@ -3,7 +3,6 @@ use mathlib.Core.Path.{_≡_, refl, sym, ap, _∙_, subst}
 use mathlib.Core.Bool.{Bool, true, false}
 use mathlib.Core.List.{List, [], _∷_, _++_, map}
 use Prim.Native.Nat.{ℕ, zero, suc, _+_, _-_, _*_, _≤_, _<_}
-use native.Mathlib.Nat.{not-suc-le-zero, le-of-suc-le-suc}
 use native.Mathlib.Omega.{arith}
 use borrow.Author.Tests.{eqb-true, ne-eqb}
 use lib.Dec.{eqb}
@@ -17,6 +16,7 @@ use Rattle.walk.specs.AtWidth.{atWidth}
 use Rattle.walk.proofs.Nodes.{first}
 use Rattle.walk.proofs.Layers.{walk-shape}
 use Rattle.width_table.specs.Table.{printOf, parentOf}
+use Rattle.width_table.proofs.Columns.{map-at}
 use Rattle.tables.specs.Checks.{firstRow, Limits, limitRows, Arrays, placesOf, roomRow}
 use Rattle.tables.specs.Tables.{Table, walkOf, recordOf, printsOf, parentsOf, codesOf, within, filledTo, builtTo}
 use Rattle.tables.specs.Tables.{BuildReply, table, refusal, Left, left, buildRows, leftBy, buildOf}
@@ -34,12 +34,6 @@ walk-count l w h =
     (first (atWidth w (l .basis)) (s .layered .grown) .0, s .count h)
 
 -- ---- an array filled by what p says of the nodes of each width
-
--- a list of what p says of the nodes, at one of them
-at-node : (p : Node → ℕ) (ns : List Node) (j : ℕ) → j < length ns → getD (map p ns) j 0 ≡ p (getD ns j root)
-at-node p [] j h = absurd (not-suc-le-zero h)
-at-node p (n ∷ ns) zero h = refl
-at-node p (n ∷ ns) (suc j) h = at-node p ns j (le-of-suc-le-suc h)
 
 module _ (l : Limits) (some : 0 < l .entries) (p : ℕ → Node → ℕ) (column : ℕ → List ℕ) (is : (w : ℕ) → column w ≡ map (p w) (walkOf l w .nodes)) where
   -- a column has a number for each node of its width
@@ -60,7 +54,7 @@ module _ (l : Limits) (some : 0 < l .entries) (p : ℕ → Node → ℕ) (column
   column-at old r (suc v) h q j b =
       let e : suc v - 1 ≡ v = omega arith in
       rw e (filled-at column (l .entries) column-short (l .qubits) v j old r (omega arith) (omega (arith, column-count (suc v)))
-      ∙ ap (λ (xs : List ℕ). getD xs j 0) (is (suc v)) ∙ at-node (p (suc v)) (walkOf l (suc v) .nodes) j b)
+      ∙ ap (λ (xs : List ℕ). getD xs j 0) (is (suc v)) ∙ map-at (p (suc v)) (walkOf l (suc v) .nodes) j b)
 
 -- ---- limits and arrays that no row refuses: the record, and the arrays filled up to Q, are a built table
 
@@ -164,7 +158,7 @@ module _ (l : Limits) (some : 0 < l .entries) (p : ℕ → Node → ℕ) (column
       (λ v j lt d. let b : j < length (walkOf l (suc v) .nodes) = omega (arith, column-count l some p column is (suc v)) in
       let e : suc v - 1 ≡ v = omega arith in
       ap (λ (z : ℕ). getD old (z * l .entries + j) 0) (sym e) ∙ f (suc v) (omega arith) (omega arith) j b
-      ∙ sym (ap (λ (xs : List ℕ). getD xs j 0) (is (suc v)) ∙ at-node (p (suc v)) (walkOf l (suc v) .nodes) j b))
+      ∙ sym (ap (λ (xs : List ℕ). getD xs j 0) (is (suc v)) ∙ map-at (p (suc v)) (walkOf l (suc v) .nodes) j b))
 
 pub built-again : (t : Table) (a : Arrays) → Built t a → buildOf (t .limits) a ≡ left (table t) a
 unfolding firstRow printsOf parentsOf codesOf

@@ -14,12 +14,12 @@ use Rattle.ints.specs.Lists.{range, each, Run}
 
 -- ---- one number more
 
-range-snoc : (i m : ℕ) → range i (suc m) ≡ range i m ++ ((i + m) ∷ [])
+pub range-snoc : (i m : ℕ) → range i (suc m) ≡ range i m ++ ((i + m) ∷ [])
 unfolding range
 range-snoc i zero = ap (λ (k : ℕ). k ∷ []) (omega arith)
 range-snoc i (suc m) = ap (λ (l : List ℕ). i ∷ l) (range-snoc (suc i) m ∙ ap (λ (k : ℕ). range (suc i) m ++ (k ∷ [])) (omega arith))
 
-each-append : (xs ys : List ℕ) (f : ℕ → List ℕ) → each (xs ++ ys) f ≡ each xs f ++ each ys f
+pub each-append : (xs ys : List ℕ) (f : ℕ → List ℕ) → each (xs ++ ys) f ≡ each xs f ++ each ys f
 unfolding each
 each-append [] ys f = refl
 each-append (x ∷ xs) ys f = rw (each-append xs ys f, append-assoc)

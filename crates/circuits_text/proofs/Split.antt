@@ -45,17 +45,8 @@ module _ {c : ℕ} {s : List ℕ} {at p : ℕ} (h : Searching c s at p) where
       record { within = omega arith; past = omega arith; same = omega arith }
 
 -- ---- words compared
--- lists of bytes that are the same, and no others, are told so
-pub same-yes : (a b : List ℕ) → a ≡ b → sameBytes a b ≡ true
-unfolding sameBytes
-same-yes [] [] e = refl
-same-yes [] (y ∷ b) e = let z : _≡_ {A = ℕ} 0 1 = cc in absurd (omega arith)
-same-yes (x ∷ a) [] e = let z : _≡_ {A = ℕ} 0 1 = cc in absurd (omega arith)
-same-yes (x ∷ a) (y ∷ b) e =
-    let h : x ≡ y = cc in
-    let t : a ≡ b = cc in
-    rw (eq-eqb x y h) (same-yes a b t)
 
+-- only lists of bytes that are the same are told so
 pub same-no : (a b : List ℕ) → sameBytes a b ≡ true → a ≡ b
 unfolding sameBytes
 same-no [] [] e = refl

@@ -1,11 +1,11 @@
 -- Lines of numbers, as bytes: what a word, a number and a line's numbers are. Document 01, "The program circuits": "Numbers are unsigned,
 -- up to 4294967295, at most ten digits, one space between, every line ended by a newline." Assumes nothing.
 use mathlib.Core.Bool.{Bool, true, false, _&&_}
-use mathlib.Core.List.{List, [], _∷_, _++_}
+use mathlib.Core.List.{List, [], _∷_}
 use mathlib.Core.Path.{_≡_}
 use Prim.Native.Nat.{ℕ, _+_, _-_, _*_}
 use lib.Dec.{eqb, leb}
-use lib.ListN.{length, take, drop}
+use lib.ListN.{length, take}
 use Rattle.ints.specs.Lists.{pick, over, all}
 use Rattle.circuits_text.specs.declared.Word.{Word}
 use Rattle.circuits_text.specs.declared.Word.the-variants.{Number, Other}

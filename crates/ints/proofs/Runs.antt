@@ -94,11 +94,6 @@ range-in (suc m) i g p q = by (ℕ-discrete g i) (λ h. range-in m (suc i) g h (
     by (yes e) u = List·Memᴰ·head e
     by (no e) u = List·Memᴰ·tail (u (omega arith))
 
-pub range-mem : (m i g : ℕ) → List·Memᴰ g (range i m) → (i ≤ g) × (g < i + m)
-unfolding range
-range-mem zero i g h = absurd (List·Memᴰ·not-nil h)
-range-mem (suc m) i g h = ⊎-elim (λ (q : g ≡ i). (omega arith, omega arith)) (λ t. let r = range-mem m (suc i) g t in (omega arith, omega arith)) (List·Memᴰ·cases-cons h)
-
 pub each-in : (xs : List ℕ) (f : ℕ → List ℕ) (x g : ℕ) → List·Memᴰ x xs → List·Memᴰ g (f x) → List·Memᴰ g (each xs f)
 unfolding each
 each-in [] f x g m h = absurd (List·Memᴰ·not-nil m)

@@ -11,9 +11,6 @@ use Rattle.tables.specs.Tables.{Width, Table, BuildReply, table, refusal, Left,
 
 -- ---- a record as 15 numbers: count, depth and saturated (1 or 0) of each width from 1 to 5
 
-abbrev pub limitsOf : ℕ → ℕ → ℕ → ℕ → Limits
-limitsOf q g e b = record { qubits = q; gates = g; entries = e; basis = b }
-
 -- a width's row at the places from i on; every number other than 0 is saturated
 abbrev pub widthIn : List ℕ → ℕ → Width
 widthIn numbers i = record { count = getD numbers i 0; depth = getD numbers (i + 1) 0; saturated = not (eqb (getD numbers (i + 2) 0) 0) }

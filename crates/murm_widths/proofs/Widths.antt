@@ -7,15 +7,9 @@ use native.Mathlib.Omega.{arith}
 use lib.Dec.{ltb}
 use lib.ListN.{length}
 use Rattle.ints.specs.Lists.{pick, over}
-use Rattle.tables.specs.Checks.{Limits}
+use Rattle.tables.specs.Checks.{Limits, limitsOf}
 use Rattle.tables.specs.Tables.{Width, Table, notBuilt, allWidths, walkOf, widthOf, recordOf, printsOf, parentsOf, codesOf, within, filledTo}
 use Rattle.murm_config.specs.Told.{emptyOf, withWidth}
-use Rattle.murm_widths.specs.Limited.{limitsOf}
-
--- ---- the limits by their four numbers
-
-abbrev pub limits : ℕ → ℕ → ℕ → ℕ → Limits
-limits q g e b = record { qubits = q; gates = g; entries = e; basis = b }
 
 -- ---- the record
 
@@ -71,14 +65,14 @@ done-all column column′ E v q old xs e f p = p .1 ∙ (ap (λ (z : ℕ → Lis
 -- ---- the width limit plays no part in a width's column
 
 module _ (l : Limits) (w : ℕ) where
-  pub prints-same : printsOf (limitsOf (l .gates) (l .entries) (l .basis)) w ≡ printsOf l w
+  pub prints-same : printsOf (limitsOf 0 (l .gates) (l .entries) (l .basis)) w ≡ printsOf l w
   unfolding printsOf
   prints-same = refl
 
-  pub parents-same : parentsOf (limitsOf (l .gates) (l .entries) (l .basis)) w ≡ parentsOf l w
+  pub parents-same : parentsOf (limitsOf 0 (l .gates) (l .entries) (l .basis)) w ≡ parentsOf l w
   unfolding parentsOf
   parents-same = refl
 
-  pub codes-same : codesOf (limitsOf (l .gates) (l .entries) (l .basis)) w ≡ codesOf l w
+  pub codes-same : codesOf (limitsOf 0 (l .gates) (l .entries) (l .basis)) w ≡ codesOf l w
   unfolding codesOf
   codes-same = refl

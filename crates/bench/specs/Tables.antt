@@ -1,5 +1,5 @@
 -- A table's limits and record as numbers, and what a build and an answer come to as numbers. Assumes nothing.
-use mathlib.Core.Bool.{Bool, not}
+use mathlib.Core.Bool.{not}
 use mathlib.Core.List.{List, [], _∷_, _++_}
 use Prim.Native.Nat.{ℕ, _+_}
 use lib.Dec.{eqb, ltb}
@@ -8,6 +8,7 @@ use Rattle.ints.specs.Lists.{pick, over}
 use Rattle.width_answer.specs.Answers.{Reply, Outcome, given, none, refused}
 use Rattle.tables.specs.Checks.{Limits, Arrays}
 use Rattle.tables.specs.Tables.{Width, Table, BuildReply, table, refusal, Left, buildOf, Query, synthesized}
+use Rattle.circuits_text.specs.Writing.{digitOf}
 
 -- ---- a record as 15 numbers: count, depth and saturated (1 or 0) of each width from 1 to 5
 
@@ -20,9 +21,6 @@ tableOf l numbers = record {
   limits = l;
   widths = widthIn numbers 0 ∷ widthIn numbers 3 ∷ widthIn numbers 6 ∷ widthIn numbers 9 ∷ widthIn numbers 12 ∷ [];
 }
-
-abbrev pub digitOf : Bool → ℕ
-digitOf b = pick b 1 0
 
 abbrev pub widthNumbers : Width → List ℕ
 widthNumbers w = w .count ∷ w .depth ∷ digitOf (w .saturated) ∷ []

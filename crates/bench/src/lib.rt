@@ -13,7 +13,7 @@ ghost use Rattle.tables.specs.Checks.{limitsOf, arrays};
 ghost use Rattle.murm_config.specs.Told.{toldConfig, toldWidth, toldMurm};
 ghost use Rattle.murm.specs.Entries.{listed, fingerprinted, toldBuilding, toldSynthesized};
 ghost use Rattle.bench.specs.Numbers.{orElse};
-ghost use Rattle.bench.specs.Tables.{widthIn, tableOf, digitOf, widthNumbers, numbersOf, buildNumber, recorded, builtAs, benchBuilt, replyNumber, answered, benchAnswered};
+ghost use Rattle.bench.specs.Tables.{widthIn, tableOf, widthNumbers, numbersOf, buildNumber, recorded, builtAs, benchBuilt, replyNumber, answered, benchAnswered};
 use circuit::GateSet;
 use cyclotomic::Coefficient;
 use murm::Building;
@@ -76,15 +76,6 @@ fn config_of(q: u32, g: u32, e: u32, b: u32) -> MurmConfig
     }
 }
 
-fn digit(b: bool) -> u64
-    ensures { λ r. ⌜ r ≡ digitOf b ⌝ }
-{
-    if b {
-        return 1;
-    }
-    0
-}
-
 // A record as 15 numbers: count, depth and saturated (0 or 1) of each width from 1 to 5. Those of a width stand from a place on.
 fn put_width(numbers: &mut [u64], at: usize, row: WidthTable)
     requires { ⌜ at + 3 ≤ length (now numbers) ⌝ }
@@ -92,7 +83,7 @@ fn put_width(numbers: &mut [u64], at: usize, row: WidthTable)
 {
     numbers[at] = row.count as u64;
     numbers[at + 1] = row.depth as u64;
-    numbers[at + 2] = digit(row.saturated);
+    numbers[at + 2] = circuits_text::digit(row.saturated);
 }
 
 fn put_record(numbers: &mut [u64], table: Murm)

@@ -8,7 +8,7 @@ ghost use Rattle.tables.specs.Tables.{recordRow};
 ghost use Rattle.murm_config.specs.Told.{toldConfig, toldWidth, toldMurm};
 ghost use Rattle.murm.specs.Entries.{toldSynthesized, listed};
 ghost use Rattle.circuits_text.specs.Writing.{Put};
-ghost use Rattle.circuits_lines.specs.Lines.{numberThen, refusedLine, noneLine, digitOf, tableLine, nodeLine, nodeLines, spacedCode, spacedCodes, answerLine};
+ghost use Rattle.circuits_lines.specs.Lines.{numberThen, refusedLine, noneLine, tableLine, nodeLine, nodeLines, spacedCode, spacedCodes, answerLine};
 ghost use Rattle.circuits_lines.specs.Program.{ended, readLine, brokenText, replyText, lentList, matrixText, outcomeText, lentCount, lentMost, listText, isQuery, queryText, rowText, widthText, widthTexts};
 use circuits_text::Line;
 use circuits_text::NEWLINE;
@@ -58,16 +58,6 @@ pub fn put_none(out: &mut [u8], at: usize) -> usize
     circuits_text::put_bytes(out, at, b"none\n")
 }
 
-// 0 or 1.
-fn digit(b: bool) -> u64
-    ensures { λ r. ⌜ r ≡ digitOf b ⌝ }
-{
-    if b {
-        return 1;
-    }
-    0
-}
-
 // `table` width, entries, depth, saturated: at most 90 bytes.
 pub fn put_table_line(
     out: &mut [u8],
@@ -85,7 +75,7 @@ pub fn put_table_line(
     let second = put_number(out, first, width as u64, SPACE);
     let third = put_number(out, second, count as u64, SPACE);
     let fourth = put_number(out, third, depth as u64, SPACE);
-    put_number(out, fourth, digit(saturated), NEWLINE)
+    put_number(out, fourth, circuits_text::digit(saturated), NEWLINE)
 }
 
 // Node, parent, code: at most 33 bytes, where 43 are left.

@@ -241,7 +241,7 @@ numbers-append (w ∷ a) b h =
     let p = both-true (isNumber w) (allNumbers a) h in
     rw (p .0) (ap (λ (l : List ℕ). value w ∷ l) (numbers-append a b (p .1)))
 
-numbers-length : (a : List (List ℕ)) → allNumbers a ≡ true → length (numbers a) ≡ length a
+pub numbers-length : (a : List (List ℕ)) → allNumbers a ≡ true → length (numbers a) ≡ length a
 unfolding allNumbers numbers
 numbers-length [] h = refl
 numbers-length (w ∷ a) h =

@@ -45,19 +45,19 @@ recorded (table t) numbers = over (numbersOf t) numbers
 recorded (refusal r p) numbers = numbers
 
 -- the number returned, the three arrays and the lent record after it
-pub record Built : Type 0 where
+pub record BuiltNumbers : Type 0 where
   pub number : ℕ
   pub arrays : Arrays
   pub numbers : List ℕ
 
-abbrev pub builtAs : ℕ → Arrays → List ℕ → Built
+abbrev pub builtAs : ℕ → Arrays → List ℕ → BuiltNumbers
 builtAs r a numbers = record { number = r; arrays = a; numbers = numbers }
 
-abbrev pub builtBy : Left → List ℕ → Built
+abbrev pub builtBy : Left → List ℕ → BuiltNumbers
 builtBy o numbers = builtAs (buildNumber (o .reply)) (o .arrays) (recorded (o .reply) numbers)
 
 -- 99 for a record of less than 15 places
-unfoldable pub benchBuilt : Limits → Arrays → List ℕ → Built
+unfoldable pub benchBuilt : Limits → Arrays → List ℕ → BuiltNumbers
 benchBuilt l a numbers = pick (ltb (length numbers) 15) (builtAs 99 a numbers) (builtBy (buildOf l a) numbers)
 
 -- ---- an answer
@@ -69,17 +69,17 @@ replyNumber none = 1000
 replyNumber (refused r p) = 2000 + r
 
 -- the number returned, and the lent list after it
-pub record Answered : Type 0 where
+pub record AnsweredNumbers : Type 0 where
   pub number : ℕ
   pub list : List ℕ
 
-abbrev pub answered : ℕ → List ℕ → Answered
+abbrev pub answered : ℕ → List ℕ → AnsweredNumbers
 answered r out = record { number = r; list = out }
 
-abbrev pub answeredBy : Outcome → Answered
+abbrev pub answeredBy : Outcome → AnsweredNumbers
 answeredBy o = answered (replyNumber (o .reply)) (o .list)
 
 -- 2099 for a record of less than 15 places
-unfoldable pub benchAnswered : Limits → List ℕ → Arrays → Query → List ℕ → Answered
+unfoldable pub benchAnswered : Limits → List ℕ → Arrays → Query → List ℕ → AnsweredNumbers
 benchAnswered l numbers a q out =
     pick (ltb (length numbers) 15) (answered 2099 out) (answeredBy (synthesized (tableOf l numbers) a q out))

@@ -20,7 +20,7 @@ use murm_config::Murm;
 use width_table::WidthTable;
 
 // A number and a byte after it: at most 21 bytes.
-fn put_number(out: &mut [u8], at: usize, n: u64, after: u8) -> usize
+pub fn put_number(out: &mut [u8], at: usize, n: u64, after: u8) -> usize
     requires { ⌜ at + 21 ≤ length (now out) ⌝ }
     ensures { λ r. ⌜ Put at (numberThen n after) r (now (out .entry)) (now (out .exit)) ⌝ }
     ensures { λ r. ⌜ r ≤ at + 21 ⌝ }
@@ -116,7 +116,7 @@ fn put_code(out: &mut [u8], at: usize, code: u32) -> usize
 }
 
 // Each code after a space: at most 11 bytes each, and 10 more are left.
-fn put_codes(out: &mut [u8], at: usize, codes: &[u32]) -> usize
+pub fn put_codes(out: &mut [u8], at: usize, codes: &[u32]) -> usize
     requires { ⌜ at + 11 * length (now codes) + 10 ≤ length (now out) ⌝ }
     ensures { λ r. ⌜ Put at (spacedCodes (now (codes .entry))) r (now (out .entry)) (now (out .exit)) ⌝ }
     ensures { λ r. ⌜ r ≤ at + 11 * length (now (codes .entry)) ⌝ }
@@ -236,7 +236,7 @@ fn put_listed(
 }
 
 // How many bytes a list's matrix takes; none for a width that is refused.
-fn byte_count(width: u32) -> usize
+pub fn byte_count(width: u32) -> usize
     ensures { λ r. ⌜ r ≡ lentCount width ⌝ }
     ensures { λ r. ⌜ r ≤ 4096 ⌝ }
 {

@@ -6,7 +6,7 @@ use lib.ListN.{length, getD, replicate}
 use Rattle.ints.specs.Lists.{pick}
 use Rattle.tables.specs.Checks.{Limits, limitsOf, Arrays, arrays}
 use Rattle.tables.specs.Tables.{BuildReply, table, refusal, buildOf}
-use Rattle.circuits_text.specs.Reading.{over}
+use Rattle.ints.specs.Lists.{over}
 use Rattle.circuits_lines.specs.Lines.{refusedLine}
 use Rattle.circuits_lines.specs.Program.{InputLine, linesOf, readLine, brokenText, queryTexts, tableText}
 use Rattle.circuits_output.specs.declared.Printed.{Printed}

@@ -6,7 +6,8 @@ use native.Mathlib.Omega.{arith}
 use borrow.Author.Tests.{eq-eqb, ne-eqb, lt-ltb, le-ltb}
 use lib.ListN.{length, take, drop}
 use Rattle.tables.specs.Checks.{Limits, Arrays}
-use Rattle.circuits_text.specs.Reading.{newline, before, over}
+use Rattle.ints.specs.Lists.{over}
+use Rattle.circuits_text.specs.Reading.{newline, before}
 use Rattle.circuits_text.specs.Writing.{Put}
 use Rattle.circuits_text.proofs.Split.{before-take}
 use Rattle.circuits_lines.specs.Program.{InputLine, ended, linesOf, readLine}

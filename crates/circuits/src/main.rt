@@ -15,13 +15,6 @@ fn input_space() -> [u8; 16385]
     [0; 16385]
 }
 
-// As many bytes as any output takes.
-fn output_space() -> [u8; 3133584]
-    ensures { λ r. ⌜ 3133584 ≡ length r ⌝ }
-{
-    [0; 3133584]
-}
-
 // Places for the fingerprints of a table.
 fn print_space() -> [u64; 2048]
     ensures { λ r. ⌜ r ≡ lentPlaces ⌝ }
@@ -50,10 +43,22 @@ fn answer(input: &[u8], out: &mut [u8]) -> usize
     }
 }
 
+// The output is made and written.
+fn write_answer(input: &[u8], out: &mut [u8])
+    requires { ⌜ 3133584 ≤ length (now out) ⌝ }
+{
+    let n = answer(input, out);
+    io::write_all(STDOUT_FILENO, &out[..n]);
+}
+
+// As many bytes as any output takes. They are a local: an array that a function returns may stand on the stack three times.
+fn with_output(input: &[u8]) {
+    let mut out = [0u8; 3133584];
+    write_answer(input, &mut out);
+}
+
 fn main() {
     let mut input = input_space();
     let n = io::read_full(STDIN_FILENO, &mut input);
-    let mut out = output_space();
-    let m = answer(&input[..n], &mut out);
-    io::write_all(STDOUT_FILENO, &out[..m]);
+    with_output(&input[..n]);
 }

@@ -3,6 +3,4 @@ pub mod Replies
 pub mod Queries
 pub mod Widths
 pub mod LineReads
-pub mod InputLines
-pub mod Rooms
 pub mod Example

@@ -15,8 +15,7 @@ use Rattle.tables.specs.Tables.{Table}
 use Rattle.circuits_text.specs.Reading.{words, isNumber, allNumbers, numbers, lineOf, over, ReadInto}
 use Rattle.circuits_text.specs.declared.Line.{Line}
 use Rattle.circuits_text.specs.declared.Line.the-variants.{Numbers, Broken}
-use Rattle.circuits_lines.specs.Lines.{refusedLine}
-use Rattle.circuits_lines.specs.Program.{ended, readLine, isQuery, queryText}
+use Rattle.circuits_lines.specs.Program.{ended, readLine, brokenText, isQuery, queryText}
 use Rattle.circuits_lines.proofs.Queries.{no-query}
 
 pub numbers-length : (ws : List (List ℕ)) → allNumbers ws ≡ true → length (numbers ws) ≡ length ws
@@ -42,9 +41,9 @@ whole k n ws h = by (allNumbers ws) (leb (length ws) k) refl refl h
 
 -- the numbers stand in the first places of the list
 pub read-numbers :
-    {bytes old now : List ℕ} {line : Line} {n : ℕ} (f : List ℕ → List ℕ) → ReadInto bytes old now line → line ≡ Numbers n →
-    f (take n now) ≡ readLine (ended bytes) f
-read-numbers {bytes} {old} {now} {line} {n} f r g =
+    {A : Type 0} {bytes old now : List ℕ} {line : Line} {n : ℕ} (other : A) (f : List ℕ → A) → ReadInto bytes old now line → line ≡ Numbers n →
+    f (take n now) ≡ readLine other (ended bytes) f
+read-numbers {A} {bytes} {old} {now} {line} {n} other f r g =
     let w = whole (length old) n (words bytes) (sym g ∙ r .is) in
     let l : length (numbers (words bytes)) ≡ n = numbers-length (words bytes) (w .0) ∙ w .1 in
     let all = take-all (length old) (numbers (words bytes)) (omega (arith, l, w .2)) in
@@ -52,24 +51,24 @@ read-numbers {bytes} {old} {now} {line} {n} f r g =
     ap (take n) (r .holds ∙ ap (λ (m : List ℕ). over m old) all) ∙ take-at (numbers (words bytes)) _ n l in
     rw (w .0) (ap f e)
 
--- a broken line, for a text that refuses more numbers than the list has places
+-- a broken line, where more numbers than the list has places come to the same
 pub read-broken :
-    {bytes old now : List ℕ} {line : Line} (f : List ℕ → List ℕ) → ((ns : List ℕ) → length old < length ns → f ns ≡ refusedLine 14 0) →
-    ReadInto bytes old now line → line ≡ Broken → refusedLine 14 0 ≡ readLine (ended bytes) f
+    {A : Type 0} {bytes old now : List ℕ} {line : Line} (other : A) (f : List ℕ → A) → ((ns : List ℕ) → length old < length ns → f ns ≡ other) →
+    ReadInto bytes old now line → line ≡ Broken → other ≡ readLine other (ended bytes) f
 unfolding lineOf
-read-broken {bytes} {old} f long r e = by (allNumbers (words bytes)) (leb (length (words bytes)) (length old)) refl refl (sym e ∙ r .is)
+read-broken {A} {bytes} {old} {now} {line} other f long r e = by (allNumbers (words bytes)) (leb (length (words bytes)) (length old)) refl refl (sym e ∙ r .is)
   where
     by :
         (s t : Bool) → allNumbers (words bytes) ≡ s → leb (length (words bytes)) (length old) ≡ t →
         Broken ≡ pick (s && t) (Numbers (length (words bytes))) Broken →
-        refusedLine 14 0 ≡ pick (allNumbers (words bytes)) (f (numbers (words bytes))) (refusedLine 14 0)
+        other ≡ pick (allNumbers (words bytes)) (f (numbers (words bytes))) other
     by true true a l g = let z : _≡_ {A = ℕ} 0 1 = cc in absurd (omega arith)
     by true false a l g =
         rw a (sym (long (numbers (words bytes)) (omega (arith, numbers-length (words bytes) a, leb-false (length (words bytes)) (length old) l))))
     by false t a l g = rw a
 
 -- more than 258 numbers are no query
-pub long-query : (t : Table) (m : Arrays) (ns : List ℕ) → 258 < length ns → queryText t m ns ≡ refusedLine 14 0
+pub long-query : (t : Table) (m : Arrays) (ns : List ℕ) → 258 < length ns → queryText t m ns ≡ brokenText
 long-query t m ns h = sym (no-query t m ns (by (leb (getD ns 1 0) 256) refl))
   where
     by : (b : Bool) → leb (getD ns 1 0) 256 ≡ b → isQuery ns ≡ false

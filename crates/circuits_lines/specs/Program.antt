@@ -1,4 +1,4 @@
--- What the program `circuits` prints, for every input. Document 01, "The program circuits". Assumes nothing.
+-- What a query and a table print. Document 01, "The program circuits". Assumes nothing.
 use mathlib.Core.Bool.{Bool, _&&_}
 use mathlib.Core.List.{List, [], _∷_, _++_}
 use Prim.Native.Nat.{ℕ, _+_}
@@ -10,8 +10,8 @@ use Rattle.exact.specs.Answers.{Answer}
 use Rattle.exact.specs.Answers as e
 use Rattle.width_answer.specs.Answers.{Reply}
 use Rattle.width_answer.specs.Answers as a
-use Rattle.tables.specs.Checks.{Limits, Arrays, arrays, byteCount}
-use Rattle.tables.specs.Tables.{Width, Table, widthAt, BuildReply, table, refusal, buildOf, query, partOf, synthesized}
+use Rattle.tables.specs.Checks.{Arrays, byteCount}
+use Rattle.tables.specs.Tables.{Width, Table, widthAt, query, partOf, synthesized}
 use Rattle.murm.specs.Entries.{Outcome, listed}
 use Rattle.circuits_text.specs.Reading.{newline, words, allNumbers, numbers}
 use Rattle.circuits_lines.specs.Lines.{refusedLine, noneLine, tableLine, nodeLines, answerLine}
@@ -33,10 +33,14 @@ unfoldable pub linesOf : List ℕ → List InputLine
 linesOf [] = []
 linesOf (b ∷ bs) = pick (eqb b newline) (ended [] ∷ linesOf bs) (longerLine b (linesOf bs))
 
--- what a line with the numbers ns prints; "A line that breaks this prints `refused 14 0`"
-abbrev pub readLine : InputLine → (List ℕ → List ℕ) → List ℕ
-readLine (ended l) prints = pick (allNumbers (words l)) (prints (numbers (words l))) (refusedLine 14 0)
-readLine (cut l) prints = refusedLine 14 0
+-- what a line comes to by its numbers; else what a line that is not ended, or has other words, comes to
+abbrev pub readLine : {A : Type 0} → A → InputLine → (List ℕ → A) → A
+readLine other (ended l) by = pick (allNumbers (words l)) (by (numbers (words l))) other
+readLine other (cut l) by = other
+
+-- "A line that breaks this prints `refused 14 0`"
+abbrev pub brokenText : List ℕ
+brokenText = refusedLine 14 0
 
 -- ---- a query
 
@@ -85,12 +89,12 @@ abbrev pub isQuery : List ℕ → Bool
 isQuery ns = leb 2 (length ns) && (leb (getD ns 1 0) 256 && eqb (length ns) (getD ns 1 0 + 2))
 
 unfoldable pub queryText : Table → Arrays → List ℕ → List ℕ
-queryText t m ns = pick (isQuery ns) (listText t m (getD ns 0 0) (drop 2 ns)) (refusedLine 14 0)
+queryText t m ns = pick (isQuery ns) (listText t m (getD ns 0 0) (drop 2 ns)) brokenText
 
 -- "After the last width comes per query .."
 unfoldable pub queryTexts : Table → Arrays → List InputLine → List ℕ
 queryTexts t m [] = []
-queryTexts t m (l ∷ ls) = readLine l (queryText t m) ++ queryTexts t m ls
+queryTexts t m (l ∷ ls) = readLine brokenText l (queryText t m) ++ queryTexts t m ls
 
 -- ---- the table
 
@@ -109,38 +113,3 @@ widthTexts t parents codes q = each (range 1 q) (widthText t parents codes)
 -- all widths
 abbrev pub tableText : Table → List ℕ → List ℕ → List ℕ
 tableText t parents codes = widthTexts t parents codes (t .limits .qubits)
-
--- ---- line one, and the whole
-
--- "Line one: Q G E B."
-abbrev pub limitsOf : List ℕ → Limits
-limitsOf ns = record { qubits = getD ns 0 0; gates = getD ns 1 0; entries = getD ns 2 0; basis = getD ns 3 0 }
-
--- "A refused build prints its refusal and stops too."
-abbrev pub replyThen : BuildReply → Arrays → List InputLine → List ℕ
-replyThen (table t) m ls = tableText t (m .parents) (m .codes) ++ queryTexts t m ls
-replyThen (refusal number position) m ls = refusedLine number position
-
--- a table is built in the lent arrays
-unfoldable pub builtText : Arrays → List InputLine → Limits → List ℕ
-builtText lent ls l = replyThen (buildOf l lent .reply) (buildOf l lent .arrays) ls
-
--- "on line one, and for empty input, the program stops there"
-unfoldable pub firstText : Arrays → List InputLine → List ℕ → List ℕ
-firstText lent ls ns = pick (eqb (length ns) 4) (builtText lent ls (limitsOf ns)) (refusedLine 14 0)
-
-abbrev pub linesText : Arrays → List InputLine → List ℕ
-linesText lent [] = refusedLine 14 0
-linesText lent (l ∷ ls) = readLine l (firstText lent ls)
-
--- "It reads up to 16,384 bytes; more prints `refused 15 0` alone."
-unfoldable pub outputWith : Arrays → List ℕ → List ℕ
-outputWith lent input = pick (ltb 16384 (length input)) (refusedLine 15 0) (linesText lent (linesOf input))
-
--- "Q × E above 2048 meets refusal 5": each array has 2,048 places
-unfoldable pub lentArrays : Arrays
-lentArrays = arrays (replicate 2048 0) (replicate 2048 0) (replicate 2048 0)
-
--- the program's output
-unfoldable pub output : List ℕ → List ℕ
-output input = outputWith lentArrays input

@@ -9,7 +9,7 @@ ghost use Rattle.murm_config.specs.Told.{toldConfig, toldWidth, toldMurm};
 ghost use Rattle.murm.specs.Entries.{toldSynthesized, listed};
 ghost use Rattle.circuits_text.specs.Writing.{Put};
 ghost use Rattle.circuits_lines.specs.Lines.{numberThen, refusedLine, noneLine, digitOf, tableLine, nodeLine, nodeLines, spacedCode, spacedCodes, answerLine};
-ghost use Rattle.circuits_lines.specs.Program.{ended, readLine, replyText, lentList, matrixText, outcomeText, lentCount, lentMost, listText, isQuery, queryText, rowText, widthText, widthTexts};
+ghost use Rattle.circuits_lines.specs.Program.{ended, readLine, brokenText, replyText, lentList, matrixText, outcomeText, lentCount, lentMost, listText, isQuery, queryText, rowText, widthText, widthTexts};
 use circuits_text::Line;
 use circuits_text::NEWLINE;
 use circuits_text::SPACE;
@@ -410,7 +410,7 @@ fn put_width(
 }
 
 // Widths 1 to q of a table, by recursion on q.
-fn put_widths(
+pub fn put_widths(
     out: &mut [u8],
     at: usize,
     table: Murm,
@@ -439,7 +439,7 @@ fn number_space() -> [u32; 258]
 }
 
 // A query's line, given without its newline: at most 746 bytes, where 756 are left.
-fn put_query_line(
+pub fn put_query_line(
     out: &mut [u8],
     at: usize,
     table: Murm,
@@ -449,7 +449,7 @@ fn put_query_line(
     line: &[u8],
 ) -> usize
     requires { ⌜ at + 756 ≤ length (now out) ⌝ }
-    ensures { λ r. ⌜ Put at (readLine (ended (now (line .entry))) (queryText (toldMurm table) (arrays (now (prints .entry)) (now (parents .entry)) (now (codes .entry))))) r (now (out .entry)) (now (out .exit)) ⌝ }
+    ensures { λ r. ⌜ Put at (readLine brokenText (ended (now (line .entry))) (queryText (toldMurm table) (arrays (now (prints .entry)) (now (parents .entry)) (now (codes .entry))))) r (now (out .entry)) (now (out .exit)) ⌝ }
     ensures { λ r. ⌜ r ≤ at + 746 ⌝ }
 {
     let mut numbers = number_space();

@@ -35,6 +35,9 @@ pub record Limits : Type 0 where
   pub entries : ℕ
   pub basis : ℕ
 
+abbrev pub limitsOf : ℕ → ℕ → ℕ → ℕ → Limits
+limitsOf q g e b = record { qubits = q; gates = g; entries = e; basis = b }
+
 -- rows 1 to 4: "Q outside 1 to 5"; "E is 0"; "B is 0 or has a bit outside 3967"; "G above 64 or E above 1,000,000"
 abbrev pub limitRows : Limits → List Row
 limitRows l =

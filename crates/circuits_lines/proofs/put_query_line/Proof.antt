@@ -6,7 +6,7 @@ use Rattle.tables.specs.Checks.{arrays}
 use Rattle.murm_config.specs.Told.{toldMurm}
 use Rattle.circuits_text.proofs.Split.{line-fits}
 use Rattle.circuits_text.proofs.Placing.{put-as}
-use Rattle.circuits_lines.specs.Program.{queryText}
+use Rattle.circuits_lines.specs.Program.{brokenText, queryText}
 use Rattle.circuits_lines.proofs.LineReads.{read-numbers, read-broken, long-query}
 use borrow.Author.Needs.{needs}
 use Rattle.circuits_lines.proofs.put_query_line.Statement.{statement}
@@ -62,7 +62,7 @@ returns c =
     let a = c .before .before .before .before .before .before .before .before .before .before .before .before .before .before .before .before .before .args in
     let d = c .before .before .put-query .ensures in
     let f = queryText (toldMurm (a .table)) (arrays (a .prints .now) (a .parents .now) (a .codes .now)) in
-    (put-as (read-numbers f (c .before .before .before .before .before .before .before .before .before .numbers2 .ensures) (c .before .before .before .before .before .before .n .given .1)) (d .0), d .1)
+    (put-as (read-numbers brokenText f (c .before .before .before .before .before .before .before .before .before .numbers2 .ensures) (c .before .before .before .before .before .before .n .given .1)) (d .0), d .1)
 
 -- src/lib.rt:442:1
 same-length-2 : tie.Need-same-length-2
@@ -76,7 +76,7 @@ returns-2 c =
     let t = toldMurm (a .table) in
     let m = arrays (a .prints .now) (a .parents .now) (a .codes .now) in
     let size = c .before .before .before .before .before .before .before .before .before .number-space .ensures in (
-      put-as (read-broken (queryText t m) (λ ns h. long-query t m ns (omega (arith, h, size))) (c .before .before .before .before .before .before .before .numbers2 .ensures) (c .before .before .before .before .enum-told .given .1)) (d .0),
+      put-as (read-broken brokenText (queryText t m) (λ ns h. long-query t m ns (omega (arith, h, size))) (c .before .before .before .before .before .before .before .numbers2 .ensures) (c .before .before .before .before .enum-told .given .1)) (d .0),
       omega (arith, d .1),
     )
 

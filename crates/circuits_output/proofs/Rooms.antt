@@ -10,11 +10,11 @@ use Rattle.tables.specs.Checks.{Arrays}
 use Rattle.tables.specs.Tables.{Table}
 use Rattle.circuits_text.specs.Reading.{words, allNumbers, numbers}
 use Rattle.circuits_text.specs.Writing.{glyph, decimalIn, decimal}
 use Rattle.circuits_lines.specs.Lines.{refusedLine}
-use Rattle.circuits_lines.specs.Program.{ended, readLine, isQuery, queryText}
+use Rattle.circuits_lines.specs.Program.{ended, readLine, brokenText, isQuery, queryText}
 use Rattle.circuits_lines.proofs.Queries.{no-query, two-numbers}
 use Rattle.circuits_lines.proofs.LineReads.{numbers-length}
-use Rattle.circuits_lines.proofs.InputLines.{two-words}
+use Rattle.circuits_output.proofs.InputLines.{two-words}
 
 -- `refused 14 0` and its newline
 pub broken-length : length (refusedLine 14 0) ≡ 13
@@ -23,8 +23,8 @@ broken-length = refl
 
 -- a query has 4 bytes with its newline, and prints at most 746; other lines print 13
 pub query-room :
-    (t : Table) (m : Arrays) (bytes : List ℕ) → length (readLine (ended bytes) (queryText t m)) ≤ 746 →
-    length (readLine (ended bytes) (queryText t m)) ≤ 187 * (length bytes + 1)
+    (t : Table) (m : Arrays) (bytes : List ℕ) → length (readLine brokenText (ended bytes) (queryText t m)) ≤ 746 →
+    length (readLine brokenText (ended bytes) (queryText t m)) ≤ 187 * (length bytes + 1)
 query-room t m bytes h = by (allNumbers (words bytes)) (isQuery (numbers (words bytes))) refl refl h
   where
     by :

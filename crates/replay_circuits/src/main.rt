@@ -149,11 +149,5 @@ fn main() {
     let mut parents = node_space();
     let mut codes = node_space();
     let mut out = output_space();
-    replay_all(
-        &input[..n],
-        &mut prints,
-        &mut parents,
-        &mut codes,
-        &mut out,
-    );
+    replay_all(&input[..n], &mut prints, &mut parents, &mut codes, &mut out);
 }

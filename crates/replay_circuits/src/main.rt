@@ -1,7 +1,6 @@
 // A test program: replays runs of the program `circuits`, for comparison with the original. Standard input holds runs, each a line
 // `run LENGTH`, that many bytes, which are the program's input, and a newline. For each it prints a line `run LENGTH` and that many bytes,
 // which are the program's output. A run of another form prints `broken` and ends; so does more than 1 MiB of standard input.
-ghost use mathlib.Core.Path.{_≡_};
 ghost use Prim.Native.Nat.{_≤_};
 ghost use lib.ListN.{length};
 use circuits_output::Printed;
@@ -12,32 +11,6 @@ use libc::STDOUT_FILENO;
 
 // The longest standard input, one byte more than which is read.
 const MOST: usize = 1048576;
-
-fn input_space() -> [u8; 1048577]
-    ensures { λ r. ⌜ 1048577 ≡ length r ⌝ }
-{
-    [0; 1048577]
-}
-
-// Room for any output.
-fn output_space() -> [u8; 3200000]
-    ensures { λ r. ⌜ 3200000 ≡ length r ⌝ }
-{
-    [0; 3200000]
-}
-
-// "Q × E above 2048 meets refusal 5."
-fn print_space() -> [u64; 2048]
-    ensures { λ r. ⌜ 2048 ≡ length r ⌝ }
-{
-    [0; 2048]
-}
-
-fn node_space() -> [u32; 2048]
-    ensures { λ r. ⌜ 2048 ≡ length r ⌝ }
-{
-    [0; 2048]
-}
 
 fn broken() {
     io::write_all(STDOUT_FILENO, b"broken\n");
@@ -139,15 +112,30 @@ fn replay_all(
     }
 }
 
-fn main() {
-    let mut input = input_space();
-    let n = io::read_full(STDIN_FILENO, &mut input);
+// The arrays of a table, with 2,048 places each. "Q × E above 2048 meets refusal 5."
+fn with_output(runs: &[u8], out: &mut [u8]) {
+    let mut prints = [0u64; 2048];
+    let mut parents = [0u32; 2048];
+    let mut codes = [0u32; 2048];
+    replay_all(runs, &mut prints, &mut parents, &mut codes, out);
+}
+
+// Room for any output. It is a local, lent to a function, and so is the input: an array that a function returns may stand on the stack
+// three times.
+fn with_runs(runs: &[u8]) {
+    let mut out = [0u8; 3200000];
+    with_output(runs, &mut out);
+}
+
+fn with_input(input: &mut [u8]) {
+    let n = io::read_full(STDIN_FILENO, input);
     if MOST < n {
         return broken();
     }
-    let mut prints = print_space();
-    let mut parents = node_space();
-    let mut codes = node_space();
-    let mut out = output_space();
-    replay_all(&input[..n], &mut prints, &mut parents, &mut codes, &mut out);
+    with_runs(&input[..n]);
+}
+
+fn main() {
+    let mut input = [0u8; 1048577];
+    with_input(&mut input);
 }

@@ -56,7 +56,7 @@ const ENDS: &str = concat!(
 );
 
 /// How many random runs a part has, and how many of the recording are random.
-const PART: usize = 700;
+const PART: usize = 400;
 const SAMPLE: usize = 60;
 
 pub(super) fn write_sample(out: &mut dyn Write) -> io::Result<()> {

@@ -35,17 +35,17 @@ lines-more (b ∷ bs) h = by (eqb b newline) (λ g. lines-more bs g) h
     by false rest g = ap (longerLine b) (rest (omega arith))
 
 -- none is there: what is left is the last line, without its newline
-pub lines-last :
-    (b : ℕ) (bs : List ℕ) → length (b ∷ bs) ≤ length (before newline (b ∷ bs)) → linesOf (b ∷ bs) ≡ cut (before newline (b ∷ bs)) ∷ []
+pub lines-last : (bs : List ℕ) → 0 < length bs → length bs ≤ length (before newline bs) → linesOf bs ≡ cut (before newline bs) ∷ []
 unfolding before linesOf
-lines-last b [] h = by (eqb b newline) h
+lines-last [] p h = absurd (omega arith)
+lines-last (b ∷ []) p h = by (eqb b newline) h
   where
     by :
         (t : Bool) → length (b ∷ []) ≤ length (pick t [] (b ∷ [])) →
         pick t (ended [] ∷ []) (cut (b ∷ []) ∷ []) ≡ cut (pick t [] (b ∷ [])) ∷ []
     by true g = absurd (omega arith)
     by false g = refl
-lines-last b (d ∷ bs) h = by (eqb b newline) (λ g. lines-last d bs g) h
+lines-last (b ∷ d ∷ bs) p h = by (eqb b newline) (λ g. lines-last (d ∷ bs) (omega arith) g) h
   where
     by :
         (t : Bool) →

@@ -1,2 +1,4 @@
 pub mod InputLines
 pub mod Rooms
+pub mod Asking
+pub mod Builds

@@ -1,11 +1,13 @@
 -- What the program `circuits` prints, for every input. Document 01, "The program circuits". Assumes nothing.
+use mathlib.Core.Bool.{true, false}
+use mathlib.Core.Path.{_≡_}
 use mathlib.Core.List.{List, [], _∷_, _++_}
-use Prim.Native.Nat.{ℕ, _+_, _*_, min}
+use Prim.Native.Nat.{ℕ, _+_, _*_, _≤_, min}
 use lib.Dec.{eqb, ltb}
 use lib.ListN.{length, getD, replicate}
 use Rattle.ints.specs.Lists.{pick}
-use Rattle.tables.specs.Checks.{Limits, limitsOf, Arrays, arrays}
-use Rattle.tables.specs.Tables.{BuildReply, table, refusal, buildOf}
+use Rattle.tables.specs.Checks.{Limits, limitsOf, Arrays, arrays, placesOf}
+use Rattle.tables.specs.Tables.{BuildReply, table, refusal, buildOf, recordRow}
 use Rattle.circuits_text.specs.Reading.{over}
 use Rattle.circuits_lines.specs.Lines.{refusedLine}
 use Rattle.circuits_lines.specs.Program.{InputLine, linesOf, readLine, brokenText, queryTexts, tableText}
@@ -40,6 +42,12 @@ inputOf bytes = pick (ltb 16384 (length bytes)) tooLong (linesInput (linesOf byt
 abbrev pub replyThen : BuildReply → Arrays → List InputLine → List ℕ
 replyThen (table t) m ls = tableText t (m .parents) (m .codes) ++ queryTexts t m ls
 replyThen (refusal number position) m ls = refusedLine number position
+
+-- a table that can be printed: its record is not refused, and the arrays have its places
+abbrev pub Ready : BuildReply → List ℕ → List ℕ → Type 0
+Ready (table t) parents codes =
+    (recordRow t .holds ≡ false) × (placesOf (t .limits) ≤ length parents) × (placesOf (t .limits) ≤ length codes)
+Ready (refusal number position) parents codes = true ≡ true
 
 -- a table is built in the lent arrays
 unfoldable pub builtText : Arrays → List InputLine → Limits → List ℕ

@@ -1,15 +1,16 @@
 // The output of the program `circuits`, made in a lent array of bytes. Document 01, "The program circuits".
 ghost use mathlib.Core.List.{_++_};
 ghost use mathlib.Core.Path.{_≡_};
-ghost use mathlib.Core.Bool.{false};
 ghost use Prim.Native.Nat.{_+_, _*_, _≤_, _<_};
 ghost use lib.ListN.{length, take, drop};
-ghost use Rattle.tables.specs.Checks.{arrays, placesOf};
-ghost use Rattle.tables.specs.Tables.{recordRow, buildOf};
+ghost use Rattle.tables.specs.Checks.{arrays};
+ghost use Rattle.tables.specs.Tables.{buildOf};
+ghost use Rattle.tables.specs.Tables as t;
+ghost use Rattle.murm.specs.Entries.{toldBuilding};
 ghost use Rattle.murm_config.specs.Told.{toldConfig, toldMurm};
 ghost use Rattle.circuits_text.specs.Writing.{Put};
 ghost use Rattle.circuits_lines.specs.Program.{ended, linesOf, readLine, queryTexts, tableText};
-ghost use Rattle.circuits_output.specs.Output.{broken, firstLimits, firstNumbers, builtText, inputText, inputArrays, roomFor, run, programOf};
+ghost use Rattle.circuits_output.specs.Output.{broken, firstLimits, firstNumbers, Ready, replyThen, builtText, inputText, inputArrays, roomFor, run, programOf};
 use circuit::GateSet;
 use circuits_text::Line;
 use circuits_text::NEWLINE;
@@ -61,8 +62,7 @@ fn put_table(
     input: &[u8],
     from: usize,
 ) -> usize
-    requires { ⌜ recordRow (toldMurm table) .holds ≡ false ⌝ }
-    requires { ⌜ (placesOf (toldConfig (table .config)) ≤ length (now parents)) × (placesOf (toldConfig (table .config)) ≤ length (now codes)) ⌝ }
+    requires { ⌜ Ready (t.table (toldMurm table)) (now parents) (now codes) ⌝ }
     requires { ⌜ (from ≤ length (now input)) × (length (now input) ≤ 16384) × (roomFor (length (now parents)) ≤ length (now out)) ⌝ }
     ensures { λ r. ⌜ Put 0 (tableText (toldMurm table) (now (parents .entry)) (now (codes .entry)) ++ queryTexts (toldMurm table) (arrays (now (prints .entry)) (now (parents .entry)) (now (codes .entry))) (linesOf (drop from (now (input .entry))))) r (now (out .entry)) (now (out .exit)) ⌝ }
 {
@@ -70,7 +70,31 @@ fn put_table(
     put_queries(out, next, table, prints, parents, codes, input, from)
 }
 
-// A table is built, and it and the queries are put, or the refusal.
+// What a build came to: its table and the queries, or its refusal.
+fn put_building(
+    out: &mut [u8],
+    built: Building,
+    prints: &[u64],
+    parents: &[u32],
+    codes: &[u32],
+    input: &[u8],
+    from: usize,
+) -> usize
+    requires { ⌜ Ready (toldBuilding built) (now parents) (now codes) ⌝ }
+    requires { ⌜ (from ≤ length (now input)) × (length (now input) ≤ 16384) × (roomFor (length (now parents)) ≤ length (now out)) ⌝ }
+    ensures { λ r. ⌜ Put 0 (replyThen (toldBuilding built) (arrays (now (prints .entry)) (now (parents .entry)) (now (codes .entry))) (linesOf (drop from (now (input .entry))))) r (now (out .entry)) (now (out .exit)) ⌝ }
+{
+    match built {
+        Building::Table(table) => put_table(out, table, prints, parents, codes, input, from),
+        Building::WidthLimit => circuits_lines::put_refused(out, 0, 1, 0),
+        Building::NoEntries => circuits_lines::put_refused(out, 0, 2, 0),
+        Building::Basis => circuits_lines::put_refused(out, 0, 3, 0),
+        Building::TooLarge => circuits_lines::put_refused(out, 0, 4, 0),
+        Building::ArrayTooShort => circuits_lines::put_refused(out, 0, 5, 0),
+    }
+}
+
+// A table is built in the lent arrays, and it and the queries are put, or the refusal.
 fn put_build(
     out: &mut [u8],
     config: MurmConfig,
@@ -84,14 +108,8 @@ fn put_build(
     ensures { λ r. ⌜ Put 0 (builtText (arrays (now (prints .entry)) (now (parents .entry)) (now (codes .entry))) (linesOf (drop from (now (input .entry)))) (toldConfig config)) r (now (out .entry)) (now (out .exit)) ⌝ }
     ensures { λ _. ⌜ arrays (now (prints .exit)) (now (parents .exit)) (now (codes .exit)) ≡ buildOf (toldConfig config) (arrays (now (prints .entry)) (now (parents .entry)) (now (codes .entry))) .arrays ⌝ }
 {
-    match murm::build(config, prints, parents, codes) {
-        Building::Table(table) => put_table(out, table, prints, parents, codes, input, from),
-        Building::WidthLimit => circuits_lines::put_refused(out, 0, 1, 0),
-        Building::NoEntries => circuits_lines::put_refused(out, 0, 2, 0),
-        Building::Basis => circuits_lines::put_refused(out, 0, 3, 0),
-        Building::TooLarge => circuits_lines::put_refused(out, 0, 4, 0),
-        Building::ArrayTooShort => circuits_lines::put_refused(out, 0, 5, 0),
-    }
+    let built = murm::build(config, prints, parents, codes);
+    put_building(out, built, prints, parents, codes, input, from)
 }
 
 // The limits of line one.

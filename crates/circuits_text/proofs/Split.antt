@@ -173,7 +173,7 @@ module _ {w : List ℕ} {v i : ℕ} (n : Numbering w v i) where
   word-number h g = rw (le-leb 1 (length w) (n .some), le-leb (length w) 10 (n .few), all-digits h, is-value h, le-leb v 4294967295 g)
 
 -- ---- words
-before-take : (c : ℕ) (bs : List ℕ) → take (length (before c bs)) bs ≡ before c bs
+pub before-take : (c : ℕ) (bs : List ℕ) → take (length (before c bs)) bs ≡ before c bs
 unfolding before
 before-take c [] = refl
 before-take c (b ∷ bs) = by (eqb b c) (before-take c bs)

@@ -4,9 +4,10 @@ use mathlib.Core.List.{List}
 use Prim.Native.Nat.{ℕ, _≤_, _<_}
 use borrow.Author.Tests.{lt-ltb, le-ltb}
 use lib.ListN.{length}
+use Rattle.ints.specs.Lists.{over}
 use Rattle.width_answer.specs.Answers.{Reply, outcome}
 use Rattle.tables.specs.Checks.{Limits, Arrays}
-use Rattle.tables.specs.Tables.{Table, BuildReply, Left, left, overlay, buildOf, Query, synthesized}
+use Rattle.tables.specs.Tables.{Table, BuildReply, Left, left, buildOf, Query, synthesized}
 use Rattle.murm_config.specs.Told.{toldMurm}
 use Rattle.murm_config.specs.declared.Murm.{Murm}
 use Rattle.murm.specs.Entries.{toldBuilding}
@@ -16,7 +17,7 @@ use Rattle.bench.specs.Tables.{tableOf, numbersOf, buildNumber, recorded
 
 -- ---- a build
 
-pub table-told : (old : List ℕ) (m : Murm) {t : Building} {new : List ℕ} → t ≡ b.Table m → new ≡ overlay (numbersOf (toldMurm m)) old
+pub table-told : (old : List ℕ) (m : Murm) {t : Building} {new : List ℕ} → t ≡ b.Table m → new ≡ over (numbersOf (toldMurm m)) old
     → (0 ≡ buildNumber (toldBuilding t)) × (new ≡ recorded (toldBuilding t) old)
 table-told old m e h = (
   ap (λ (x : Building). buildNumber (toldBuilding x)) (sym e),

@@ -1,18 +1,16 @@
 -- A table's limits and record as numbers, and what a build and an answer come to as numbers. Assumes nothing.
-use mathlib.Core.Bool.{Bool, not}
+use mathlib.Core.Bool.{not}
 use mathlib.Core.List.{List, [], _∷_, _++_}
 use Prim.Native.Nat.{ℕ, _+_}
 use lib.Dec.{eqb, ltb}
 use lib.ListN.{length, getD}
-use Rattle.ints.specs.Lists.{pick}
+use Rattle.ints.specs.Lists.{pick, over}
 use Rattle.width_answer.specs.Answers.{Reply, Outcome, given, none, refused}
 use Rattle.tables.specs.Checks.{Limits, Arrays}
-use Rattle.tables.specs.Tables.{Width, Table, BuildReply, table, refusal, Left, overlay, buildOf, Query, synthesized}
+use Rattle.tables.specs.Tables.{Width, Table, BuildReply, table, refusal, Left, buildOf, Query, synthesized}
+use Rattle.circuits_text.specs.Writing.{digitOf}
 
 -- ---- a record as 15 numbers: count, depth and saturated (1 or 0) of each width from 1 to 5
-
-abbrev pub limitsOf : ℕ → ℕ → ℕ → ℕ → Limits
-limitsOf q g e b = record { qubits = q; gates = g; entries = e; basis = b }
 
 -- a width's row at the places from i on; every number other than 0 is saturated
 abbrev pub widthIn : List ℕ → ℕ → Width
@@ -23,9 +21,6 @@ tableOf l numbers = record {
   limits = l;
   widths = widthIn numbers 0 ∷ widthIn numbers 3 ∷ widthIn numbers 6 ∷ widthIn numbers 9 ∷ widthIn numbers 12 ∷ [];
 }
-
-abbrev pub digitOf : Bool → ℕ
-digitOf b = pick b 1 0
 
 abbrev pub widthNumbers : Width → List ℕ
 widthNumbers w = w .count ∷ w .depth ∷ digitOf (w .saturated) ∷ []
@@ -46,23 +41,23 @@ buildNumber (refusal r p) = r
 
 -- what the lent record holds: the table's on its first places, and all as they were where the build is refused
 abbrev pub recorded : BuildReply → List ℕ → List ℕ
-recorded (table t) numbers = overlay (numbersOf t) numbers
+recorded (table t) numbers = over (numbersOf t) numbers
 recorded (refusal r p) numbers = numbers
 
 -- the number returned, the three arrays and the lent record after it
-pub record Built : Type 0 where
+pub record BuiltNumbers : Type 0 where
   pub number : ℕ
   pub arrays : Arrays
   pub numbers : List ℕ
 
-abbrev pub builtAs : ℕ → Arrays → List ℕ → Built
+abbrev pub builtAs : ℕ → Arrays → List ℕ → BuiltNumbers
 builtAs r a numbers = record { number = r; arrays = a; numbers = numbers }
 
-abbrev pub builtBy : Left → List ℕ → Built
+abbrev pub builtBy : Left → List ℕ → BuiltNumbers
 builtBy o numbers = builtAs (buildNumber (o .reply)) (o .arrays) (recorded (o .reply) numbers)
 
 -- 99 for a record of less than 15 places
-unfoldable pub benchBuilt : Limits → Arrays → List ℕ → Built
+unfoldable pub benchBuilt : Limits → Arrays → List ℕ → BuiltNumbers
 benchBuilt l a numbers = pick (ltb (length numbers) 15) (builtAs 99 a numbers) (builtBy (buildOf l a) numbers)
 
 -- ---- an answer
@@ -74,17 +69,17 @@ replyNumber none = 1000
 replyNumber (refused r p) = 2000 + r
 
 -- the number returned, and the lent list after it
-pub record Answered : Type 0 where
+pub record AnsweredNumbers : Type 0 where
   pub number : ℕ
   pub list : List ℕ
 
-abbrev pub answered : ℕ → List ℕ → Answered
+abbrev pub answered : ℕ → List ℕ → AnsweredNumbers
 answered r out = record { number = r; list = out }
 
-abbrev pub answeredBy : Outcome → Answered
+abbrev pub answeredBy : Outcome → AnsweredNumbers
 answeredBy o = answered (replyNumber (o .reply)) (o .list)
 
 -- 2099 for a record of less than 15 places
-unfoldable pub benchAnswered : Limits → List ℕ → Arrays → Query → List ℕ → Answered
+unfoldable pub benchAnswered : Limits → List ℕ → Arrays → Query → List ℕ → AnsweredNumbers
 benchAnswered l numbers a q out =
     pick (ltb (length numbers) 15) (answered 2099 out) (answeredBy (synthesized (tableOf l numbers) a q out))

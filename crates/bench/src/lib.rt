@@ -4,15 +4,16 @@ ghost use mathlib.Core.Path.{_≡_};
 ghost use Prim.Native.Nat.{_+_, _*_, _^_, _≤_};
 ghost use lib.ListN.{length};
 ghost use lib.Seq.{sets};
+ghost use Rattle.ints.specs.Lists.{over};
 ghost use Rattle.exact.specs.Fits.{AllSmall};
 ghost use Rattle.exact.specs.Fingerprint.{fingerprint};
 ghost use Rattle.places.specs.Places.{read, held};
-ghost use Rattle.tables.specs.Checks.{arrays};
-ghost use Rattle.tables.specs.Tables.{query, overlay};
+ghost use Rattle.tables.specs.Tables.{query};
+ghost use Rattle.tables.specs.Checks.{limitsOf, arrays};
 ghost use Rattle.murm_config.specs.Told.{toldConfig, toldWidth, toldMurm};
 ghost use Rattle.murm.specs.Entries.{listed, fingerprinted, toldBuilding, toldSynthesized};
 ghost use Rattle.bench.specs.Numbers.{orElse};
-ghost use Rattle.bench.specs.Tables.{limitsOf, widthIn, tableOf, digitOf, widthNumbers, numbersOf, buildNumber, recorded, builtAs, benchBuilt, replyNumber, answered, benchAnswered};
+ghost use Rattle.bench.specs.Tables.{widthIn, tableOf, widthNumbers, numbersOf, buildNumber, recorded, builtAs, benchBuilt, replyNumber, answered, benchAnswered};
 use circuit::GateSet;
 use cyclotomic::Coefficient;
 use murm::Building;
@@ -75,15 +76,6 @@ fn config_of(q: u32, g: u32, e: u32, b: u32) -> MurmConfig
     }
 }
 
-fn digit(b: bool) -> u64
-    ensures { λ r. ⌜ r ≡ digitOf b ⌝ }
-{
-    if b {
-        return 1;
-    }
-    0
-}
-
 // A record as 15 numbers: count, depth and saturated (0 or 1) of each width from 1 to 5. Those of a width stand from a place on.
 fn put_width(numbers: &mut [u64], at: usize, row: WidthTable)
     requires { ⌜ at + 3 ≤ length (now numbers) ⌝ }
@@ -91,12 +83,12 @@ fn put_width(numbers: &mut [u64], at: usize, row: WidthTable)
 {
     numbers[at] = row.count as u64;
     numbers[at + 1] = row.depth as u64;
-    numbers[at + 2] = digit(row.saturated);
+    numbers[at + 2] = circuits_text::digit(row.saturated);
 }
 
 fn put_record(numbers: &mut [u64], table: Murm)
     requires { ⌜ 15 ≤ length (now numbers) ⌝ }
-    ensures { λ _. ⌜ now (numbers .exit) ≡ overlay (numbersOf (toldMurm table)) (now (numbers .entry)) ⌝ }
+    ensures { λ _. ⌜ now (numbers .exit) ≡ over (numbersOf (toldMurm table)) (now (numbers .entry)) ⌝ }
 {
     put_width(numbers, 0, table.width1);
     put_width(numbers, 3, table.width2);

@@ -1,5 +1,5 @@
 -- Laws of texts put one after the other in a loop. Assumes nothing.
-use mathlib.Core.List.{List, [], _∷_, _++_, append-assoc, append-nil}
+use mathlib.Core.List.{List, [], _∷_, _++_, append-nil}
 use mathlib.Core.Path.{_≡_, refl, sym, ap, _∙_}
 use Prim.Native.Nat.{ℕ, _+_, _≤_, _<_}
 use native.Mathlib.Nat.{add-zero}
@@ -8,7 +8,7 @@ use native.Mathlib.Omega.{arith}
 use lib.ListN.{length, getD, take, take-append-drop}
 use lib.Seq.{take-suc}
 use Rattle.ints.specs.Lists.{each}
-use Rattle.ints.proofs.Runs.{each-none, each-more}
+use Rattle.ints.proofs.Runs.{each-none, each-more, each-append}
 use Rattle.circuits_text.specs.Writing.{Put}
 use Rattle.circuits_text.proofs.Placing.{put-as, then-put}
 use Rattle.circuits_lines.specs.Lines.{nodeLine, nodeLines, spacedCode, spacedCodes}
@@ -23,11 +23,6 @@ pub nodes-more :
     nodeLines parents codes i ++ nodeLine i (getD parents i 0) (getD codes i 0) ≡ nodeLines parents codes (i + 1)
 unfolding nodeLines
 nodes-more parents codes i = sym (each-more i (λ j. nodeLine j (getD parents j 0) (getD codes j 0)))
-
-pub each-append : (xs ys : List ℕ) (f : ℕ → List ℕ) → each (xs ++ ys) f ≡ each xs f ++ each ys f
-unfolding each
-each-append [] ys f = refl
-each-append (x ∷ xs) ys f = rw (each-append xs ys f, append-assoc)
 
 pub each-one : (x : ℕ) (f : ℕ → List ℕ) → each (x ∷ []) f ≡ f x
 unfolding each

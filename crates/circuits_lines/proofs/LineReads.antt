@@ -1,29 +1,22 @@
 -- Laws of a line that was read: its numbers, or that it is broken, decide its text. Assumes nothing.
 use mathlib.Core.Bool.{Bool, true, false, _&&_}
-use mathlib.Core.List.{List, [], _∷_}
+use mathlib.Core.List.{List}
 use mathlib.Core.Path.{_≡_, refl, sym, ap, _∙_}
-use Prim.Native.Nat.{ℕ, suc, _+_, _≤_, _<_}
+use Prim.Native.Nat.{ℕ, _+_, _≤_, _<_}
 use native.Mathlib.Omega.{arith}
 use borrow.Author.Tests.{leb-true, leb-false, le-leb, ne-eqb}
 use lib.Dec.{leb}
 use lib.ListN.{length, getD, take}
 use lib.Seq.{take-all, take-at}
-use Rattle.ints.specs.Lists.{pick}
-use Rattle.ints.proofs.Bools.{both-true}
+use Rattle.ints.specs.Lists.{pick, over}
 use Rattle.tables.specs.Checks.{Arrays}
 use Rattle.tables.specs.Tables.{Table}
-use Rattle.circuits_text.specs.Reading.{words, isNumber, allNumbers, numbers, lineOf, over, ReadInto}
+use Rattle.circuits_text.specs.Reading.{words, allNumbers, numbers, lineOf, ReadInto}
 use Rattle.circuits_text.specs.declared.Line.{Line}
 use Rattle.circuits_text.specs.declared.Line.the-variants.{Numbers, Broken}
+use Rattle.circuits_text.proofs.Split.{numbers-length}
 use Rattle.circuits_lines.specs.Program.{ended, readLine, brokenText, isQuery, queryText}
 use Rattle.circuits_lines.proofs.Queries.{no-query}
-
-pub numbers-length : (ws : List (List ℕ)) → allNumbers ws ≡ true → length (numbers ws) ≡ length ws
-unfolding allNumbers numbers
-numbers-length [] h = refl
-numbers-length (w ∷ ws) h =
-    let p = both-true (isNumber w) (allNumbers ws) h in
-    rw (p .0) (ap suc (numbers-length ws (p .1)))
 
 -- what a line's kind says of its words
 whole : (k n : ℕ) (ws : List (List ℕ)) → Numbers n ≡ lineOf k ws → (allNumbers ws ≡ true) × (length ws ≡ n) × (n ≤ k)

@@ -8,11 +8,12 @@ use native.Mathlib.Omega.{arith}
 use borrow.Author.Tests.{le-ltb}
 use lib.ListN.{length, take, drop}
 use Rattle.ints.specs.Lists.{range, each}
+use Rattle.ints.proofs.Runs.{range-snoc, each-append}
 use Rattle.tables.specs.Checks.{arrays, placesOf}
 use Rattle.tables.specs.Tables.{Width, Table, widthAt, partOf, recordRow}
 use Rattle.murm.proofs.Parts.{Part, part}
 use Rattle.circuits_lines.specs.Program.{rowText, widthText, widthTexts}
-use Rattle.circuits_lines.proofs.Each.{each-append, each-one}
+use Rattle.circuits_lines.proofs.Each.{each-one}
 
 -- where a width's part lies
 pub lies :
@@ -42,11 +43,6 @@ width-as t parents codes w h =
 pub widths-none : (t : Table) (parents codes : List ℕ) → [] ≡ widthTexts t parents codes 0
 unfolding widthTexts each range
 widths-none t parents codes = refl
-
-range-snoc : (i m : ℕ) → range i (suc m) ≡ range i m ++ ((i + m) ∷ [])
-unfolding range
-range-snoc i zero = ap (λ (k : ℕ). k ∷ []) (omega arith)
-range-snoc i (suc m) = ap (λ (l : List ℕ). i ∷ l) (range-snoc (suc i) m ∙ ap (λ (k : ℕ). range (suc i) m ++ (k ∷ [])) (omega arith))
 
 each-next : (k : ℕ) (f : ℕ → List ℕ) → each (range 1 k) f ++ f (suc k) ≡ each (range 1 (suc k)) f
 each-next k f =

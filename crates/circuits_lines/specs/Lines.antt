@@ -3,10 +3,10 @@ use mathlib.Core.Bool.{Bool}
 use mathlib.Core.List.{List, [], _∷_, _++_}
 use Prim.Native.Nat.{ℕ}
 use lib.ListN.{length, getD}
-use Rattle.ints.specs.Lists.{pick, range, each}
+use Rattle.ints.specs.Lists.{range, each}
 use Rattle.circuit.specs.Charge.{charge}
 use Rattle.circuits_text.specs.Reading.{space, newline}
-use Rattle.circuits_text.specs.Writing.{decimal}
+use Rattle.circuits_text.specs.Writing.{digitOf, decimal}
 
 -- a number, and the byte after it
 abbrev pub numberThen : ℕ → ℕ → List ℕ
@@ -26,10 +26,6 @@ refusedLine number position = (refusedWord ++ numberThen number space) ++ number
 -- "`none`"
 unfoldable pub noneLine : List ℕ
 noneLine = 110 ∷ 111 ∷ 110 ∷ 101 ∷ newline ∷ []
-
--- "saturated (0 or 1)"
-abbrev pub digitOf : Bool → ℕ
-digitOf b = pick b 1 0
 
 -- "`table` width, entries, depth, saturated (0 or 1)"
 unfoldable pub tableLine : ℕ → ℕ → ℕ → Bool → List ℕ

@@ -8,7 +8,7 @@ ghost use Rattle.tables.specs.Tables.{recordRow};
 ghost use Rattle.murm_config.specs.Told.{toldConfig, toldWidth, toldMurm};
 ghost use Rattle.murm.specs.Entries.{toldSynthesized, listed};
 ghost use Rattle.circuits_text.specs.Writing.{Put};
-ghost use Rattle.circuits_lines.specs.Lines.{numberThen, refusedLine, noneLine, digitOf, tableLine, nodeLine, nodeLines, spacedCode, spacedCodes, answerLine};
+ghost use Rattle.circuits_lines.specs.Lines.{numberThen, refusedLine, noneLine, tableLine, nodeLine, nodeLines, spacedCode, spacedCodes, answerLine};
 ghost use Rattle.circuits_lines.specs.Program.{ended, readLine, brokenText, replyText, lentList, matrixText, outcomeText, lentCount, lentMost, listText, isQuery, queryText, rowText, widthText, widthTexts};
 use circuits_text::Line;
 use circuits_text::NEWLINE;
@@ -20,7 +20,7 @@ use murm_config::Murm;
 use width_table::WidthTable;
 
 // A number and a byte after it: at most 21 bytes.
-fn put_number(out: &mut [u8], at: usize, n: u64, after: u8) -> usize
+pub fn put_number(out: &mut [u8], at: usize, n: u64, after: u8) -> usize
     requires { ⌜ at + 21 ≤ length (now out) ⌝ }
     ensures { λ r. ⌜ Put at (numberThen n after) r (now (out .entry)) (now (out .exit)) ⌝ }
     ensures { λ r. ⌜ r ≤ at + 21 ⌝ }
@@ -58,16 +58,6 @@ pub fn put_none(out: &mut [u8], at: usize) -> usize
     circuits_text::put_bytes(out, at, b"none\n")
 }
 
-// 0 or 1.
-fn digit(b: bool) -> u64
-    ensures { λ r. ⌜ r ≡ digitOf b ⌝ }
-{
-    if b {
-        return 1;
-    }
-    0
-}
-
 // `table` width, entries, depth, saturated: at most 90 bytes.
 pub fn put_table_line(
     out: &mut [u8],
@@ -85,7 +75,7 @@ pub fn put_table_line(
     let second = put_number(out, first, width as u64, SPACE);
     let third = put_number(out, second, count as u64, SPACE);
     let fourth = put_number(out, third, depth as u64, SPACE);
-    put_number(out, fourth, digit(saturated), NEWLINE)
+    put_number(out, fourth, circuits_text::digit(saturated), NEWLINE)
 }
 
 // Node, parent, code: at most 33 bytes, where 43 are left.
@@ -126,7 +116,7 @@ fn put_code(out: &mut [u8], at: usize, code: u32) -> usize
 }
 
 // Each code after a space: at most 11 bytes each, and 10 more are left.
-fn put_codes(out: &mut [u8], at: usize, codes: &[u32]) -> usize
+pub fn put_codes(out: &mut [u8], at: usize, codes: &[u32]) -> usize
     requires { ⌜ at + 11 * length (now codes) + 10 ≤ length (now out) ⌝ }
     ensures { λ r. ⌜ Put at (spacedCodes (now (codes .entry))) r (now (out .entry)) (now (out .exit)) ⌝ }
     ensures { λ r. ⌜ r ≤ at + 11 * length (now (codes .entry)) ⌝ }
@@ -246,7 +236,7 @@ fn put_listed(
 }
 
 // How many bytes a list's matrix takes; none for a width that is refused.
-fn byte_count(width: u32) -> usize
+pub fn byte_count(width: u32) -> usize
     ensures { λ r. ⌜ r ≡ lentCount width ⌝ }
     ensures { λ r. ⌜ r ≤ 4096 ⌝ }
 {

@@ -2,3 +2,4 @@ pub mod InputLines
 pub mod Rooms
 pub mod Asking
 pub mod Builds
+pub mod Inputs

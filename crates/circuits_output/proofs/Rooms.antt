@@ -16,7 +16,7 @@ use Rattle.circuits_lines.specs.Lines.{refusedLine}
 use Rattle.circuits_lines.specs.Program.{ended, readLine, brokenText, isQuery, queryText}
 use Rattle.circuits_output.specs.Output.{roomFor}
 use Rattle.circuits_lines.proofs.Queries.{no-query, two-numbers}
-use Rattle.circuits_lines.proofs.LineReads.{numbers-length}
+use Rattle.circuits_text.proofs.Split.{numbers-length}
 use Rattle.circuits_output.proofs.InputLines.{two-words}
 
 -- `refused 14 0` and its newline

@@ -5,10 +5,9 @@ use mathlib.Core.List.{List, [], _∷_, _++_}
 use Prim.Native.Nat.{ℕ, _+_, _*_, _≤_, min}
 use lib.Dec.{eqb, ltb}
 use lib.ListN.{length, getD, replicate}
-use Rattle.ints.specs.Lists.{pick}
+use Rattle.ints.specs.Lists.{pick, over}
 use Rattle.tables.specs.Checks.{Limits, limitsOf, Arrays, arrays, placesOf}
 use Rattle.tables.specs.Tables.{BuildReply, table, refusal, buildOf, recordRow}
-use Rattle.circuits_text.specs.Reading.{over}
 use Rattle.circuits_lines.specs.Lines.{refusedLine}
 use Rattle.circuits_lines.specs.Program.{InputLine, linesOf, readLine, brokenText, queryTexts, tableText}
 use Rattle.circuits_output.specs.declared.Printed.{Printed}
@@ -73,8 +72,11 @@ unfoldable pub arraysAfter : Arrays → List ℕ → Arrays
 arraysAfter lent input = inputArrays lent (inputOf input)
 
 -- "Q × E above 2048 meets refusal 5": each array has 2,048 places
-unfoldable pub lentArrays : Arrays
-lentArrays = arrays (replicate 2048 0) (replicate 2048 0) (replicate 2048 0)
+unfoldable pub lentPlaces : List ℕ
+lentPlaces = replicate 2048 0
+
+abbrev pub lentArrays : Arrays
+lentArrays = arrays lentPlaces lentPlaces lentPlaces
 
 -- the program's output
 unfoldable pub output : List ℕ → List ℕ

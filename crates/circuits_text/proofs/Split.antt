@@ -10,12 +10,12 @@ use borrow.Author.Tests.{eq-eqb, ne-eqb, le-leb, lt-leb, leb-true, eqb-true}
 use lib.Dec.{eqb, leb}
 use lib.ListN.{length, getD, set, take, drop, length-append, length-drop, length-set, drop-of-length-le}
 use lib.Seq.{drop-cons, take-at, take-all, set-at, drop-drop}
-use Rattle.ints.specs.Lists.{pick, all}
+use Rattle.ints.specs.Lists.{pick, all, over}
 use Rattle.ints.proofs.Bools.{clash, both-true, and-left, and-right}
 use Rattle.circuits_text.specs.declared.Word.the-variants.{Number, Other}
 use Rattle.circuits_text.specs.declared.Line.{Line}
 use Rattle.circuits_text.specs.declared.Line.the-variants.{Numbers, Broken}
-use Rattle.circuits_text.specs.Reading.{space, before, sameBytes, longer, words, over, ReadInto}
+use Rattle.circuits_text.specs.Reading.{space, before, sameBytes, longer, words, ReadInto}
 use Rattle.circuits_text.specs.Reading.{isDigit, valueFrom, value, isNumber, wordOf, allNumbers, numbers, lineOf}
 
 -- ---- a byte that is looked for
@@ -45,17 +45,8 @@ module _ {c : ℕ} {s : List ℕ} {at p : ℕ} (h : Searching c s at p) where
       record { within = omega arith; past = omega arith; same = omega arith }
 
 -- ---- words compared
--- lists of bytes that are the same, and no others, are told so
-pub same-yes : (a b : List ℕ) → a ≡ b → sameBytes a b ≡ true
-unfolding sameBytes
-same-yes [] [] e = refl
-same-yes [] (y ∷ b) e = let z : _≡_ {A = ℕ} 0 1 = cc in absurd (omega arith)
-same-yes (x ∷ a) [] e = let z : _≡_ {A = ℕ} 0 1 = cc in absurd (omega arith)
-same-yes (x ∷ a) (y ∷ b) e =
-    let h : x ≡ y = cc in
-    let t : a ≡ b = cc in
-    rw (eq-eqb x y h) (same-yes a b t)
 
+-- only lists of bytes that are the same are told so
 pub same-no : (a b : List ℕ) → sameBytes a b ≡ true → a ≡ b
 unfolding sameBytes
 same-no [] [] e = refl
@@ -250,7 +241,7 @@ numbers-append (w ∷ a) b h =
     let p = both-true (isNumber w) (allNumbers a) h in
     rw (p .0) (ap (λ (l : List ℕ). value w ∷ l) (numbers-append a b (p .1)))
 
-numbers-length : (a : List (List ℕ)) → allNumbers a ≡ true → length (numbers a) ≡ length a
+pub numbers-length : (a : List (List ℕ)) → allNumbers a ≡ true → length (numbers a) ≡ length a
 unfolding allNumbers numbers
 numbers-length [] h = refl
 numbers-length (w ∷ a) h =

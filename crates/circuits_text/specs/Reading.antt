@@ -1,12 +1,12 @@
 -- Lines of numbers, as bytes: what a word, a number and a line's numbers are. Document 01, "The program circuits": "Numbers are unsigned,
 -- up to 4294967295, at most ten digits, one space between, every line ended by a newline." Assumes nothing.
 use mathlib.Core.Bool.{Bool, true, false, _&&_}
-use mathlib.Core.List.{List, [], _∷_, _++_}
+use mathlib.Core.List.{List, [], _∷_}
 use mathlib.Core.Path.{_≡_}
 use Prim.Native.Nat.{ℕ, _+_, _-_, _*_}
 use lib.Dec.{eqb, leb}
-use lib.ListN.{length, take, drop}
-use Rattle.ints.specs.Lists.{pick, all}
+use lib.ListN.{length, take}
+use Rattle.ints.specs.Lists.{pick, over, all}
 use Rattle.circuits_text.specs.declared.Word.{Word}
 use Rattle.circuits_text.specs.declared.Word.the-variants.{Number, Other}
 use Rattle.circuits_text.specs.declared.Line.{Line}
@@ -75,10 +75,6 @@ numbers (w ∷ ws) = pick (isNumber w) (value w ∷ numbers ws) []
 -- what a line is, for a list with that many places: numbers alone, as many as it has words, or broken
 unfoldable pub lineOf : ℕ → List (List ℕ) → Line
 lineOf places ws = pick (allNumbers ws && leb (length ws) places) (Numbers (length ws)) Broken
-
--- new on the first places of old; later places keep what they held
-abbrev pub over : List ℕ → List ℕ → List ℕ
-over new old = new ++ drop (length new) old
 
 -- a line's bytes were read into a list: it holds the numbers up to the first word that is none, as far as it has places
 pub record ReadInto (bytes old now : List ℕ) (line : Line) : Type 0 where

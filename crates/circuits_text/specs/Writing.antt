@@ -1,4 +1,5 @@
 -- Numbers as bytes: decimal, signed decimal, hexadecimal, and what bytes put into places leave there. Assumes nothing.
+use mathlib.Core.Bool.{Bool}
 use mathlib.Core.List.{List, [], _∷_, _++_}
 use mathlib.Core.Path.{_≡_}
 use Prim.Native.Nat.{ℕ, zero, suc, _+_, _/_, _%_, _≤_}
@@ -10,6 +11,10 @@ use Rattle.ints.specs.Lists.{pick}
 -- the byte of a digit below 16: 0 to 9, then a to f
 unfoldable pub glyph : ℕ → ℕ
 glyph d = pick (ltb d 10) (48 + d) (87 + d)
+
+-- no is 0, yes is 1
+abbrev pub digitOf : Bool → ℕ
+digitOf b = pick b 1 0
 
 -- the decimal digits of a number below 10^m, the most significant first and no zero before them
 unfoldable pub decimalIn : ℕ → ℕ → List ℕ

@@ -7,7 +7,7 @@ ghost use Prim.Native.Nat.{_+_, _<_, _≤_};
 ghost use lib.IntN.{natAbs};
 ghost use lib.ListN.{length, drop};
 ghost use Rattle.circuits_text.specs.Reading.{before, sameBytes, wordOf, ReadInto};
-ghost use Rattle.circuits_text.specs.Writing.{decimal, signed, hex, Put};
+ghost use Rattle.circuits_text.specs.Writing.{digitOf, decimal, signed, hex, Put};
 ghost use Rattle.circuits_text.specs.Writing.{glyph as glyphOf};
 
 pub const SPACE: u8 = 32;
@@ -134,6 +134,16 @@ pub fn put_bytes(out: &mut [u8], at: usize, bytes: &[u8]) -> usize
         i += 1;
     }
     at + i
+}
+
+// 0 or 1.
+pub fn digit(b: bool) -> u64
+    ensures { λ r. ⌜ r ≡ digitOf b ⌝ }
+{
+    if b {
+        return 1;
+    }
+    0
 }
 
 // The byte of a digit.

@@ -2,15 +2,11 @@
 -- Assumes nothing.
 use mathlib.Core.Path.{_≡_}
 use Rattle.cyclotomic.specs.Zomega.{Zω, zeroω, addω}
-use Rattle.cyclotomic.proofs.Four.{same4, zeroE, addE, X, Y, Z, W, of1, of2, of3, of4}
+use Rattle.cyclotomic.proofs.Four.{same4, zeroE, addE, X, Y, Z, W, of1, of2, of4}
 
 pub add-comm : (x y : Zω) → addω x y ≡ addω y x
 unfolding addω
 add-comm x y = same4 (of2 x y) (addE X Y) (addE Y X) tt
-
-pub add-assoc : (x y z : Zω) → addω (addω x y) z ≡ addω x (addω y z)
-unfolding addω
-add-assoc x y z = same4 (of3 x y z) (addE (addE X Y) Z) (addE X (addE Y Z)) tt
 
 -- the two in the middle change places
 pub add-four : (x y z w : Zω) → addω (addω x y) (addω z w) ≡ addω (addω x z) (addω y w)

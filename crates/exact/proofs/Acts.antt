@@ -91,7 +91,3 @@ module _ (n : ℕ) where
     small = s .small;
     same = equal-same n (equal-trans n (equal-sym n (turned-lower n (s .power) x)) (lower-unique n (s .same)));
   }
-
-  -- lowest forms: that power takes each entry to the other's
-  pub power-lowest : {x y : Exact} (s : PowerOf n x y) → Lowest n x → Lowest n y → Equal n (turned (s .power) x) y
-  power-lowest s l m = unique n (turned-lowest n (s .power) l) m (s .same)

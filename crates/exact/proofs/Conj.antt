@@ -18,18 +18,10 @@ use Rattle.exact.specs.Unitary.{conj, total}
 abbrev conjE : Four → Four
 conjE x = record { a = x .a; b = ⊝ (x .d); c = ⊝ (x .c); d = ⊝ (x .b) }
 
--- the conjugate goes through sums and products, and undoes itself
+-- the conjugate goes through sums
 pub conj-add : (x y : Zω) → conj (addω x y) ≡ addω (conj x) (conj y)
 unfolding conj addω
 conj-add x y = same4 (of2 x y) (conjE (addE X Y)) (addE (conjE X) (conjE Y)) tt
-
-pub conj-mul : (x y : Zω) → conj (mulω x y) ≡ mulω (conj x) (conj y)
-unfolding conj mulω
-conj-mul x y = same4 (of2 x y) (conjE (mulE X Y)) (mulE (conjE X) (conjE Y)) tt
-
-pub conj-conj : (x : Zω) → conj (conj x) ≡ x
-unfolding conj
-conj-conj x = same4 (of1 x) (conjE (conjE X)) X tt
 
 pub conj-zero : conj zeroω ≡ zeroω
 unfolding conj zeroω

@@ -50,9 +50,6 @@ module _ (n : ℕ) where
   after-power [] s = s
   after-power (g ∷ l) s = after-power l (act-power n (gateOf n g) (proper n g) s)
 
-  pub product-power : (l m r : List ℕ) → PowerOf n (product n l) (product n m) → PowerOf n (product n (l ++ r)) (product n (m ++ r))
-  product-power l m r s = rw (product-append l r, product-append m r) (after-power r s)
-
   -- ---- lists of one product: two adjacent codes anywhere
   pub product-swap : (l : List ℕ) (g h : ℕ) (m : List ℕ) → disjoint g h ≡ true → Equal n (product n (l ++ (g ∷ h ∷ m))) (product n (l ++ (h ∷ g ∷ m)))
   product-swap l g h m e =

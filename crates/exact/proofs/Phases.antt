@@ -14,11 +14,11 @@ use Rattle.ints.proofs.Bools.{both-true, and-both}
 use Rattle.cyclotomic.specs.Zomega.{eqω, Zω, mk, zeroω, turn, eqZ, isZero, less, leastUpTo, phase}
 use Rattle.cyclotomic.proofs.Turns.{turn-sum, turn-back, turn-zero}
 use Rattle.cyclotomic.proofs.Order
-use Rattle.cyclotomic.proofs.Order.{phase-below, phase-unique, phase-turn}
+use Rattle.cyclotomic.proofs.Order.{phase-turn}
 use Rattle.cyclotomic.proofs.Answers.{eqZ-true, eqZ-self, zero-yes, zero-no, zero-is, zero-turn}
 use Rattle.exact.specs.Matrix.{Exact, Equal, Lowest, allEntries, turned, PowerOf}
 use Rattle.exact.specs.Phase.{flat, firstNonzero, pivot, phaseOf, phased, upToPhase}
-use Rattle.exact.proofs.Values.{entries-to, entries-from, equal-refl, equal-sym, equal-trans, equal-same, unique, turned-lowest}
+use Rattle.exact.proofs.Values.{entries-to, entries-from, equal-sym, equal-trans, equal-same, unique, turned-lowest}
 
 -- ---- tests of entries
 
@@ -119,20 +119,10 @@ module _ (n : ℕ) where
 
   -- ---- the phase
 
-  pub phase-lt : (x : Exact) → phaseOf n x < 8
-  unfolding phaseOf
-  phase-lt x = phase-below (pivot n x)
-
   -- no power makes the pivot less than the phase does
   pub phase-least : (x : Exact) (p : ℕ) → p < 8 → less (turn p (pivot n x)) (turn (phaseOf n x) (pivot n x)) ≡ false
   unfolding phaseOf
   phase-least x p h = Order.phase-least (pivot n x) p h
-
-  -- of a matrix with an entry that is not zero, it is the only such power
-  pub phase-only : (x : Exact) (r c : ℕ) → r < 2 ^ n → c < 2 ^ n → (x .e r c ≡ zeroω → ⊥) → (q : ℕ) → q < 8
-      → ((p : ℕ) → p < 8 → less (turn p (pivot n x)) (turn q (pivot n x)) ≡ false) → q ≡ phaseOf n x
-  unfolding phaseOf
-  phase-only x r c i j nz q h f = phase-unique q (pivot n x) (λ e. nz (pivot-zero x e r c i j)) h f
 
   -- "0 for the zero matrix"
   pub phase-of-zero : (x : Exact) → ((r c : ℕ) → r < 2 ^ n → c < 2 ^ n → x .e r c ≡ zeroω) → phaseOf n x ≡ 0
@@ -185,9 +175,6 @@ module _ (n : ℕ) where
   phased-test x y w =
       and-both (eqb (x .k) (y .k)) (allEntries n (alike x y)) (eq-eqb (x .k) (y .k) (w .exponent))
       (entries-from n (alike x y) (λ r c p q. eq-eqω (phased n x .e r c) (phased n y .e r c) (w .entries r c p q)))
-
-  pub up-refl : (x : Exact) → upToPhase n x x ≡ true
-  up-refl x = phased-test x x (equal-refl n (phased n x))
 
   pub up-sym : (x y : Exact) → upToPhase n x y ≡ true → upToPhase n y x ≡ true
   up-sym x y h = phased-test y x (equal-sym n (test-phased x y h))

@@ -1,17 +1,14 @@
--- The fingerprint of a matrix: a word, and one for all matrices that are equal up to phase. Assumes nothing.
+-- The fingerprint of a matrix: one for all matrices that are equal up to phase. Assumes nothing.
 use mathlib.Core.Path.{_≡_, refl}
 use mathlib.Core.Bool.{true}
 use mathlib.Core.List.{_∷_, _++_}
-use Prim.Native.Nat.{ℕ, zero, suc, _*_, _^_, _/_, _%_, _<_}
+use Prim.Native.Nat.{ℕ, zero, suc, _*_, _^_, _%_, _<_}
 use native.Mathlib.Omega.{arith}
-use native.Mathlib.Nat.{mod-lt, lt-of-le-of-lt}
-use lib.Bits.{xor-lt}
-use lib.Pow.{pow-pos, shr-le}
 use Rattle.cyclotomic.specs.Zomega.{Zω}
-use Rattle.words.specs.Words.{words, product}
+use Rattle.words.specs.Words.{words}
 use Rattle.exact.specs.Matrix.{Exact, Equal, Lowest, PowerOf}
 use Rattle.exact.specs.Phase.{flat, phased, upToPhase}
-use Rattle.exact.specs.Fingerprint.{Streams, start, mixAll, xorShift, fold, fourWords, wordsOf, fingerprint}
+use Rattle.exact.specs.Fingerprint.{start, mixAll, fold, fourWords, wordsOf, fingerprint}
 use Rattle.exact.proofs.Phases.{flat-equal, phased-equal, test-phased, test-of-power}
 
 pub words-same : (m : ℕ) (f g : ℕ → Zω) → ((i : ℕ) → i < m → f i ≡ g i) → wordsOf m f ≡ wordsOf m g
@@ -19,22 +16,7 @@ words-same zero f g h = refl
 words-same (suc m) f g h =
     λ i. fourWords (h 0 (omega arith) i) ++ words-same m (λ j. f (suc j)) (λ j. g (suc j)) (λ j q. h (suc j) (omega arith)) i
 
-product-lt : (a b : ℕ) → product a b < 2 ^ 64
-unfolding product
-product-lt a b = mod-lt (a * b) (pow-pos 64)
-
-shift-lt : (k a : ℕ) → a < 2 ^ 64 → xorShift k a < 2 ^ 64
-shift-lt k a h = xor-lt 64 a (a / 2 ^ k) h (lt-of-le-of-lt (shr-le a k) h)
-
-fold-lt : (s : Streams) → fold s < 2 ^ 64
-unfolding fold
-fold-lt s = shift-lt 31 _ (product-lt _ _)
-
 module _ (n : ℕ) where
-  pub fingerprint-lt : (x : Exact) → fingerprint n x < 2 ^ 64
-  unfolding fingerprint
-  fingerprint-lt x = fold-lt _
-
   phased-print : (x y : Exact) → Equal n (phased n x) (phased n y) → fingerprint n x ≡ fingerprint n y
   unfolding fingerprint
   phased-print x y w =

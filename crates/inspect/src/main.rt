@@ -54,25 +54,6 @@ fn node_space() -> [u32; 100000]
     [0; 100000]
 }
 
-// A number and a byte after it: at most 21 bytes.
-fn put_number(out: &mut [u8], at: usize, n: u64, after: u8) -> usize
-    requires { ⌜ at + 21 ≤ length (now out) ⌝ }
-    ensures { λ r. ⌜ r ≤ at + 21 ⌝ }
-{
-    let next = circuits_text::put_decimal(out, at, n);
-    circuits_text::put_byte(out, next, after)
-}
-
-// `refused` number position: at most 50 bytes.
-fn put_refused(out: &mut [u8], at: usize, number: u64, position: u64) -> usize
-    requires { ⌜ at + 50 ≤ length (now out) ⌝ }
-    ensures { λ r. ⌜ r ≤ at + 50 ⌝ }
-{
-    let first = circuits_text::put_bytes(out, at, b"refused ");
-    let second = put_number(out, first, number, SPACE);
-    put_number(out, second, position, NEWLINE)
-}
-
 fn wide(x: Coefficient) -> i32 {
     x as i32
 }
@@ -110,21 +91,6 @@ fn put_matrix(
     circuits_text::put_byte(out, fourth, NEWLINE)
 }
 
-// How many places a matrix takes, 4 × 4^n; none for a width that is refused.
-fn places(width: u32) -> usize
-    ensures { λ r. ⌜ r ≤ 4096 ⌝ }
-{
-    match width {
-        0 => 4,
-        1 => 16,
-        2 => 64,
-        3 => 256,
-        4 => 1024,
-        5 => 4096,
-        _ => 0,
-    }
-}
-
 // A matrix with its fingerprint.
 fn fingerprinted(
     out: &mut [u8],
@@ -138,10 +104,10 @@ fn fingerprinted(
 {
     match murm::library_fingerprint(width, exponent, entries) {
         Fingerprinted::Fingerprint(f) => put_matrix(out, at, exponent, f, entries),
-        Fingerprinted::WidthTooLarge => put_refused(out, at, 6, 0),
-        Fingerprinted::LengthNotExact => put_refused(out, at, 9, 0),
-        Fingerprinted::OutOfRange => put_refused(out, at, 10, 0),
-        Fingerprinted::NotLowest => put_refused(out, at, 11, 0),
+        Fingerprinted::WidthTooLarge => circuits_lines::put_refused(out, at, 6, 0),
+        Fingerprinted::LengthNotExact => circuits_lines::put_refused(out, at, 9, 0),
+        Fingerprinted::OutOfRange => circuits_lines::put_refused(out, at, 10, 0),
+        Fingerprinted::NotLowest => circuits_lines::put_refused(out, at, 11, 0),
     }
 }
 
@@ -158,10 +124,10 @@ fn listed(
 {
     match murm::library_circuit_matrix(width, codes, entries) {
         Listed::Matrix(k) => fingerprinted(out, at, width, k, entries),
-        Listed::WidthTooLarge => put_refused(out, at, 6, 0),
-        Listed::LengthNotExact => put_refused(out, at, 9, 0),
-        Listed::NotValid(i) => put_refused(out, at, 7, i as u64),
-        Listed::DoesNotFit(i) => put_refused(out, at, 8, i as u64),
+        Listed::WidthTooLarge => circuits_lines::put_refused(out, at, 6, 0),
+        Listed::LengthNotExact => circuits_lines::put_refused(out, at, 9, 0),
+        Listed::NotValid(i) => circuits_lines::put_refused(out, at, 7, i as u64),
+        Listed::DoesNotFit(i) => circuits_lines::put_refused(out, at, 8, i as u64),
     }
 }
 
@@ -178,7 +144,7 @@ fn list(out: &mut [u8], at: usize, width: u32, codes: &[u32]) -> usize
     ensures { λ r. ⌜ r ≤ at + 49190 ⌝ }
 {
     let mut entries = entry_space();
-    let n = places(width);
+    let n = circuits_lines::byte_count(width);
     listed(out, at, width, codes, &mut entries[..n])
 }
 
@@ -192,10 +158,10 @@ fn list_numbers(out: &mut [u8], at: usize, numbers: &[u32]) -> usize
     ensures { λ r. ⌜ r ≤ at + 49190 ⌝ }
 {
     if numbers.len() < 2 {
-        return put_refused(out, at, 14, 0);
+        return circuits_lines::put_refused(out, at, 14, 0);
     }
     if numbers.len() - 2 != long(numbers[1]) {
-        return put_refused(out, at, 14, 0);
+        return circuits_lines::put_refused(out, at, 14, 0);
     }
     list(out, at, numbers[0], &numbers[2..])
 }
@@ -208,7 +174,7 @@ fn list_line(out: &mut [u8], at: usize, rest: &[u8]) -> usize
     let mut numbers = [0u32; 258];
     match circuits_text::numbers(rest, &mut numbers) {
         Line::Numbers(n) => list_numbers(out, at, &numbers[..n]),
-        Line::Broken => put_refused(out, at, 14, 0),
+        Line::Broken => circuits_lines::put_refused(out, at, 14, 0),
     }
 }
 
@@ -236,25 +202,6 @@ struct Told {
     last: Last,
 }
 
-fn digit(b: bool) -> u64 {
-    if b {
-        return 1;
-    }
-    0
-}
-
-// `table` width, entries, depth, saturated: at most 90 bytes.
-fn put_row(out: &mut [u8], at: usize, width: u32, row: WidthTable) -> usize
-    requires { ⌜ at + 90 ≤ length (now out) ⌝ }
-    ensures { λ r. ⌜ r ≤ at + 90 ⌝ }
-{
-    let first = circuits_text::put_bytes(out, at, b"table ");
-    let second = put_number(out, first, width as u64, SPACE);
-    let third = put_number(out, second, row.count as u64, SPACE);
-    let fourth = put_number(out, third, row.depth as u64, SPACE);
-    put_number(out, fourth, digit(row.saturated), NEWLINE)
-}
-
 // Fingerprint, parent, code: at most 59 bytes.
 fn put_node(out: &mut [u8], at: usize, fingerprint: u64, parent: u32, code: u32) -> usize
     requires { ⌜ at + 59 ≤ length (now out) ⌝ }
@@ -262,8 +209,8 @@ fn put_node(out: &mut [u8], at: usize, fingerprint: u64, parent: u32, code: u32)
 {
     let first = circuits_text::put_hex(out, at, fingerprint);
     let second = circuits_text::put_byte(out, first, SPACE);
-    let third = put_number(out, second, parent as u64, SPACE);
-    put_number(out, third, code as u64, NEWLINE)
+    let third = circuits_lines::put_number(out, second, parent as u64, SPACE);
+    circuits_lines::put_number(out, third, code as u64, NEWLINE)
 }
 
 // The nodes from a up to end.
@@ -306,7 +253,7 @@ fn put_width(
     ensures { λ r. ⌜ r ≤ 65536 ⌝ }
 {
     let at = make_room(out, filled);
-    let next = put_row(out, at, width, row);
+    let next = circuits_lines::put_table_line(out, at, width, row.count, row.depth, row.saturated);
     let count = row.count;
     if PLACES < a {
         return next;
@@ -349,7 +296,7 @@ fn no_table(out: &mut [u8], at: usize, number: u64) -> Told
     requires { ⌜ (at ≤ 16346) × (65536 ≤ length (now out)) ⌝ }
     ensures { λ r. ⌜ r .filled ≤ 65536 ⌝ }
 {
-    let filled = put_refused(out, at, number, 0);
+    let filled = circuits_lines::put_refused(out, at, number, 0);
     Told {
         filled,
         last: Last::Nothing,
@@ -503,25 +450,6 @@ fn coefficients(line: &[u8], from: usize, entries: &mut [Coefficient]) -> Line
     Line::Numbers(k)
 }
 
-fn longer(n: u32) -> u64 {
-    n as u64
-}
-
-// Each code after a space: at most 21 bytes each.
-fn put_codes(out: &mut [u8], at: usize, codes: &[u32]) -> usize
-    requires { ⌜ at + 21 * length (now codes) ≤ length (now out) ⌝ }
-    ensures { λ r. ⌜ r ≤ at + 21 * length (now (codes .entry)) ⌝ }
-{
-    let mut p = at;
-    let mut i = 0;
-    while i < codes.len() {
-        let next = circuits_text::put_byte(out, p, SPACE);
-        p = circuits_text::put_decimal(out, next, longer(codes[i]));
-        i += 1;
-    }
-    p
-}
-
 // A fingerprint, and that there is no list: 22 bytes.
 fn put_none(out: &mut [u8], at: usize, fingerprint: u64) -> usize
     requires { ⌜ at + 22 ≤ length (now out) ⌝ }
@@ -539,7 +467,7 @@ fn put_circuit(out: &mut [u8], at: usize, fingerprint: u64, list: &[u32]) -> usi
     let first = circuits_text::put_hex(out, at, fingerprint);
     let second = circuits_text::put_byte(out, first, SPACE);
     let third = circuits_text::put_decimal(out, second, list.len() as u64);
-    let fourth = put_codes(out, third, list);
+    let fourth = circuits_lines::put_codes(out, third, list);
     circuits_text::put_byte(out, fourth, NEWLINE)
 }
 
@@ -595,12 +523,12 @@ fn asked(
     match answer {
         Synthesized::Circuit(m) => {
             if 64 < m {
-                return put_refused(out, at, 12, 0);
+                return circuits_lines::put_refused(out, at, 12, 0);
             }
             put_circuit(out, at, print_of(width, exponent, entries), &list[..m])
         }
         Synthesized::Nothing => put_none(out, at, print_of(width, exponent, entries)),
-        _ => put_refused(out, at, answer_refusal(answer), 0),
+        _ => circuits_lines::put_refused(out, at, answer_refusal(answer), 0),
     }
 }
 
@@ -628,7 +556,7 @@ fn query(
     ensures { λ r. ⌜ r ≤ at + 1382 ⌝ }
 {
     if 65535 < k {
-        return put_refused(out, at, 14, 0);
+        return circuits_lines::put_refused(out, at, 14, 0);
     }
     let exponent = k as u16;
     let mut entries = query_space();
@@ -644,7 +572,7 @@ fn query(
             exponent,
             &entries[..n],
         ),
-        Line::Broken => put_refused(out, at, 14, 0),
+        Line::Broken => circuits_lines::put_refused(out, at, 14, 0),
     }
 }
 
@@ -662,11 +590,11 @@ fn matrix_line(
     ensures { λ r. ⌜ r ≤ at + 1382 ⌝ }
 {
     let Last::Table(table) = last else {
-        return put_refused(out, at, 14, 0);
+        return circuits_lines::put_refused(out, at, 14, 0);
     };
     let first = circuits_text::find(rest, 0, SPACE);
     if rest.len() <= first {
-        return put_refused(out, at, 14, 0);
+        return circuits_lines::put_refused(out, at, 14, 0);
     }
     let second = circuits_text::find(rest, first + 1, SPACE);
     let mut head = [0u32; 2];
@@ -683,7 +611,7 @@ fn matrix_line(
             rest,
             second,
         ),
-        Line::Broken => put_refused(out, at, 14, 0),
+        Line::Broken => circuits_lines::put_refused(out, at, 14, 0),
     }
 }
 
@@ -692,7 +620,7 @@ fn no_line(out: &mut [u8], at: usize, last: Last) -> Told
     requires { ⌜ (at ≤ 16346) × (65536 ≤ length (now out)) ⌝ }
     ensures { λ r. ⌜ r .filled ≤ 65536 ⌝ }
 {
-    let filled = put_refused(out, at, 14, 0);
+    let filled = circuits_lines::put_refused(out, at, 14, 0);
     Told { filled, last }
 }
 

@@ -43,10 +43,6 @@ pub abs-is : (z : ℤ) → natAbs z ≡ up z + dn z
 abs-is (pos n) = omega arith
 abs-is (negsuc n) = omega arith
 
--- what a callee returned, as the caller's memory holds it, where the callee ensures that it is x, as its own argument's memory held that
-pub back : (v w : Width) {x r : ℤ} → SFits v x → mag r < 2 ^ hbits w → r ≡ toZ v (ofZ v x) → toZ w (ofZ w r) ≡ x
-back v w f g e = toZ-ofZ (record { sfits = g }) ∙ e ∙ toZ-ofZ f
-
 -- what a callee returned is what it ensures of it: `said w8 (c .f .ok) (c .f .ensures)`
 pub said : (w : Width) {r v : ℤ} → mag r < 2 ^ hbits w → r ≡ v → toZ w (ofZ w r) ≡ v
 said w g e = toZ-ofZ (record { sfits = g }) ∙ e

@@ -14,12 +14,12 @@ use Rattle.ints.specs.Lists.{range, each, Run}
 
 -- ---- one number more
 
-range-snoc : (i m : ℕ) → range i (suc m) ≡ range i m ++ ((i + m) ∷ [])
+pub range-snoc : (i m : ℕ) → range i (suc m) ≡ range i m ++ ((i + m) ∷ [])
 unfolding range
 range-snoc i zero = ap (λ (k : ℕ). k ∷ []) (omega arith)
 range-snoc i (suc m) = ap (λ (l : List ℕ). i ∷ l) (range-snoc (suc i) m ∙ ap (λ (k : ℕ). range (suc i) m ++ (k ∷ [])) (omega arith))
 
-each-append : (xs ys : List ℕ) (f : ℕ → List ℕ) → each (xs ++ ys) f ≡ each xs f ++ each ys f
+pub each-append : (xs ys : List ℕ) (f : ℕ → List ℕ) → each (xs ++ ys) f ≡ each xs f ++ each ys f
 unfolding each
 each-append [] ys f = refl
 each-append (x ∷ xs) ys f = rw (each-append xs ys f, append-assoc)
@@ -93,11 +93,6 @@ range-in (suc m) i g p q = by (ℕ-discrete g i) (λ h. range-in m (suc i) g h (
     by : Dec (g ≡ i) → (suc i ≤ g → List·Memᴰ g (range (suc i) m)) → List·Memᴰ g (i ∷ range (suc i) m)
     by (yes e) u = List·Memᴰ·head e
     by (no e) u = List·Memᴰ·tail (u (omega arith))
-
-pub range-mem : (m i g : ℕ) → List·Memᴰ g (range i m) → (i ≤ g) × (g < i + m)
-unfolding range
-range-mem zero i g h = absurd (List·Memᴰ·not-nil h)
-range-mem (suc m) i g h = ⊎-elim (λ (q : g ≡ i). (omega arith, omega arith)) (λ t. let r = range-mem m (suc i) g t in (omega arith, omega arith)) (List·Memᴰ·cases-cons h)
 
 pub each-in : (xs : List ℕ) (f : ℕ → List ℕ) (x g : ℕ) → List·Memᴰ x xs → List·Memᴰ g (f x) → List·Memᴰ g (each xs f)
 unfolding each

@@ -3,6 +3,7 @@ use mathlib.Core.Bool.{Bool, true, false, not, _&&_, _||_}
 use mathlib.Core.List.{List, [], _∷_, _++_}
 use Prim.Native.Nat.{ℕ, zero, suc, _≤_}
 use lib.Dec.{eqb}
+use lib.ListN.{length, drop}
 
 abbrev pub pick {ℓ} : {A : Type ℓ} → Bool → A → A → A
 pick true x y = x
@@ -17,6 +18,10 @@ range i (suc m) = i ∷ range (suc i) m
 unfoldable pub each : List ℕ → (ℕ → List ℕ) → List ℕ
 each [] f = []
 each (x ∷ xs) f = f x ++ each xs f
+
+-- new on the first places of old; later places keep what they held
+abbrev pub over : List ℕ → List ℕ → List ℕ
+over new old = new ++ drop (length new) old
 
 -- the test holds of every number of the list
 unfoldable pub all : (ℕ → Bool) → List ℕ → Bool

@@ -5,15 +5,16 @@ use Prim.Native.Nat.{ℕ, _+_, _-_}
 use native.Mathlib.Omega.{arith}
 use lib.ListN.{length, drop, length-map}
 use borrow.Rule.Slice.PartMut.{midOf, putMid}
+use Rattle.ints.specs.Lists.{over}
 use Rattle.walk.specs.Walk.{Node, Build, gate}
 use Rattle.width_table.specs.declared.WidthTable.{WidthTable}
 use Rattle.width_table.specs.Table.{Column, printOf, parentOf}
 use Rattle.tables.specs.Checks.{Limits}
-use Rattle.tables.specs.Tables.{walkOf, widthOf, printsOf, parentsOf, codesOf, overlay, within}
+use Rattle.tables.specs.Tables.{walkOf, widthOf, printsOf, parentsOf, codesOf, within}
 use Rattle.murm_config.specs.Told.{toldWidth}
 
 -- an array that holds what p says of the nodes is that list over what the array held
-column-over : (p : Node → ℕ) (ns : List Node) (n : ℕ) (old new : List ℕ) → n ≡ length ns → Column p old ns new n → new ≡ overlay (map p ns) old
+column-over : (p : Node → ℕ) (ns : List Node) (n : ℕ) (old new : List ℕ) → n ≡ length ns → Column p old ns new n → new ≡ over (map p ns) old
 column-over p ns n old new e c = c .is ∙ ap (λ (k : ℕ). map p ns ++ drop k old) (e ∙ sym (length-map ns p))
 
 -- a part that was lent, `&mut xs[a..a + n]`, is back, and holds g of what it held
@@ -30,16 +31,16 @@ row-is r b p q s = rw (p, q, s)
 
 module _ (l : Limits) (w a n count : ℕ) (same : count ≡ length (walkOf l w .nodes)) (xs ys : List ℕ) where
   pub prints-back : Column (printOf w (l .basis)) (midOf a (a + n - a) xs) (walkOf l w .nodes) ys count
-      → putMid a (a + n - a) xs ys ≡ within a n (overlay (printsOf l w)) xs
+      → putMid a (a + n - a) xs ys ≡ within a n (over (printsOf l w)) xs
   unfolding printsOf
-  prints-back c = part-back a n (overlay (printsOf l w)) xs ys (column-over _ _ _ _ _ same c)
+  prints-back c = part-back a n (over (printsOf l w)) xs ys (column-over _ _ _ _ _ same c)
 
   pub parents-back : Column parentOf (midOf a (a + n - a) xs) (walkOf l w .nodes) ys count
-      → putMid a (a + n - a) xs ys ≡ within a n (overlay (parentsOf l w)) xs
+      → putMid a (a + n - a) xs ys ≡ within a n (over (parentsOf l w)) xs
   unfolding parentsOf
-  parents-back c = part-back a n (overlay (parentsOf l w)) xs ys (column-over _ _ _ _ _ same c)
+  parents-back c = part-back a n (over (parentsOf l w)) xs ys (column-over _ _ _ _ _ same c)
 
   pub codes-back : Column gate (midOf a (a + n - a) xs) (walkOf l w .nodes) ys count
-      → putMid a (a + n - a) xs ys ≡ within a n (overlay (codesOf l w)) xs
+      → putMid a (a + n - a) xs ys ≡ within a n (over (codesOf l w)) xs
   unfolding codesOf
-  codes-back c = part-back a n (overlay (codesOf l w)) xs ys (column-over _ _ _ _ _ same c)
+  codes-back c = part-back a n (over (codesOf l w)) xs ys (column-over _ _ _ _ _ same c)

@@ -6,16 +6,10 @@ use native.Mathlib.Numerals.{add-one}
 use native.Mathlib.Omega.{arith}
 use lib.Dec.{ltb}
 use lib.ListN.{length}
-use Rattle.ints.specs.Lists.{pick}
-use Rattle.tables.specs.Checks.{Limits}
-use Rattle.tables.specs.Tables.{Width, Table, notBuilt, allWidths, walkOf, widthOf, recordOf, printsOf, parentsOf, codesOf, overlay, within, filledTo}
+use Rattle.ints.specs.Lists.{pick, over}
+use Rattle.tables.specs.Checks.{Limits, limitsOf}
+use Rattle.tables.specs.Tables.{Width, Table, notBuilt, allWidths, walkOf, widthOf, recordOf, printsOf, parentsOf, codesOf, within, filledTo}
 use Rattle.murm_config.specs.Told.{emptyOf, withWidth}
-use Rattle.murm_widths.specs.Limited.{limitsOf}
-
--- ---- the limits by their four numbers
-
-abbrev pub limits : ℕ → ℕ → ℕ → ℕ → Limits
-limits q g e b = record { qubits = q; gates = g; entries = e; basis = b }
 
 -- ---- the record
 
@@ -58,10 +52,10 @@ done-none column E old = (refl, refl)
 
 -- one width more: its column is new
 pub done-more : (column : ℕ → List ℕ) (E v : ℕ) (new old xs ys : List ℕ) → new ≡ column (v + 1) → length ys ≡ length xs
-    → ys ≡ within (v * E) E (overlay new) xs → Done column E v old xs → Done column E (v + 1) old ys
+    → ys ≡ within (v * E) E (over new) xs → Done column E v old xs → Done column E (v + 1) old ys
 unfolding filledTo
 done-more column E v new old xs ys s l h p =
-    (l ∙ p .0, h ∙ (ap (λ (z : List ℕ). within (v * E) E (overlay z) xs) s ∙ (ap (within (v * E) E (overlay (column (v + 1)))) (p .1) ∙ rw add-one)))
+    (l ∙ p .0, h ∙ (ap (λ (z : List ℕ). within (v * E) E (over z) xs) s ∙ (ap (within (v * E) E (over (column (v + 1)))) (p .1) ∙ rw add-one)))
 
 -- all widths, by columns of equal limits
 pub done-all : (column column′ : ℕ → List ℕ) (E v q : ℕ) (old xs : List ℕ) → column ≡ column′ → v ≡ q → Done column E v old xs
@@ -71,14 +65,14 @@ done-all column column′ E v q old xs e f p = p .1 ∙ (ap (λ (z : ℕ → Lis
 -- ---- the width limit plays no part in a width's column
 
 module _ (l : Limits) (w : ℕ) where
-  pub prints-same : printsOf (limitsOf (l .gates) (l .entries) (l .basis)) w ≡ printsOf l w
+  pub prints-same : printsOf (limitsOf 0 (l .gates) (l .entries) (l .basis)) w ≡ printsOf l w
   unfolding printsOf
   prints-same = refl
 
-  pub parents-same : parentsOf (limitsOf (l .gates) (l .entries) (l .basis)) w ≡ parentsOf l w
+  pub parents-same : parentsOf (limitsOf 0 (l .gates) (l .entries) (l .basis)) w ≡ parentsOf l w
   unfolding parentsOf
   parents-same = refl
 
-  pub codes-same : codesOf (limitsOf (l .gates) (l .entries) (l .basis)) w ≡ codesOf l w
+  pub codes-same : codesOf (limitsOf 0 (l .gates) (l .entries) (l .basis)) w ≡ codesOf l w
   unfolding codesOf
   codes-same = refl

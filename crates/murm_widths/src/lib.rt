@@ -3,16 +3,16 @@
 ghost use mathlib.Core.Path.{_≡_};
 ghost use Prim.Native.Nat.{_+_, _*_, _≤_, _<_};
 ghost use lib.ListN.{length};
-ghost use Rattle.tables.specs.Checks.{placesOf};
-ghost use Rattle.tables.specs.Tables.{widthOf, walkOf, recordOf, printsOf, parentsOf, codesOf, overlay, within, filledTo};
+ghost use Rattle.ints.specs.Lists.{over};
+ghost use Rattle.tables.specs.Tables.{widthOf, walkOf, recordOf, printsOf, parentsOf, codesOf, within, filledTo};
+ghost use Rattle.tables.specs.Checks.{limitsOf, placesOf};
 ghost use Rattle.murm_config.specs.Told.{toldConfig, toldWidth, toldMurm};
-ghost use Rattle.murm_widths.specs.Limited.{limitsOf};
 use circuit::GateSet;
 use murm_config::Murm;
 use murm_config::MurmConfig;
 use width_table::WidthTable;
 
-// The part of width v + 1.
+// The part of width v + 1. The width limit, 0 in the clauses, plays no part in a width's walk.
 fn build_part(
     v: u32,
     gates: u32,
@@ -24,10 +24,10 @@ fn build_part(
 ) -> WidthTable
     requires { ⌜ (v < 5) × (gates ≤ 64) × (0 < entries) × (entries ≤ 1000000) ⌝ }
     requires { ⌜ (v * entries + entries ≤ length (now fingerprints)) × (v * entries + entries ≤ length (now parents)) × (v * entries + entries ≤ length (now codes)) ⌝ }
-    ensures { λ r. ⌜ toldWidth r ≡ widthOf (walkOf (limitsOf gates entries basis) (v + 1)) ⌝ }
-    ensures { λ _. ⌜ now (fingerprints .exit) ≡ within (v * entries) entries (overlay (printsOf (limitsOf gates entries basis) (v + 1))) (now (fingerprints .entry)) ⌝ }
-    ensures { λ _. ⌜ now (parents .exit) ≡ within (v * entries) entries (overlay (parentsOf (limitsOf gates entries basis) (v + 1))) (now (parents .entry)) ⌝ }
-    ensures { λ _. ⌜ now (codes .exit) ≡ within (v * entries) entries (overlay (codesOf (limitsOf gates entries basis) (v + 1))) (now (codes .entry)) ⌝ }
+    ensures { λ r. ⌜ toldWidth r ≡ widthOf (walkOf (limitsOf 0 gates entries basis) (v + 1)) ⌝ }
+    ensures { λ _. ⌜ now (fingerprints .exit) ≡ within (v * entries) entries (over (printsOf (limitsOf 0 gates entries basis) (v + 1))) (now (fingerprints .entry)) ⌝ }
+    ensures { λ _. ⌜ now (parents .exit) ≡ within (v * entries) entries (over (parentsOf (limitsOf 0 gates entries basis) (v + 1))) (now (parents .entry)) ⌝ }
+    ensures { λ _. ⌜ now (codes .exit) ≡ within (v * entries) entries (over (codesOf (limitsOf 0 gates entries basis) (v + 1))) (now (codes .entry)) ⌝ }
 {
     let e = entries as usize;
     let a = v as usize * e;

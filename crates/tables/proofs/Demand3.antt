@@ -17,7 +17,7 @@ use Rattle.walk.specs.Demand3.{Answers}
 use Rattle.walk.proofs.Demand3 as at-width
 use Rattle.width_answer.proofs.Meaning.{kind-of}
 use Rattle.tables.specs.Checks.{firstRow, Limits, Arrays, queryRows}
-use Rattle.tables.specs.Tables.{Table, table, left, buildOf, Query, matrixOf, listRow, notAWidth}
+use Rattle.tables.specs.Tables.{Table, Query, matrixOf, listRow, notAWidth}
 use Rattle.tables.specs.Built.{Built}
 use Rattle.tables.specs.Demand3.{Gives, GivesNone, Refuses, NotRefused, Decided, a-list, no-list, a-refusal, NoSmaller, Complete, Ordered, Demand3}
 use Rattle.tables.proofs.Rows.{numbered-query, first-here, first-past, firstRow-append}

@@ -8,7 +8,8 @@ use native.Mathlib.Nat.{suc-mul, mul-le-mul-right, eq-or-lt-of-le}
 use native.Mathlib.Omega.{arith}
 use lib.ListN.{length, getD, take, drop, length-append, length-drop, List·getD-append}
 use lib.Seq.{getD-append-add, getD-take, getD-drop, length-take-le}
-use Rattle.tables.specs.Tables.{overlay, within, filledTo}
+use Rattle.ints.specs.Lists.{over}
+use Rattle.tables.specs.Tables.{within, filledTo}
 
 -- ---- places of two lists one after the other
 
@@ -40,12 +41,12 @@ module _ (a n : ℕ) (g : List ℕ → List ℕ) (xs : List ℕ) (fits : a + n �
 pub part-length : (a n : ℕ) (xs : List ℕ) → a + n ≤ length xs → length (take n (drop a xs)) ≡ n
 part-length a n xs h = length-take-le n (drop a xs) (simp length-drop (omega arith))
 
-overlay-length : (new old : List ℕ) → length new ≤ length old → length (overlay new old) ≡ length old
-overlay-length new old h = simp (length-append, length-drop) (omega arith)
+over-length : (new old : List ℕ) → length new ≤ length old → length (over new old) ≡ length old
+over-length new old h = simp (length-append, length-drop) (omega arith)
 
 -- past what is new the old stays
-overlay-past : (new old : List ℕ) (j : ℕ) → length new ≤ j → getD (overlay new old) j 0 ≡ getD old j 0
-overlay-past new old j h =
+over-past : (new old : List ℕ) (j : ℕ) → length new ≤ j → getD (over new old) j 0 ≡ getD old j 0
+over-past new old j h =
     let e : j ≡ length new + (j - length new) = omega arith in
     rw e (getD-append-add new (drop (length new) old) (j - length new) 0 ∙ getD-drop (length new) old (j - length new) 0)
 
@@ -56,8 +57,8 @@ room-at w Q E h = rw (← suc-mul) (mul-le-mul-right E h)
 -- ---- widths 1 to Q, no column longer than E
 
 module _ (column : ℕ → List ℕ) (E : ℕ) (short : (w : ℕ) → length (column w) ≤ E) where
-  one-keeps : (a w : ℕ) (xs : List ℕ) → a + E ≤ length xs → length (overlay (column w) (take E (drop a xs))) ≡ E
-  one-keeps a w xs h = overlay-length (column w) (take E (drop a xs)) (omega (arith, part-length a E xs h, short w)) ∙ part-length a E xs h
+  one-keeps : (a w : ℕ) (xs : List ℕ) → a + E ≤ length xs → length (over (column w) (take E (drop a xs))) ≡ E
+  one-keeps a w xs h = over-length (column w) (take E (drop a xs)) (omega (arith, part-length a E xs h, short w)) ∙ part-length a E xs h
 
   -- an array has as many places as it had
   pub filled-length : (Q : ℕ) (old : List ℕ) → Q * E ≤ length old → length (filledTo column E Q old) ≡ length old
@@ -67,7 +68,7 @@ module _ (column : ℕ → List ℕ) (E : ℕ) (short : (w : ℕ) → length (co
       let r = room-at q (suc q) E (omega arith) in
       let l = filled-length q old (omega (arith, r)) in
       let f : q * E + E ≤ length (filledTo column E q old) = omega (arith, r, l) in
-      within-length (q * E) E (overlay (column (suc q))) (filledTo column E q old) f (one-keeps (q * E) (suc q) _ f) ∙ l
+      within-length (q * E) E (over (column (suc q))) (filledTo column E q old) f (one-keeps (q * E) (suc q) _ f) ∙ l
 
   -- "Unfilled places keep what they held": the places after the last width's
   pub filled-rest : (Q : ℕ) (old : List ℕ) (j : ℕ) → Q * E ≤ length old → getD (filledTo column E Q old) (Q * E + j) 0 ≡ getD old (Q * E + j) 0
@@ -78,7 +79,7 @@ module _ (column : ℕ → List ℕ) (E : ℕ) (short : (w : ℕ) → length (co
       let l = filled-length q old (omega (arith, r)) in
       let f : q * E + E ≤ length (filledTo column E q old) = omega (arith, r, l) in
       let s : suc q * E + j ≡ q * E + (E + j) = omega (arith, suc-mul q E) in
-      rw s (within-after (q * E) E (overlay (column (suc q))) (filledTo column E q old) f (one-keeps (q * E) (suc q) _ f) j
+      rw s (within-after (q * E) E (over (column (suc q))) (filledTo column E q old) f (one-keeps (q * E) (suc q) _ f) j
       ∙ filled-rest q old (E + j) (omega (arith, r)))
 
   -- the first places of width v + 1 hold its column
@@ -93,9 +94,9 @@ module _ (column : ℕ → List ℕ) (E : ℕ) (short : (w : ℕ) → length (co
       let k = one-keeps (q * E) (suc q) (filledTo column E q old) f in
       let p : j < E = omega (arith, short (suc v)) in
       ⊎-elim
-      (λ (e : v ≡ q). rw e (within-in (q * E) E (overlay (column (suc q))) (filledTo column E q old) f k j p
+      (λ (e : v ≡ q). rw e (within-in (q * E) E (over (column (suc q))) (filledTo column E q old) f k j p
       ∙ List·getD-append (column (suc q)) _ 0 j (rw e at d)))
-      (λ (less : v < q). within-before (q * E) E (overlay (column (suc q))) (filledTo column E q old) f k (v * E + j) (omega (arith, room-at v q E less))
+      (λ (less : v < q). within-before (q * E) E (over (column (suc q))) (filledTo column E q old) f k (v * E + j) (omega (arith, room-at v q E less))
       ∙ filled-at q v j old (omega (arith, r)) less d)
       (eq-or-lt-of-le (omega arith))
 
@@ -110,10 +111,10 @@ module _ (column : ℕ → List ℕ) (E : ℕ) (short : (w : ℕ) → length (co
       let f : q * E + E ≤ length (filledTo column E q old) = omega (arith, r, l) in
       let k = one-keeps (q * E) (suc q) (filledTo column E q old) f in
       ⊎-elim
-      (λ (e : v ≡ q). rw e (within-in (q * E) E (overlay (column (suc q))) (filledTo column E q old) f k j d
-      ∙ overlay-past (column (suc q)) (take E (drop (q * E) (filledTo column E q old))) j (rw e at b)
+      (λ (e : v ≡ q). rw e (within-in (q * E) E (over (column (suc q))) (filledTo column E q old) f k j d
+      ∙ over-past (column (suc q)) (take E (drop (q * E) (filledTo column E q old))) j (rw e at b)
       ∙ getD-take E (drop (q * E) (filledTo column E q old)) j 0 d ∙ getD-drop (q * E) (filledTo column E q old) j 0
       ∙ filled-rest q old j (omega (arith, r))))
-      (λ (less : v < q). within-before (q * E) E (overlay (column (suc q))) (filledTo column E q old) f k _ (omega (arith, room-at v q E less))
+      (λ (less : v < q). within-before (q * E) E (over (column (suc q))) (filledTo column E q old) f k _ (omega (arith, room-at v q E less))
       ∙ filled-kept q v j old (omega (arith, r)) less b d)
       (eq-or-lt-of-le (omega arith))

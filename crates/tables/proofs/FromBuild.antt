@@ -3,12 +3,12 @@ use mathlib.Core.Path.{_≡_, refl, sym, ap, _∙_, subst}
 use mathlib.Core.Bool.{Bool, true, false}
 use mathlib.Core.List.{List, [], _∷_, _++_, map}
 use Prim.Native.Nat.{ℕ, zero, suc, _+_, _-_, _*_, _≤_, _<_}
-use native.Mathlib.Nat.{not-suc-le-zero, le-of-suc-le-suc}
 use native.Mathlib.Omega.{arith}
 use borrow.Author.Tests.{eqb-true, ne-eqb}
 use lib.Dec.{eqb}
 use lib.ListN.{length, getD, take, drop, length-map, take-append-drop}
 use lib.Seq.{getD-take, getD-drop, length-take-le, ext-getD}
+use Rattle.ints.specs.Lists.{over}
 use Rattle.ints.proofs.Bools.{clash}
 use Rattle.exact.proofs.Values.{pick-ind}
 use Rattle.walk.specs.Walk.{Node, root, gate}
@@ -16,8 +16,9 @@ use Rattle.walk.specs.AtWidth.{atWidth}
 use Rattle.walk.proofs.Nodes.{first}
 use Rattle.walk.proofs.Layers.{walk-shape}
 use Rattle.width_table.specs.Table.{printOf, parentOf}
+use Rattle.width_table.proofs.Columns.{map-at}
 use Rattle.tables.specs.Checks.{firstRow, Limits, limitRows, Arrays, placesOf, roomRow}
-use Rattle.tables.specs.Tables.{Table, walkOf, recordOf, printsOf, parentsOf, codesOf, overlay, within, filledTo, builtTo}
+use Rattle.tables.specs.Tables.{Table, walkOf, recordOf, printsOf, parentsOf, codesOf, within, filledTo, builtTo}
 use Rattle.tables.specs.Tables.{BuildReply, table, refusal, Left, left, buildRows, leftBy, buildOf}
 use Rattle.tables.specs.Built.{Built}
 use Rattle.tables.proofs.Rows.{numbered-limits, first-none, first-past, firstRow-append, append-none}
@@ -33,12 +34,6 @@ walk-count l w h =
     (first (atWidth w (l .basis)) (s .layered .grown) .0, s .count h)
 
 -- ---- an array filled by what p says of the nodes of each width
-
--- a list of what p says of the nodes, at one of them
-at-node : (p : Node → ℕ) (ns : List Node) (j : ℕ) → j < length ns → getD (map p ns) j 0 ≡ p (getD ns j root)
-at-node p [] j h = absurd (not-suc-le-zero h)
-at-node p (n ∷ ns) zero h = refl
-at-node p (n ∷ ns) (suc j) h = at-node p ns j (le-of-suc-le-suc h)
 
 module _ (l : Limits) (some : 0 < l .entries) (p : ℕ → Node → ℕ) (column : ℕ → List ℕ) (is : (w : ℕ) → column w ≡ map (p w) (walkOf l w .nodes)) where
   -- a column has a number for each node of its width
@@ -59,7 +54,7 @@ module _ (l : Limits) (some : 0 < l .entries) (p : ℕ → Node → ℕ) (column
   column-at old r (suc v) h q j b =
       let e : suc v - 1 ≡ v = omega arith in
       rw e (filled-at column (l .entries) column-short (l .qubits) v j old r (omega arith) (omega (arith, column-count (suc v)))
-      ∙ ap (λ (xs : List ℕ). getD xs j 0) (is (suc v)) ∙ at-node (p (suc v)) (walkOf l (suc v) .nodes) j b)
+      ∙ ap (λ (xs : List ℕ). getD xs j 0) (is (suc v)) ∙ map-at (p (suc v)) (walkOf l (suc v) .nodes) j b)
 
 -- ---- limits and arrays that no row refuses: the record, and the arrays filled up to Q, are a built table
 
@@ -129,8 +124,8 @@ build-refused l a b r p =
 
 -- ---- a build in arrays that hold its nodes
 
-overlay-same : (new old : List ℕ) → length new ≤ length old → ((j : ℕ) → j < length new → getD old j 0 ≡ getD new j 0) → overlay new old ≡ old
-overlay-same new old h f =
+over-same : (new old : List ℕ) → length new ≤ length old → ((j : ℕ) → j < length new → getD old j 0 ≡ getD new j 0) → over new old ≡ old
+over-same new old h f =
     let l = length-take-le (length new) old h in
     let e : take (length new) old ≡ new = ext-getD 0 (take (length new) old) new l
     (λ i p. getD-take (length new) old i 0 (omega (arith, l)) ∙ f i (omega (arith, l))) in
@@ -149,9 +144,9 @@ module _ (column : ℕ → List ℕ) (E : ℕ) (short : (w : ℕ) → length (co
   filled-same (suc q) old h f =
       let r = room-at q (suc q) E (omega arith) in
       let p = part-length (q * E) E old (omega (arith, r)) in
-      ap (within (q * E) E (overlay (column (suc q)))) (filled-same q old (omega (arith, r)) (λ v j lt. f v j (omega arith)))
-      ∙ within-same (q * E) E (overlay (column (suc q))) old
-      (overlay-same (column (suc q)) (take E (drop (q * E) old)) (omega (arith, p, short (suc q)))
+      ap (within (q * E) E (over (column (suc q)))) (filled-same q old (omega (arith, r)) (λ v j lt. f v j (omega arith)))
+      ∙ within-same (q * E) E (over (column (suc q))) old
+      (over-same (column (suc q)) (take E (drop (q * E) old)) (omega (arith, p, short (suc q)))
       (λ j d. getD-take E (drop (q * E) old) j 0 (omega (arith, short (suc q))) ∙ getD-drop (q * E) old j 0 ∙ f q j (omega arith) d))
 
 module _ (l : Limits) (some : 0 < l .entries) (p : ℕ → Node → ℕ) (column : ℕ → List ℕ) (is : (w : ℕ) → column w ≡ map (p w) (walkOf l w .nodes)) where
@@ -163,7 +158,7 @@ module _ (l : Limits) (some : 0 < l .entries) (p : ℕ → Node → ℕ) (column
       (λ v j lt d. let b : j < length (walkOf l (suc v) .nodes) = omega (arith, column-count l some p column is (suc v)) in
       let e : suc v - 1 ≡ v = omega arith in
       ap (λ (z : ℕ). getD old (z * l .entries + j) 0) (sym e) ∙ f (suc v) (omega arith) (omega arith) j b
-      ∙ sym (ap (λ (xs : List ℕ). getD xs j 0) (is (suc v)) ∙ at-node (p (suc v)) (walkOf l (suc v) .nodes) j b))
+      ∙ sym (ap (λ (xs : List ℕ). getD xs j 0) (is (suc v)) ∙ map-at (p (suc v)) (walkOf l (suc v) .nodes) j b))
 
 pub built-again : (t : Table) (a : Arrays) → Built t a → buildOf (t .limits) a ≡ left (table t) a
 unfolding firstRow printsOf parentsOf codesOf

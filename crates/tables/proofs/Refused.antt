@@ -96,14 +96,6 @@ module _ (t : Table) (a : Arrays) (q : Query) (out : List ℕ) where
       from (inl w) = row-refuses t a q out 13 (omega arith) (first-exactly (answerRows t a q out) 13 (omega arith) .1 w)
       from (inr (e, w, x)) = width-asked t a q out e w ∙ asked-means t a q out .is-refused 13 0 out .1 (x, refl, refl, refl)
 
-  -- no refusal has the number 0
-  pub never-0 : Refuses t a q out 0 → ⊥
-  never-0 n = to (refused-by 0 n)
-    where
-      to : Refusal 0 → ⊥
-      to (row-holds h e) = absurd (omega arith)
-      to (chain-bad z e w x) = absurd (omega arith)
-
   -- none is told exactly where no row holds, and the table has not the width or the part of the width has no list
   pub none-exactly : GivesNone t a q out ↔ ((rowOfAnswer t a q out ≡ 0) × ((notAWidth t q ≡ true) ⊎ ((notAWidth t q ≡ false) × NoPart)))
   none-exactly = (to, from)

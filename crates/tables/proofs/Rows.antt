@@ -21,10 +21,6 @@ numbered-limits l = (omega arith, (omega arith, (omega arith, (omega arith, tt))
 pub numbered-query : (n k : ℕ) (bytes : List ℤ) → Numbered (queryRows n k bytes)
 numbered-query n k bytes = (omega arith, (omega arith, (omega arith, (omega arith, tt))))
 
-pub numbered-append : (rs ss : List Row) → Numbered rs → Numbered ss → Numbered (rs ++ ss)
-numbered-append [] ss p q = q
-numbered-append (r ∷ rs) ss p q = (p .0, numbered-append rs ss (p .1) q)
-
 -- ---- one row and the rest
 
 -- a row that holds is the first

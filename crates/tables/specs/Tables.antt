@@ -5,7 +5,7 @@ use Prim.Native.Nat.{ℕ, zero, suc, _*_, _-_}
 use lib.IntN.{ℤ}
 use lib.Dec.{eqb, ltb}
 use lib.ListN.{length, getD, take, drop}
-use Rattle.ints.specs.Lists.{pick}
+use Rattle.ints.specs.Lists.{pick, over}
 use Rattle.exact.specs.Matrix.{Exact}
 use Rattle.places.specs.Places.{held}
 use Rattle.walk.specs.Walk.{Build, gate, any}
@@ -67,18 +67,14 @@ parentsOf l w = map parentOf (walkOf l w .nodes)
 unfoldable pub codesOf : Limits → ℕ → List ℕ
 codesOf l w = map gate (walkOf l w .nodes)
 
--- new on the first places of old; "Unfilled places keep what they held"
-abbrev pub overlay : List ℕ → List ℕ → List ℕ
-overlay new old = new ++ drop (length new) old
-
 -- g worked on the n places from a on
 abbrev pub within : ℕ → ℕ → (List ℕ → List ℕ) → List ℕ → List ℕ
 within a n g xs = take a xs ++ (g (take n (drop a xs)) ++ drop n (drop a xs))
 
--- "Width w owns the E places from (w-1) × E on": widths 1 to w filled, each by its column
+-- "Width w owns the E places from (w-1) × E on": widths 1 to w filled, each by its column; "Unfilled places keep what they held"
 unfoldable pub filledTo : (ℕ → List ℕ) → ℕ → ℕ → List ℕ → List ℕ
 filledTo column E zero old = old
-filledTo column E (suc w) old = within (w * E) E (overlay (column (suc w))) (filledTo column E w old)
+filledTo column E (suc w) old = within (w * E) E (over (column (suc w))) (filledTo column E w old)
 
 -- the arrays after widths 1 to w were built
 abbrev pub builtTo : Limits → ℕ → Arrays → Arrays

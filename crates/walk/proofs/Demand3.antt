@@ -15,7 +15,7 @@ use Rattle.walk.specs.Words.{Laws, Over}
 use Rattle.walk.specs.Answer.{answerBy, answersTo, answer}
 use Rattle.walk.specs.Grown.{Shape}
 use Rattle.walk.specs.AtWidth.{atWidth, built, oldestFirst, answeredBy, answered, ListOf, NoSharedPrint, SkippedRightly}
-use Rattle.walk.specs.Demand3.{Shortest, NoneExactly, Answers, Demand3}
+use Rattle.walk.specs.Demand3.{Shortest, NoneExactly, Answers, WidthDemand3}
 use Rattle.walk.proofs.Nodes.{over}
 use Rattle.walk.proofs.Layers.{walk-shape}
 use Rattle.walk.proofs.Prefixes.{walk-prefix}
@@ -117,7 +117,7 @@ module _ (n basis : ℕ) (small : n ≤ 5) where
         rightly (present-no-clash R (PowerOf n) G (no-clash n basis small G nc) (built n basis G E .nodes) (w .layered .grown) (w .limit)
         (built n basis G E .depth) (w .depth))
 
-  pub demand : Demand3 n basis
+  pub demand : WidthDemand3 n basis
   demand = record {
     right = right;
     larger = larger;

@@ -30,7 +30,7 @@ module _ (n basis : ℕ) where
     pub shortest : (x : Exact) → Lowest n x → Shortest G E x
     pub none-exactly : built n basis G E .saturated ≡ false → (x : Exact) → Lowest n x → NoneExactly G E x
 
-  pub record Demand3 : Type 0 where
+  pub record WidthDemand3 : Type 0 where
     -- "Whatever the lent table holds, a gate list that it answers has a product equal to a power of omega times the matrix asked.": any
     -- nodes, found by any test
     pub right : (test : Node → Bool) (ns : List Node) (x : Exact) (l : List ℕ) → answeredBy n basis test ns x ≡ some l → PowerOf n x (product n l)

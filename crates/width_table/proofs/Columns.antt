@@ -10,7 +10,8 @@ use lib.Seq.{set-at, drop-cons}
 use Rattle.walk.specs.Walk.{Node, root}
 use Rattle.width_table.specs.Table.{Column}
 
-map-at : (p : Node → ℕ) (ns : List Node) (j : ℕ) → j < length ns → getD (map p ns) j 0 ≡ p (getD ns j root)
+-- what p says of the nodes, at one of them
+pub map-at : (p : Node → ℕ) (ns : List Node) (j : ℕ) → j < length ns → getD (map p ns) j 0 ≡ p (getD ns j root)
 map-at p [] j h = absurd (not-suc-le-zero h)
 map-at p (n ∷ ns) zero h = refl
 map-at p (n ∷ ns) (suc j) h = map-at p ns j (le-of-suc-le-suc h)

@@ -1,8 +1,7 @@
 -- `bench_build` meets its contract. Assumes nothing.
 use borrow.Author.Needs.{needs}
-use Rattle.tables.specs.Checks.{Limits, Arrays, arrays}
+use Rattle.tables.specs.Checks.{Limits, Arrays, arrays, limitsOf}
 use Rattle.murm.specs.Entries.{toldBuilding}
-use Rattle.bench.specs.Tables.{limitsOf}
 use Rattle.bench.proofs.Tables.{short-built, long-built}
 use Rattle.bench.proofs.bench_build.Statement.{statement}
 use Rattle.bench.proofs.bench_build.Tie as tie

@@ -1,9 +1,8 @@
 -- `bench_synthesize` meets its contract. Assumes nothing.
 use borrow.Author.Needs.{needs}
-use Rattle.tables.specs.Checks.{Limits, Arrays, arrays}
+use Rattle.tables.specs.Checks.{Limits, Arrays, arrays, limitsOf}
 use Rattle.tables.specs.Tables.{Query, query}
 use Rattle.murm.specs.Entries.{toldSynthesized}
-use Rattle.bench.specs.Tables.{limitsOf}
 use Rattle.bench.proofs.Tables.{short-answered, long-answered}
 use Rattle.bench.proofs.bench_synthesize.Statement.{statement}
 use Rattle.bench.proofs.bench_synthesize.Tie as tie

@@ -20,7 +20,7 @@ build-requires c κs = search needs
 
 -- src/lib.rt:112:5
 put-building-requires : tie.Need-put-building-requires
-put-building-requires c κs = 
+put-building-requires c κs =
     let s = c .before .before .before .before .before .before .before .before .before .before .before .before .before .before .before .before .before .before .before in
     let b = c .before .before .before .before .before .before .before .before .before .before .build in (
       ready (toldConfig (s .args .config)) (lent s) _ (b .ensures),
@@ -45,7 +45,7 @@ same-length-4 c = search needs
 
 -- src/lib.rt:98:1
 returns : tie.Need-returns
-returns c = 
+returns c =
     let s = c .before .before .before .before .before .before .before .before .before .before .before .before .before .before .before .before .before .before .before .before .before .before in
     let b = c .before .before .before .before .before .before .before .before .before .before .before .before .before .build .ensures in
     (put-as (text-is (toldConfig (s .args .config)) (lent s) _ b) (c .before .before .put-building .ensures), arrays-are (toldConfig (s .args .config)) (lent s) b)

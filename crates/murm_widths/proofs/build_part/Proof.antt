@@ -2,7 +2,7 @@
 use Prim.Native.Nat.{_+_, _*_}
 use borrow.Author.Needs.{needs}
 use Rattle.tables.specs.Tables.{walkOf}
-use Rattle.murm_widths.specs.Limited.{limitsOf}
+use Rattle.tables.specs.Checks.{limitsOf}
 use Rattle.murm_widths.proofs.Parts.{row-is, prints-back, parents-back, codes-back}
 use Rattle.murm_widths.proofs.build_part.Statement.{statement}
 use Rattle.murm_widths.proofs.build_part.Tie as tie
@@ -13,7 +13,7 @@ returns c =
     let b = c .before .before .before .before .before .before .build-width in
     let r = b .ensures in
     let k = r .columns in
-    let l = limitsOf (s .gates) (s .entries) (s .basis) in
+    let l = limitsOf 0 (s .gates) (s .entries) (s .basis) in
     let a = s .v * s .entries in
     let w = s .v + 1 in (
       row-is (b .result) (walkOf l w) (k .count-is) (r .depth-is) (r .full-is),

@@ -4,17 +4,18 @@ use native.Mathlib.Omega.{arith}
 use mathlib.Core.Path.{_≡_, sym, ap, _∙_}
 use borrow.Author.Needs.{needs}
 use Rattle.tables.specs.Tables.{printsOf, parentsOf, codesOf}
+use Rattle.tables.specs.Checks.{limitsOf}
 use Rattle.tables.proofs.Filled.{room-at}
 use Rattle.murm_config.specs.Told.{toldConfig, toldWidth, toldMurm}
-use Rattle.murm_widths.proofs.Widths.{limits, recordTo, record-none, record-more, record-all, Done, done-none, done-more, done-all}
+use Rattle.murm_widths.proofs.Widths.{recordTo, record-none, record-more, record-all, Done, done-none, done-more, done-all}
 use Rattle.murm_widths.proofs.Widths.{prints-same, parents-same, codes-same}
 use Rattle.murm_widths.proofs.build_widths.Statement.{statement}
 use Rattle.murm_widths.proofs.build_widths.Tie as tie
 
 abbrev Inv-loop : tie.InvT-loop
 Inv-loop fingerprints₀ parents₀ codes₀ q g e b table₀ v₀ fingerprints parents codes table v =
-    (v ≤ q) × (toldMurm table ≡ recordTo (limits q g e b) v) × Done (printsOf (limits q g e b)) e v fingerprints₀ fingerprints
-    × Done (parentsOf (limits q g e b)) e v parents₀ parents × Done (codesOf (limits q g e b)) e v codes₀ codes
+    (v ≤ q) × (toldMurm table ≡ recordTo (limitsOf q g e b) v) × Done (printsOf (limitsOf q g e b)) e v fingerprints₀ fingerprints
+    × Done (parentsOf (limitsOf q g e b)) e v parents₀ parents × Done (codesOf (limitsOf q g e b)) e v codes₀ codes
 
 abbrev μ-loop : tie.MeasureT-loop
 μ-loop fingerprints₀ parents₀ codes₀ q g e b table₀ v₀ fingerprints parents codes table v = q - v
@@ -25,7 +26,7 @@ loop-holds c =
     let b = c .before .bits .ensures in (
       search needs,
       c .empty .ensures ∙ (record-none (toldConfig m)
-          ∙ ap (λ (z : ℕ). recordTo (limits (m .«max_qubits») (m .«max_gates») (m .«max_entries_per_qubit») z) 0) (sym b)),
+          ∙ ap (λ (z : ℕ). recordTo (limitsOf (m .«max_qubits») (m .«max_gates») (m .«max_entries_per_qubit») z) 0) (sym b)),
       done-none _ _ _,
       done-none _ _ _,
       done-none _ _ _,
@@ -52,7 +53,7 @@ loop-again c =
     let b = t .before .before .before .bits .result in
     let s = t .before .before .before .before .before .before .before in
     let m = s .args .config in
-    let l = limits (m .«max_qubits») (m .«max_gates») (m .«max_entries_per_qubit») b in
+    let l = limitsOf (m .«max_qubits») (m .«max_gates») (m .«max_entries_per_qubit») b in
     let v = u .v in
     let h : v < 5 = omega (arith, t .loop-test .taken, s .pre .0 .0) in (
       omega (arith, t .loop-test .taken),
@@ -67,8 +68,8 @@ returns c =
     let u = c .before .loop in
     let m = c .before .before .before .before .before .before .before .args .config in
     let b = c .before .before .before .bits in
-    let e : limits (m .«max_qubits») (m .«max_gates») (m .«max_entries_per_qubit») (b .result) ≡ toldConfig m =
-    ap (limits (m .«max_qubits») (m .«max_gates») (m .«max_entries_per_qubit»)) (b .ensures) in
+    let e : limitsOf (m .«max_qubits») (m .«max_gates») (m .«max_entries_per_qubit») (b .result) ≡ toldConfig m =
+    ap (limitsOf (m .«max_qubits») (m .«max_gates») (m .«max_entries_per_qubit»)) (b .ensures) in
     let f : u .v ≡ m .«max_qubits» = omega arith in (
       record-all _ (toldConfig m) (u .v) _ e f (u .inv .1),
       (

@@ -1,0 +1,59 @@
+// The program `circuits`, document 01, "The program circuits": reads standard input, and writes what circuits_output::circuits makes of it.
+ghost use mathlib.Core.Path.{_≡_};
+ghost use Prim.Native.Nat.{_≤_};
+ghost use lib.ListN.{length};
+ghost use Rattle.circuits_text.specs.Writing.{Put};
+ghost use Rattle.circuits_output.specs.Output.{output, lentPlaces};
+use circuits_output::Printed;
+use libc::STDIN_FILENO;
+use libc::STDOUT_FILENO;
+
+// The longest input, and one byte more.
+fn input_space() -> [u8; 16385]
+    ensures { λ r. ⌜ 16385 ≡ length r ⌝ }
+{
+    [0; 16385]
+}
+
+// As many bytes as any output takes.
+fn output_space() -> [u8; 3133584]
+    ensures { λ r. ⌜ 3133584 ≡ length r ⌝ }
+{
+    [0; 3133584]
+}
+
+// Places for the fingerprints of a table.
+fn print_space() -> [u64; 2048]
+    ensures { λ r. ⌜ r ≡ lentPlaces ⌝ }
+{
+    [0; 2048]
+}
+
+// Places for the parents or the codes.
+fn node_space() -> [u32; 2048]
+    ensures { λ r. ⌜ r ≡ lentPlaces ⌝ }
+{
+    [0; 2048]
+}
+
+// The program's output for an input, in the first of the lent bytes: how many they are.
+fn answer(input: &[u8], out: &mut [u8]) -> usize
+    requires { ⌜ 3133584 ≤ length (now out) ⌝ }
+    ensures { λ r. ⌜ Put 0 (output (now (input .entry))) r (now (out .entry)) (now (out .exit)) ⌝ }
+{
+    let mut prints = print_space();
+    let mut parents = node_space();
+    let mut codes = node_space();
+    match circuits_output::circuits(input, &mut prints, &mut parents, &mut codes, out) {
+        Printed::Text(n) => n,
+        Printed::NoRoom => 0,
+    }
+}
+
+fn main() {
+    let mut input = input_space();
+    let n = io::read_full(STDIN_FILENO, &mut input);
+    let mut out = output_space();
+    let m = answer(&input[..n], &mut out);
+    io::write_all(STDOUT_FILENO, &out[..m]);
+}

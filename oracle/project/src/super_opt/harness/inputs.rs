@@ -1,7 +1,8 @@
 //! Mode `inputs`: the lists that port and original are compared on, as lines
 //! for the mode `list`. `inputs all` has every group whole; `inputs sample` has
 //! some of each; both end in damaged lines. The same lines come out in every
-//! run. `inputs tables all` and `inputs tables sample` are in `table_inputs`.
+//! run. `inputs tables all` and `inputs tables sample` are in `table_inputs`,
+//! `inputs circuits sample` and `inputs circuits part N` in `run_inputs`.
 
 use std::io::{self, Write};
 
@@ -9,6 +10,7 @@ use super::codes::{code_of, valid_gates};
 use super::edges;
 use super::lists::List;
 use super::random::Random;
+use super::run_inputs;
 use super::table_inputs;
 use crate::circuit::GateKind as Kind;
 use crate::super_opt::murm::LibraryGate as Gate;
@@ -18,7 +20,7 @@ pub(super) const MOST_GATES: usize = 256;
 
 /// A list that fits up to its last gate, where its raw coefficients pass 127,
 /// although they would not once lowered.
-const TRAP: [u32; 52] = [
+pub(super) const TRAP: [u32; 52] = [
     0, 24576, 0, 20480, 0, 20480, 0, 24576, 0, 24576, 0, 20480, 0, 24576, 0, 20480, 0, 20480, 0,
     24576, 0, 24576, 0, 20480, 0, 24576, 0, 20480, 0, 20480, 0, 24576, 0, 20480, 0, 24576, 0,
     24576, 0, 20480, 0, 24576, 0, 24576, 0, 24576, 0, 24576, 0, 20480, 0, 0,
@@ -52,7 +54,15 @@ pub(super) fn run(arguments: &[String], out: &mut dyn Write) -> io::Result<()> {
         ["sample"] => true,
         ["tables", "all"] => return table_inputs::write(false, out),
         ["tables", "sample"] => return table_inputs::write(true, out),
-        _ => return Err(io::Error::other("usage: oracle inputs [tables] all|sample")),
+        ["circuits", "sample"] => return run_inputs::write_sample(out),
+        ["circuits", "part", number] => {
+            return run_inputs::write_part(number.parse().map_err(io::Error::other)?, out);
+        }
+        _ => {
+            let usage =
+                "usage: oracle inputs [tables] all|sample, oracle inputs circuits sample|part N";
+            return Err(io::Error::other(usage));
+        }
     };
     for (lists, wanted) in GROUPS {
         let mut lists = lists();
@@ -248,7 +258,7 @@ fn invalid() -> Vec<List> {
     lists
 }
 
-fn invalid_codes(width: usize) -> Vec<u32> {
+pub(super) fn invalid_codes(width: usize) -> Vec<u32> {
     let valid = valid_codes(width);
     let n = width as u32;
     let kind = |kind: Kind| kind as u32 * 4096;

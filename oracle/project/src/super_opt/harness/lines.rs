@@ -6,7 +6,7 @@ use std::io::{self, Read, Write};
 use std::panic::{AssertUnwindSafe, catch_unwind};
 
 use super::lists::{self, number};
-use super::tables::{Limits, Question, write_table};
+use super::tables::{Limits, PLACES, Question, write_table};
 use crate::super_opt::murm::Murm;
 
 const BROKEN: &str = "refused 14 0";
@@ -23,8 +23,8 @@ pub(super) fn run(_: &[String], out: &mut dyn Write) -> io::Result<()> {
         let line = str::from_utf8(line).unwrap_or_default();
         if line.starts_with("table ") {
             table = None;
-            match limits(line) {
-                Some(limits) => match limits.refusal() {
+            match line.strip_prefix("table ").and_then(Limits::of_numbers) {
+                Some(limits) => match limits.refusal(PLACES) {
                     Some(row) => writeln!(out, "refused {row} 0")?,
                     None => table = build(limits, out)?,
                 },
@@ -43,7 +43,8 @@ pub(super) fn run(_: &[String], out: &mut dyn Write) -> io::Result<()> {
 fn build(limits: Limits, out: &mut dyn Write) -> io::Result<Option<Murm>> {
     match catch_unwind(|| limits.build()) {
         Ok(table) => {
-            write_table(&table, limits.qubits, out)?;
+            let first = |_, fingerprint| format!("{fingerprint:016x}");
+            write_table(&table, limits.qubits, first, out)?;
             Ok(Some(table))
         }
         Err(_) => {
@@ -60,19 +61,6 @@ fn asked(line: &str, table: Option<&Murm>) -> String {
     };
     catch_unwind(AssertUnwindSafe(|| question.answer(table)))
         .unwrap_or_else(|_| "panicked".to_owned())
-}
-
-/// `table Q G E B`.
-fn limits(line: &str) -> Option<Limits> {
-    let numbers = line.strip_suffix('\n')?.strip_prefix("table ")?;
-    let numbers: Option<Vec<u32>> = numbers.split(' ').map(number).collect();
-    let [qubits, gates, entries, basis] = numbers?.try_into().ok()?;
-    Some(Limits {
-        qubits,
-        gates,
-        entries,
-        basis,
-    })
 }
 
 /// `matrix WIDTH K COEFFICIENTS..`.

@@ -42,9 +42,13 @@ pub(super) fn line_answer(line: &str) -> String {
 
 impl List {
     fn parse(line: &str) -> Option<Self> {
-        let numbers = line.strip_suffix('\n')?.strip_prefix("list ")?;
-        let numbers: Option<Vec<u32>> = numbers.split(' ').map(number).collect();
-        let (&[width, count], codes) = numbers.as_deref()?.split_first_chunk()?;
+        Self::of_numbers(line.strip_prefix("list ")?)
+    }
+
+    /// `WIDTH COUNT CODES..`, with its newline.
+    pub(super) fn of_numbers(line: &str) -> Option<Self> {
+        let numbers = numbers(line)?;
+        let (&[width, count], codes) = numbers.split_first_chunk()?;
         (count as usize <= MOST_GATES && codes.len() == count as usize).then(|| Self {
             width,
             codes: codes.to_vec(),
@@ -52,13 +56,42 @@ impl List {
     }
 
     pub(super) fn line(&self) -> String {
-        let mut line = format!("list {} {}", self.width, self.codes.len());
+        format!("list {}", self.numbers())
+    }
+
+    /// `WIDTH COUNT CODES..`.
+    pub(super) fn numbers(&self) -> String {
+        let mut line = format!("{} {}", self.width, self.codes.len());
         for code in &self.codes {
             line.push(' ');
             line.push_str(&code.to_string());
         }
         line
     }
+
+    /// The original's matrix, or the refusal.
+    pub(super) fn matrix(&self) -> Result<UnitaryMatrix, String> {
+        if self.width > MOST_WIDTH {
+            return Err("refused 6 0".to_owned());
+        }
+        let width = self.width as usize;
+        let mut gates = Vec::new();
+        for (position, &code) in self.codes.iter().enumerate() {
+            match valid_gate(code, width) {
+                Some(gate) => gates.push(gate),
+                None => return Err(format!("refused 7 {position}")),
+            }
+        }
+        library_circuit_matrix(width, &gates)
+            .expect("the width is small")
+            .ok_or_else(|| format!("refused 8 {}", first_unfit(width, &gates)))
+    }
+}
+
+/// The numbers of a line with its newline, one space between.
+pub(super) fn numbers(line: &str) -> Option<Vec<u32>> {
+    let numbers = line.strip_suffix('\n')?;
+    numbers.split(' ').map(number).collect()
 }
 
 /// A number of at most ten digits.
@@ -68,20 +101,9 @@ pub(super) fn number(word: &str) -> Option<u32> {
 }
 
 fn answer(list: &List) -> String {
-    if list.width > MOST_WIDTH {
-        return "refused 6 0".to_owned();
-    }
-    let width = list.width as usize;
-    let mut gates = Vec::new();
-    for (position, &code) in list.codes.iter().enumerate() {
-        match valid_gate(code, width) {
-            Some(gate) => gates.push(gate),
-            None => return format!("refused 7 {position}"),
-        }
-    }
-    match library_circuit_matrix(width, &gates).expect("the width is small") {
-        Some(matrix) => told(&matrix),
-        None => format!("refused 8 {}", first_unfit(width, &gates)),
+    match list.matrix() {
+        Ok(matrix) => told(&matrix),
+        Err(refusal) => refusal,
     }
 }
 

@@ -7,6 +7,7 @@ mod altered;
 mod bench;
 #[cfg(feature = "port")]
 mod bench_tables;
+mod circuits;
 mod codes;
 #[cfg(feature = "port")]
 mod damage;
@@ -21,6 +22,8 @@ mod questions;
 mod random;
 #[cfg(feature = "port")]
 mod rules;
+mod run_inputs;
+mod run_queries;
 mod table_inputs;
 mod tables;
 
@@ -35,6 +38,7 @@ const MODES: &[(&str, Mode)] = &[
     ("bench", bench::run),
     #[cfg(feature = "port")]
     ("damage", damage::run),
+    ("circuits", circuits::run),
     ("gates", gates::run),
     ("inputs", inputs::run),
     ("lines", lines::run),

@@ -60,7 +60,7 @@ pub(super) fn write(sample: bool, out: &mut dyn Write) -> io::Result<()> {
         if sample {
             let places = |limits: &Limits| u64::from(limits.qubits) * u64::from(limits.entries);
             let small = |limits: &Limits| places(limits) <= SAMPLE_PLACES;
-            limits.retain(|(_, limits)| small(limits) || limits.refusal().is_some());
+            limits.retain(|(_, limits)| small(limits) || limits.refusal(PLACES).is_some());
             limits = evenly(limits, *wanted);
         }
         for (number, limits) in limits {
@@ -77,7 +77,7 @@ pub(super) fn write(sample: bool, out: &mut dyn Write) -> io::Result<()> {
 }
 
 fn questions(limits: Limits, asked: Asked, random: Random) -> Vec<String> {
-    if limits.refusal().is_some() {
+    if limits.refusal(PLACES).is_some() {
         return vec![UNASKED.to_owned()];
     }
     let mut asker = Asker {
@@ -88,15 +88,6 @@ fn questions(limits: Limits, asked: Asked, random: Random) -> Vec<String> {
     match asked {
         Asked::Some => asker.some(),
         Asked::All => asker.all(),
-    }
-}
-
-fn limits([qubits, gates, entries, basis]: [u32; 4]) -> Limits {
-    Limits {
-        qubits,
-        gates,
-        entries,
-        basis,
     }
 }
 
@@ -130,7 +121,7 @@ fn pencil() -> Vec<Limits> {
         [5, 64, 1, 3967],
         [5, 8, 1, 2048],
     ];
-    tables.map(limits).to_vec()
+    tables.map(Limits::of).to_vec()
 }
 
 /// Every choice of limits at or past their ends, with a basis that has few
@@ -141,7 +132,7 @@ fn refused() -> Vec<Limits> {
         for gates in [0, 64, 65, 4294967295] {
             for entries in [0, 1, 20000, 20001, 100000, 100001, 1000000, 1000001] {
                 for basis in [2, 0, 128, 130, 4096, 8192, 4294967295] {
-                    tables.push(limits([qubits, gates, entries, basis]));
+                    tables.push(Limits::of([qubits, gates, entries, basis]));
                 }
             }
         }
@@ -152,18 +143,18 @@ fn refused() -> Vec<Limits> {
             [5, 8, 4294967295, 9],
             [1, 8, 4294967295, 9],
         ]
-        .map(limits),
+        .map(Limits::of),
     );
     tables
 }
 
 /// The 2,047 bases.
-fn bases() -> impl Iterator<Item = u32> {
+pub(super) fn bases() -> impl Iterator<Item = u32> {
     (1..4096).filter(|basis| basis & !3967 == 0)
 }
 
 fn small_bases() -> Vec<Limits> {
-    bases().map(|basis| limits([2, 3, 12, basis])).collect()
+    bases().map(|basis| Limits::of([2, 3, 12, basis])).collect()
 }
 
 /// Every basis at three widths, with room for all of the second depth or not.
@@ -172,7 +163,7 @@ fn wide_bases() -> Vec<Limits> {
     let one = |basis| {
         let gates = 1 + random.below(4) as u32;
         let entries = 1 + random.below(120) as u32;
-        limits([3, gates, entries, basis])
+        Limits::of([3, gates, entries, basis])
     };
     bases().map(one).collect()
 }
@@ -180,11 +171,12 @@ fn wide_bases() -> Vec<Limits> {
 /// The first depth at all widths, of some bases. The most generators are 105.
 fn all_generators() -> Vec<Limits> {
     let some = bases().enumerate().filter(|(number, _)| number % 12 == 5);
-    some.map(|(_, basis)| limits([5, 1, 106, basis])).collect()
+    some.map(|(_, basis)| Limits::of([5, 1, 106, basis]))
+        .collect()
 }
 
 /// Any basis, or one of up to three kinds.
-fn basis(random: &mut Random) -> u32 {
+pub(super) fn basis(random: &mut Random) -> u32 {
     let all: Vec<u32> = bases().collect();
     if random.below(2) == 0 {
         return random.one_of(&all);
@@ -200,7 +192,7 @@ fn random() -> Vec<Limits> {
         let most = random.one_of(&[20, 200, 1000, 2000]);
         let entries = 1 + random.below(most) as u32;
         let gates = random.below(9) as u32;
-        limits([qubits, gates, entries, basis(&mut random)])
+        Limits::of([qubits, gates, entries, basis(&mut random)])
     };
     (0..400).map(one).collect()
 }
@@ -214,11 +206,11 @@ fn deep() -> Vec<Limits> {
         let most = random.one_of(&[100, 1000, 3000]);
         let entries = 1 + random.below(most) as u32;
         let gates = random.one_of(&[9, 10, 13, 14, 20, 30, 40, 50, 60, 63, 64]);
-        limits([qubits, gates, entries, basis(&mut random)])
+        Limits::of([qubits, gates, entries, basis(&mut random)])
     };
     let mut tables: Vec<Limits> = (0..120).map(one).collect();
     // One chain of T has eight products, one of H and T very many.
-    tables.extend([[1, 64, 8, 32], [1, 64, 3000, 33], [2, 64, 3000, 289]].map(limits));
+    tables.extend([[1, 64, 8, 32], [1, 64, 3000, 33], [2, 64, 3000, 289]].map(Limits::of));
     tables
 }
 
@@ -239,5 +231,5 @@ fn large() -> Vec<Limits> {
         [5, 64, 1024, 8],
         [5, 64, 1023, 8],
     ];
-    tables.map(limits).to_vec()
+    tables.map(Limits::of).to_vec()
 }

@@ -5,7 +5,7 @@
 use std::io::{self, Write};
 
 use super::codes::{code_of, code_of_gate};
-use super::lists::MOST_WIDTH;
+use super::lists::{MOST_WIDTH, numbers};
 use crate::circuit::GateSet;
 use crate::super_opt::MurmConfig;
 use crate::super_opt::matrix::{matrix_of, unitary_fingerprint};
@@ -28,25 +28,44 @@ pub(super) struct Limits {
 }
 
 impl Limits {
+    /// `Q G E B`, with its newline.
+    pub(super) fn of_numbers(line: &str) -> Option<Self> {
+        numbers(line)?.try_into().ok().map(Self::of)
+    }
+
+    pub(super) fn of([qubits, gates, entries, basis]: [u32; 4]) -> Self {
+        Self {
+            qubits,
+            gates,
+            entries,
+            basis,
+        }
+    }
+
     pub(super) fn line(&self) -> String {
+        format!("table {}", self.numbers())
+    }
+
+    /// `Q G E B`.
+    pub(super) fn numbers(&self) -> String {
         let Self {
             qubits,
             gates,
             entries,
             basis,
         } = self;
-        format!("table {qubits} {gates} {entries} {basis}")
+        format!("{qubits} {gates} {entries} {basis}")
     }
 
-    /// The first of the refusals 1 to 5.
-    pub(super) fn refusal(&self) -> Option<u32> {
-        let places = u64::from(self.qubits) * u64::from(self.entries);
+    /// The first of the refusals 1 to 5, where the arrays have so many places.
+    pub(super) fn refusal(&self, places: u64) -> Option<u32> {
+        let wanted = u64::from(self.qubits) * u64::from(self.entries);
         let rows = [
             (1, !(1..=5).contains(&self.qubits)),
             (2, self.entries == 0),
             (3, self.basis == 0 || self.basis & !3967 != 0),
             (4, self.gates > 64 || self.entries > 1_000_000),
-            (5, places > PLACES),
+            (5, wanted > places),
         ];
         rows.iter().find(|(_, holds)| *holds).map(|(row, _)| *row)
     }
@@ -63,14 +82,20 @@ impl Limits {
     }
 }
 
-/// A line for each width, and one for each of its nodes.
-pub(super) fn write_table(table: &Murm, qubits: u32, out: &mut dyn Write) -> io::Result<()> {
+/// A line for each width, and one for each of its nodes: the first word, which
+/// is made of the node and its fingerprint, then parent and code.
+pub(super) fn write_table(
+    table: &Murm,
+    qubits: u32,
+    first: fn(usize, u64) -> String,
+    out: &mut dyn Write,
+) -> io::Result<()> {
     for width in 1..=qubits as usize {
         let (nodes, depth, saturated) = table.width(width);
         let (entries, saturated) = (nodes.len(), u32::from(saturated));
         writeln!(out, "table {width} {entries} {depth} {saturated}")?;
-        for (fingerprint, parent, code) in nodes_of(nodes) {
-            writeln!(out, "{fingerprint:016x} {parent} {code}")?;
+        for (node, (fingerprint, parent, code)) in nodes_of(nodes).into_iter().enumerate() {
+            writeln!(out, "{} {parent} {code}", first(node, fingerprint))?;
         }
     }
     Ok(())

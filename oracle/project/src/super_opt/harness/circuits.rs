@@ -1,0 +1,110 @@
+//! Mode `circuits`: document 01's program, with the original's tables, matrices
+//! and answers. Standard input holds runs: each is a line `run LENGTH`, so many
+//! bytes, which are the program's input, and a newline. Each is answered by a
+//! line `run LENGTH` and so many bytes, which are the program's output.
+
+use std::io::{self, Read, Write};
+use std::panic::{AssertUnwindSafe, catch_unwind};
+
+use super::codes::code_of_gate;
+use super::lists::List;
+use super::tables::{Limits, write_table};
+use crate::super_opt::murm::Murm;
+
+/// The longest input that the program reads.
+pub(super) const MOST_INPUT: usize = 16384;
+
+/// How many places each array has in the program.
+pub(super) const PLACES: u64 = 2048;
+
+const BROKEN: &str = "refused 14 0";
+const TOO_LONG: &str = "refused 15 0";
+
+pub(super) fn run(_: &[String], out: &mut dyn Write) -> io::Result<()> {
+    let mut input = Vec::new();
+    io::stdin().lock().read_to_end(&mut input)?;
+    let mut rest = &input[..];
+    while !rest.is_empty() {
+        let Some((input, after)) = first_run(rest) else {
+            return Err(io::Error::other("a run has another form"));
+        };
+        let mut output = Vec::new();
+        if catch_unwind(AssertUnwindSafe(|| program(input, &mut output))).is_err() {
+            output = b"panicked\n".to_vec();
+        }
+        writeln!(out, "run {}", output.len())?;
+        out.write_all(&output)?;
+        rest = after;
+    }
+    Ok(())
+}
+
+/// One run as it stands in standard input.
+pub(super) fn write_run(input: &[u8], out: &mut dyn Write) -> io::Result<()> {
+    writeln!(out, "run {}", input.len())?;
+    out.write_all(input)?;
+    writeln!(out)
+}
+
+/// The first run, and what follows it.
+fn first_run(runs: &[u8]) -> Option<(&[u8], &[u8])> {
+    let end = runs.iter().position(|&byte| byte == b'\n')?;
+    let (line, rest) = (&runs[..end], &runs[end + 1..]);
+    let length = str::from_utf8(line).ok()?.strip_prefix("run ")?;
+    let (input, rest) = rest.split_at_checked(length.parse().ok()?)?;
+    Some((input, rest.strip_prefix(b"\n")?))
+}
+
+/// What the program prints for an input.
+fn program(input: &[u8], out: &mut Vec<u8>) {
+    if input.len() > MOST_INPUT {
+        return put(out, TOO_LONG);
+    }
+    let mut lines = input
+        .split_inclusive(|&byte| byte == b'\n')
+        .map(|line| str::from_utf8(line).unwrap_or_default());
+    let Some(limits) = lines.next().and_then(Limits::of_numbers) else {
+        return put(out, BROKEN);
+    };
+    if let Some(row) = limits.refusal(PLACES) {
+        return put(out, &format!("refused {row} 0"));
+    }
+    let table = limits.build();
+    let first = |node: usize, _| node.to_string();
+    write_table(&table, limits.qubits, first, out).expect("memory can be written");
+    for line in lines {
+        put(out, &query(line, &table));
+    }
+}
+
+fn put(out: &mut Vec<u8>, line: &str) {
+    out.extend_from_slice(line.as_bytes());
+    out.push(b'\n');
+}
+
+/// The answer to a query line, given with its newline.
+fn query(line: &str, table: &Murm) -> String {
+    let Some(list) = List::of_numbers(line) else {
+        return BROKEN.to_owned();
+    };
+    let matrix = match list.matrix() {
+        Ok(matrix) => matrix,
+        Err(refusal) => return refusal,
+    };
+    let Some(gates) = table.synthesize(&matrix) else {
+        return "none".to_owned();
+    };
+    let codes: Vec<u32> = gates.iter().map(code_of_gate).collect();
+    let mut line = format!("{} {}", codes.len(), t_charge(&codes));
+    for code in codes {
+        line.push(' ');
+        line.push_str(&code.to_string());
+    }
+    line
+}
+
+/// How many gates are of the kinds T and Tdg.
+fn t_charge(codes: &[u32]) -> usize {
+    let counted = |code: &&u32| [5, 6].contains(&(**code / 4096));
+    codes.iter().filter(counted).count()
+}

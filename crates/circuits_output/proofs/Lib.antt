@@ -3,3 +3,4 @@ pub mod Rooms
 pub mod Asking
 pub mod Builds
 pub mod Inputs
+pub mod Whole

@@ -1,26 +1,19 @@
-use Prim.Native.Nat.{ℕ, zero, suc, _≤_, _<_, _-_, _+_, _*_}
+-- `with_output` lends its array whole. The law's arguments are written out: otherwise antt would make the list. Assumes nothing.
+use mathlib.Core.Path.{_≡_, sym}
+use Prim.Native.Nat.{ℕ, _≤_}
 use native.Mathlib.Omega.{arith}
-use mathlib.Core.Path.{_≡_, refl, sym, ap, _∙_}
-use mathlib.Core.List.{List, [], _∷_, _++_}
-use lib.ListN.{length, getD, set, take, drop}
-use borrow.Author.Needs.{needs}
+use lib.ListN.{length-replicate}
 use Rattle.circuits.proofs.with_output.Statement.{statement}
 use Rattle.circuits.proofs.with_output.Tie as tie
-use Rattle.circuits.proofs.with_output.Reads as reads
-use Rattle.circuits.proofs.with_output.Lts as lts
-use Rattle.circuits.proofs.write_answer.Reads as write-answer-reads
 
--- src/main.rt:57:25
+reaches : {m n : ℕ} → m ≡ n → m ≤ n
+reaches e = omega (arith, e)
+
 slice-aggregate-write-answer : tie.Need-slice-aggregate-write-answer
-slice-aggregate-write-answer c = ?
+slice-aggregate-write-answer c = sym (length-replicate {0} {A = ℕ} 3133584 0)
 
--- src/main.rt:57:5
 write-answer-requires : tie.Need-write-answer-requires
-write-answer-requires c κs = ?
-
--- src/main.rt:55:1
-returns : tie.Need-returns
-returns c = ?
+write-answer-requires c κs = reaches (sym (length-replicate {0} {A = ℕ} 3133584 0))
 
 pub with-output-spec : {M : Type 1} → statement M
-with-output-spec = tie.close (tie.spec slice-aggregate-write-answer write-answer-requires returns)
+with-output-spec = tie.close (tie.spec slice-aggregate-write-answer write-answer-requires (λ c. tt))

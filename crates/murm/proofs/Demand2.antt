@@ -39,13 +39,13 @@ last-case false true false a b c d o x y z g e = e
 last-case false false r a b c d o x y z g e = clash g (sym (ap (λ (t : Outcome). isGiven (t .answer)) e) ∙ z)
 
 module _ (n : ℕ) (codes : List ℕ) (bytes : List ℤ) where
-  accepted-formed : (k : ℕ) (after : List ℤ) → listed n codes bytes ≡ outcome (given k) after → formed n codes bytes (listAnswer n codes) ≡ outcome (given k) after
+  pub accepted-formed : (k : ℕ) (after : List ℤ) → listed n codes bytes ≡ outcome (given k) after → formed n codes bytes (listAnswer n codes) ≡ outcome (given k) after
   unfolding listed
   accepted-formed k after e =
       last-case (ltb 5 n) (eqb (length bytes) (byteCount n)) (ltb (firstInvalid n codes) (length codes)) (outcome (refused 6 0) bytes)
       (outcome (refused 7 (firstInvalid n codes)) bytes) (outcome (refused 9 0) bytes) (formed n codes bytes (listAnswer n codes)) (outcome (given k) after) refl refl refl refl e
 
-  accepted-is : (k : ℕ) (after : List ℤ) → listed n codes bytes ≡ outcome (given k) after → Equal n (held n k after) (product n codes)
+  pub accepted-is : (k : ℕ) (after : List ℤ) → listed n codes bytes ≡ outcome (given k) after → Equal n (held n k after) (product n codes)
   unfolding listAnswer
   accepted-is k after h = by (steps n codes) (accepted-formed k after h)
     where
@@ -60,7 +60,7 @@ module _ (n : ℕ) (codes : List ℕ) (bytes : List ℤ) where
       same-trans n {y = product n codes} (paper-value n codes) (equal-same n (equal-sym n (accepted-is k after e)))
 
   -- "in lowest denominator"
-  accepted-lowest : (k : ℕ) (after : List ℤ) → listed n codes bytes ≡ outcome (given k) after → Lowest n (held n k after)
+  pub accepted-lowest : (k : ℕ) (after : List ℤ) → listed n codes bytes ≡ outcome (given k) after → Lowest n (held n k after)
   accepted-lowest k after e = equal-lowest n (equal-sym n (accepted-is k after e)) (product-lowest n codes)
 
   -- "refused as too large exactly where a step passes 127"

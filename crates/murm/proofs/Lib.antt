@@ -6,3 +6,4 @@ pub mod Builds
 pub mod Asked
 pub mod Demand2
 pub mod Demands
+pub mod Queried

@@ -11,7 +11,7 @@ use Rattle.width_answer.proofs.Meaning.{kind-of}
 use Rattle.tables.specs.Checks.{Row, firstRow, Arrays, queryRows}
 use Rattle.tables.specs.Tables.{Table, widthAt, Query, matrixOf, listRow, answerRows, partOf, notAWidth}
 use Rattle.tables.specs.Built.{Built}
-use Rattle.tables.specs.Demand3.{Gives, GivesNone, Refuses}
+use Rattle.tables.specs.Demand3.{Gives, GivesNone, Refuses, NotRefused}
 use Rattle.tables.proofs.Rows.{first-here, first-past}
 use Rattle.tables.proofs.Replies.{number-of, rowOfAnswer, Case, not-a-width, part-asked, by-row, row-refuses, width-none, width-asked, cases}
 use Rattle.tables.proofs.Replies.{gives-asked, asked-means, gives-answers}
@@ -138,3 +138,11 @@ module _ (t : Table) (a : Arrays) (q : Query) (out : List ℕ) where
           → rowOfAnswer t a q out ≡ r
       to n (row-holds h e) = e
       to n (chain-bad z e w x) = absurd (demand .never-13 t a b q out (n ∙ ap (λ (s : ℕ). outcome (refused s 0) out) z))
+
+  -- a query that none of these rows refuses is not refused
+  pub never-refused : Built t a → firstRow (queryRows (q .width) (q .exponent) (q .bytes) ++ (listRow t out ∷ [])) ≡ 0 → NotRefused t a q out
+  never-refused b e r n = by (refused-by r n)
+    where
+      by : Refusal r → ⊥
+      by (row-holds h z) = absurd (omega (arith, h, sym z ∙ (rows-are t a b q out ∙ e)))
+      by (chain-bad z x w y) = demand .never-13 t a b q out (n ∙ ap (λ (s : ℕ). outcome (refused s 0) out) z)

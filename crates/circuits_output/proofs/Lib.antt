@@ -4,3 +4,4 @@ pub mod Asking
 pub mod Builds
 pub mod Inputs
 pub mod Whole
+pub mod Accepts

@@ -5,3 +5,4 @@ pub mod Builds
 pub mod Inputs
 pub mod Whole
 pub mod Filed
+pub mod Accepts

@@ -201,7 +201,7 @@ words-more (b ∷ bs) h = by (eqb b space) (λ g. words-more bs g) h
     by true rest g = refl
     by false rest g = ap (longer b) (rest (omega arith))
 
-words-some : (bs : List ℕ) → 1 ≤ length (words bs)
+pub words-some : (bs : List ℕ) → 1 ≤ length (words bs)
 unfolding words
 words-some [] = omega arith
 words-some (b ∷ bs) = by (eqb b space) (words bs)

@@ -19,7 +19,7 @@ fn input_space() -> [u8; 16385]
 fn print_space() -> [u64; 2048]
     ensures { λ r. ⌜ r ≡ lentPlaces ⌝ }
 {
-    [0; 2048]
+    [0u64; 2048]
 }
 
 // Places for the parents or the codes.

@@ -27,10 +27,10 @@ shared-slice-read-put-list : tie.Need-shared-slice-read-put-list
 shared-slice-read-put-list c = omega (arith, two c)
 
 sub-put-list : tie.Need-sub-put-list
-sub-put-list c = two c
+sub-put-list c = omega (arith, two c)
 
 part-put-list-start : tie.Need-part-put-list-start
-part-put-list-start c = two c
+part-put-list-start c = omega (arith, two c)
 
 returns-2 : tie.Need-returns-2
 returns-2 c =

@@ -10,9 +10,10 @@ use lib.ListN.{length}
 use Rattle.ints.specs.Lists.{pick, all, elem}
 use Rattle.ints.proofs.Bools.{both-true, neither}
 use Rattle.circuits_text.specs.Reading.{space, newline, longer, words, isDigit, valueFrom, value, isNumber, allNumbers, numbers}
+use Rattle.circuits_text.specs.Writing.{decimal}
 use Rattle.circuits_text.specs.Allowed.{Digits, noDigit, behind, Spelled, AllowedLine, alone, spaced}
-use Rattle.circuits_text.proofs.Split.{words-some}
-use Rattle.circuits_text.proofs.Back.{value-snoc, digits-snoc}
+use Rattle.circuits_text.proofs.Split.{words-some, number-is}
+use Rattle.circuits_text.proofs.Back.{value-snoc, digits-snoc, read-back}
 
 -- ---- a word
 
@@ -179,3 +180,9 @@ pub line-unbroken : {ns l : List ℕ} → AllowedLine ns l → elem newline l �
 unfolding elem
 line-unbroken (alone {n} {w} s) = digits-unbroken w (spelled-digits s)
 line-unbroken (spaced {n} {ns} {w} {l} s r) = elem-append newline w (32 ∷ l) (digits-unbroken w (spelled-digits s)) ∙ line-unbroken r
+
+-- ---- a number written is spelled
+pub decimal-spelled : (n : ℕ) → n ≤ 4294967295 → Spelled n (decimal n)
+decimal-spelled n h =
+    let x = number-is (decimal n) n (read-back n h) in
+    subst (λ (k : ℕ). Spelled k (decimal n)) (x .1) (word-spelled (decimal n) (x .0))

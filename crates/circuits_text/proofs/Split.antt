@@ -211,7 +211,7 @@ words-some (b ∷ bs) = by (eqb b space) (words bs)
     by false [] = omega arith
     by false (w ∷ ws) = omega arith
 
-number-is : (w : List ℕ) (v : ℕ) → wordOf w ≡ Number v → (isNumber w ≡ true) × (value w ≡ v)
+pub number-is : (w : List ℕ) (v : ℕ) → wordOf w ≡ Number v → (isNumber w ≡ true) × (value w ≡ v)
 unfolding wordOf
 number-is w v h = by (isNumber w) h
   where

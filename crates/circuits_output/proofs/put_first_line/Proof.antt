@@ -1,5 +1,5 @@
 -- `put_first_line` meets its contract: the line's numbers, or that it is broken, decide the text. Assumes nothing.
-use mathlib.Core.Path.{_≡_, refl, sym}
+use mathlib.Core.Path.{refl, sym}
 use mathlib.Core.List.{List}
 use native.Mathlib.Omega.{arith}
 use borrow.Author.Needs.{needs}

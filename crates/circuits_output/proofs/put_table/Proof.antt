@@ -1,5 +1,4 @@
 -- `put_table` meets its contract: the widths, then the queries. Assumes nothing.
-use Prim.Native.Nat.{_≤_}
 use native.Mathlib.Omega.{arith}
 use borrow.Author.Needs.{needs}
 use Rattle.murm_config.specs.Told.{toldMurm}

@@ -1,5 +1,4 @@
 -- `room` meets its contract. Assumes nothing.
-use native.Mathlib.Omega.{arith}
 use borrow.Author.Needs.{needs}
 use Rattle.circuits_output.specs.Output.{roomFor}
 use Rattle.circuits_output.proofs.room.Statement.{statement}

@@ -33,7 +33,7 @@ unfoldable pub linesOf : List ℕ → List InputLine
 linesOf [] = []
 linesOf (b ∷ bs) = pick (eqb b newline) (ended [] ∷ linesOf bs) (longerLine b (linesOf bs))
 
--- what a line comes to by its numbers; else what a line that is not ended, or has other words, comes to
+-- what `by` makes of a line's numbers; `other` for a line without its newline or with a word that is no number
 abbrev pub readLine : {A : Type 0} → A → InputLine → (List ℕ → A) → A
 readLine other (ended l) by = pick (allNumbers (words l)) (by (numbers (words l))) other
 readLine other (cut l) by = other

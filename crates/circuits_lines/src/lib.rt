@@ -50,7 +50,7 @@ pub fn put_refused(out: &mut [u8], at: usize, number: u64, position: u64) -> usi
 }
 
 // `none`: 5 bytes.
-pub fn put_none(out: &mut [u8], at: usize) -> usize
+fn put_none(out: &mut [u8], at: usize) -> usize
     requires { ⌜ at + 5 ≤ length (now out) ⌝ }
     ensures { λ r. ⌜ Put at noneLine r (now (out .entry)) (now (out .exit)) ⌝ }
     ensures { λ r. ⌜ r ≡ at + 5 ⌝ }
@@ -90,7 +90,7 @@ fn put_node(out: &mut [u8], at: usize, node: u32, parent: u32, code: u32) -> usi
 }
 
 // The nodes of a width's filled places: at most 33 bytes each, and 10 more are left.
-pub fn put_nodes(out: &mut [u8], at: usize, parents: &[u32], codes: &[u32], count: usize) -> usize
+fn put_nodes(out: &mut [u8], at: usize, parents: &[u32], codes: &[u32], count: usize) -> usize
     requires { ⌜ (at + 33 * count + 10 ≤ length (now out)) × (count ≤ 1000000) ⌝ }
     requires { ⌜ (count ≤ length (now parents)) × (count ≤ length (now codes)) ⌝ }
     ensures { λ r. ⌜ Put at (nodeLines (now (parents .entry)) (now (codes .entry)) count) r (now (out .entry)) (now (out .exit)) ⌝ }
@@ -131,7 +131,7 @@ pub fn put_codes(out: &mut [u8], at: usize, codes: &[u32]) -> usize
 }
 
 // Gate count, T charge, codes: at most 42 bytes and 11 for each code, and 10 more are left.
-pub fn put_answer(out: &mut [u8], at: usize, codes: &[u32]) -> usize
+fn put_answer(out: &mut [u8], at: usize, codes: &[u32]) -> usize
     requires { ⌜ at + 11 * length (now codes) + 52 ≤ length (now out) ⌝ }
     ensures { λ r. ⌜ Put at (answerLine (now (codes .entry))) r (now (out .entry)) (now (out .exit)) ⌝ }
     ensures { λ r. ⌜ r ≤ at + 11 * length (now (codes .entry)) + 42 ⌝ }
@@ -305,7 +305,7 @@ fn is_query(numbers: &[u32]) -> bool
 }
 
 // A query's line by its numbers: at most 746 bytes, where 756 are left.
-pub fn put_query(
+fn put_query(
     out: &mut [u8],
     at: usize,
     table: Murm,

@@ -4,4 +4,5 @@ pub mod Asking
 pub mod Builds
 pub mod Inputs
 pub mod Whole
-pub mod Filed
+pub mod ProgramDemand3
+pub mod Accepts

@@ -10,7 +10,7 @@ use Rattle.tables.specs.Checks.{Arrays, arrays}
 use Rattle.circuits_text.specs.Writing.{Put}
 use Rattle.circuits_output.specs.declared.Printed.{Printed}
 use Rattle.circuits_output.specs.declared.Printed.the-variants.{Text, NoRoom}
-use Rattle.circuits_output.specs.Output.{outputWith, arraysAfter, lentPlaces, lentArrays, output, roomFor, Run, run, textRun, programOf}
+use Rattle.circuits_output.specs.Output.{arraysAfter, lentPlaces, lentArrays, output, roomFor, Run, run, textRun, programOf}
 
 pub places-count : {l : List ℕ} → l ≡ lentPlaces → 2048 ≡ length l
 unfolding lentPlaces

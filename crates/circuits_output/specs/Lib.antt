@@ -1,2 +1,3 @@
 pub mod Output
-pub mod Filed
+pub mod ProgramDemand3
+pub mod Allowed

@@ -15,7 +15,7 @@ use Rattle.circuits_output.specs.declared.Printed.the-variants.{Text, No
 
 -- ---- line one
 
--- what an input asks: none, for its length or for its line one; or a table of four limits, and then its later lines
+-- what an input asks: nothing, because of its length or of its line one; or a table of four limits, and then its later lines
 pub data Input : Type 0 where
   tooLong : Input
   broken : Input
@@ -84,8 +84,8 @@ output input = outputWith lentArrays input
 
 -- ---- the function that makes the output
 
--- as many bytes as any output takes, where that many parents have places: 33 for each node, of which there are at most 5,000,000; the rest
--- for 5 lines of widths, and for queries, at most 187 for each byte of the input
+-- as many bytes as any output takes, where the array of parents has that many places: 33 for each node, of which there are at most 5,000,000;
+-- the rest is 90 for the line of each width, 187 for each byte of the input and 756 for the last line, 3,065,014 together, rounded up
 unfoldable pub roomFor : ℕ → ℕ
 roomFor places = 33 * min places 5000000 + 3066000
 

@@ -14,12 +14,12 @@ use Rattle.circuits_text.specs.Reading.{isDigit, valueFrom, value, isNum
 use Rattle.circuits_text.specs.Writing.{glyph, decimalIn, decimal}
 use Rattle.circuits_text.proofs.Placing.{decimal-short}
 
-value-snoc : (v : ℕ) (a : List ℕ) (b : ℕ) → valueFrom v (a ++ (b ∷ [])) ≡ valueFrom v a * 10 + (b - 48)
+pub value-snoc : (v : ℕ) (a : List ℕ) (b : ℕ) → valueFrom v (a ++ (b ∷ [])) ≡ valueFrom v a * 10 + (b - 48)
 unfolding valueFrom
 value-snoc v [] b = refl
 value-snoc v (x ∷ a) b = value-snoc (v * 10 + (x - 48)) a b
 
-digits-snoc : (a : List ℕ) (b : ℕ) → all isDigit a ≡ true → isDigit b ≡ true → all isDigit (a ++ (b ∷ [])) ≡ true
+pub digits-snoc : (a : List ℕ) (b : ℕ) → all isDigit a ≡ true → isDigit b ≡ true → all isDigit (a ++ (b ∷ [])) ≡ true
 unfolding all
 digits-snoc [] b h e = rw e
 digits-snoc (x ∷ a) b h e =

@@ -201,7 +201,7 @@ words-more (b ∷ bs) h = by (eqb b space) (λ g. words-more bs g) h
     by true rest g = refl
     by false rest g = ap (longer b) (rest (omega arith))
 
-words-some : (bs : List ℕ) → 1 ≤ length (words bs)
+pub words-some : (bs : List ℕ) → 1 ≤ length (words bs)
 unfolding words
 words-some [] = omega arith
 words-some (b ∷ bs) = by (eqb b space) (words bs)
@@ -211,7 +211,7 @@ words-some (b ∷ bs) = by (eqb b space) (words bs)
     by false [] = omega arith
     by false (w ∷ ws) = omega arith
 
-number-is : (w : List ℕ) (v : ℕ) → wordOf w ≡ Number v → (isNumber w ≡ true) × (value w ≡ v)
+pub number-is : (w : List ℕ) (v : ℕ) → wordOf w ≡ Number v → (isNumber w ≡ true) × (value w ≡ v)
 unfolding wordOf
 number-is w v h = by (isNumber w) h
   where

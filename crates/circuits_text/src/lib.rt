@@ -20,7 +20,7 @@ pub enum Word {
     Other,
 }
 
-// A line: that many numbers, or something else, more numbers than there are places for among it.
+// A line: that many numbers, or something else; a line with more numbers than places is something else.
 pub enum Line {
     Numbers(usize),
     Broken,
@@ -169,7 +169,7 @@ fn put_digits(out: &mut [u8], at: usize, n: u64) -> usize
     put_byte(out, next, glyph(n % 10))
 }
 
-// The same where 20 places are left, as many as any number takes.
+// Puts the decimal digits of a number from a place on, where 20 places are left, as many as any number takes, and answers the place after them.
 pub fn put_decimal(out: &mut [u8], at: usize, n: u64) -> usize
     requires { ⌜ at + 20 ≤ length (now out) ⌝ }
     ensures { λ r. ⌜ Put at (decimal n) r (now (out .entry)) (now (out .exit)) ⌝ }

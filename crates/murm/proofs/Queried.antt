@@ -1,12 +1,12 @@
 -- The matrix of an accepted list may be asked: none of the rows 6, 9, 10, 11 refuses it. Assumes nothing.
 use mathlib.Core.Path.{_≡_, refl, sym, ap, _∙_}
-use mathlib.Core.Bool.{Bool, true, false, _&&_, _||_}
-use mathlib.Core.List.{List, [], _∷_}
-use Prim.Native.Nat.{ℕ, zero, suc, _+_, _*_, _/_, _%_, _^_, _≤_, _<_}
+use mathlib.Core.Bool.{Bool, true, false, _&&_}
+use mathlib.Core.List.{List}
+use Prim.Native.Nat.{ℕ, zero, suc, _*_, _/_, _%_, _^_, _≤_, _<_}
 use native.Mathlib.Omega.{arith}
 use borrow.Author.Tests.{lt-ltb, ltb-false, ne-eqb}
 use lib.IntN.{ℤ, pos, negsuc, natAbs}
-use lib.Dec.{eqb, ltb}
+use lib.Dec.{ltb}
 use lib.ListN.{length}
 use Rattle.ints.specs.Lists.{pick}
 use Rattle.ints.proofs.Bools.{clash}
@@ -21,7 +21,7 @@ use Rattle.exact.proofs.Bounds.{product-small}
 use Rattle.exact.proofs.Answered.{isGiven}
 use Rattle.places.specs.Places.{read, held}
 use Rattle.tables.specs.Checks.{byteCount, anyBelow, firstRow, queryRows}
-use Rattle.murm.specs.Entries.{Outcome, outcome, bytesOf, coefficients, formed, firstInvalid, listed}
+use Rattle.murm.specs.Entries.{Outcome, outcome, bytesOf, coefficients, formed, listed}
 use Rattle.murm.proofs.Bytes.{byte-count}
 use Rattle.murm.proofs.Answers.{query-allowed}
 use Rattle.murm.proofs.Demand2.{accepted-formed, accepted-lowest}

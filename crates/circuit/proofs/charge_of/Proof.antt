@@ -15,15 +15,9 @@ returns : tie.Need-returns
 unfolding kindCharge
 returns c = sym (ap kindCharge (kind-past (c .before .args .kind) (c .if1 .taken)))
 
-mul-result : tie.Need-mul-result
-mul-result c = search needs
-
-array-read-result : tie.Need-array-read-result
-array-read-result c = search needs
-
 returns-2 : tie.Need-returns-2
 unfolding kindCharge kindAt
 returns-2 c = at (λ k. kindCharge (kindAt k)) (map kindCharge kinds) refl (c .before .args .kind) (omega arith)
 
 pub charge-of-spec : {M : Type 1} → statement M
-charge-of-spec = tie.close (tie.spec returns mul-result array-read-result returns-2)
+charge-of-spec = tie.close (tie.spec returns (λ c. search needs) (λ c. search needs) returns-2)

@@ -14,15 +14,9 @@ returns : tie.Need-returns
 unfolding number dual
 returns c = sym (ap (λ (k : Kind). number (dual k)) (kind-past (c .before .args .kind) (c .if1 .taken)))
 
-mul-result : tie.Need-mul-result
-mul-result c = search needs
-
-array-read-result : tie.Need-array-read-result
-array-read-result c = search needs
-
 returns-2 : tie.Need-returns-2
 unfolding number dual kindAt
 returns-2 c = at (λ k. number (dual (kindAt k))) (map (λ k. number (dual k)) kinds) refl (c .before .args .kind) (omega arith)
 
 pub dual-kind-spec : {M : Type 1} → statement M
-dual-kind-spec = tie.close (tie.spec returns mul-result array-read-result returns-2)
+dual-kind-spec = tie.close (tie.spec returns (λ c. search needs) (λ c. search needs) returns-2)

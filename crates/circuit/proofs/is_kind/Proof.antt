@@ -9,11 +9,8 @@ use Rattle.circuit.proofs.ByNumber.{kind-placed}
 use Rattle.circuit.proofs.is_kind.Statement.{statement}
 use Rattle.circuit.proofs.is_kind.Tie as tie
 
-operand-count-requires : tie.Need-operand-count-requires
-operand-count-requires c κs = search needs
-
 returns : tie.Need-returns
 returns c = ap (λ (x : ℕ). not (eqb x 0)) (c .operand-count .ensures) ∙ kind-placed (kindAt (c .before .args .kind))
 
 pub is-kind-spec : {M : Type 1} → statement M
-is-kind-spec = tie.close (tie.spec operand-count-requires returns)
+is-kind-spec = tie.close (tie.spec (λ c κs. search needs) returns)

@@ -14,15 +14,9 @@ returns : tie.Need-returns
 unfolding arity
 returns c = sym (ap arity (kind-past (c .before .args .kind) (c .if1 .taken)))
 
-mul-result : tie.Need-mul-result
-mul-result c = search needs
-
-array-read-result : tie.Need-array-read-result
-array-read-result c = search needs
-
 returns-2 : tie.Need-returns-2
 unfolding arity kindAt
 returns-2 c = at (λ k. arity (kindAt k)) (map arity kinds) refl (c .before .args .kind) (omega arith)
 
 pub operand-count-spec : {M : Type 1} → statement M
-operand-count-spec = tie.close (tie.spec returns mul-result array-read-result returns-2)
+operand-count-spec = tie.close (tie.spec returns (λ c. search needs) (λ c. search needs) returns-2)

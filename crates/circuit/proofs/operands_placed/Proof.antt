@@ -7,26 +7,17 @@ use Rattle.circuit.specs.Codes.{placed}
 use Rattle.circuit.proofs.operands_placed.Statement.{statement}
 use Rattle.circuit.proofs.operands_placed.Tie as tie
 
-placed-1-requires : tie.Need-placed-1-requires
-placed-1-requires c κs = search needs
-
 returns : tie.Need-returns
 returns c =
     let s = c .before .before .args in
     let e : 1 ≡ s .count = omega arith in
     c .placed-1 .ensures ∙ ap (λ (m : ℕ). placed (s .n) m (s .a) (s .b) (s .c)) e
 
-placed-2-requires : tie.Need-placed-2-requires
-placed-2-requires c κs = search needs
-
 returns-2 : tie.Need-returns-2
 returns-2 c =
     let s = c .before .before .before .args in
     let e : 2 ≡ s .count = omega arith in
     c .placed-2 .ensures ∙ ap (λ (m : ℕ). placed (s .n) m (s .a) (s .b) (s .c)) e
-
-placed-3-requires : tie.Need-placed-3-requires
-placed-3-requires c κs = search needs
 
 returns-3 : tie.Need-returns-3
 returns-3 c =
@@ -36,4 +27,4 @@ returns-3 c =
 
 pub operands-placed-spec : {M : Type 1} → statement M
 operands-placed-spec =
-    tie.close (tie.spec placed-1-requires returns placed-2-requires returns-2 placed-3-requires returns-3)
+    tie.close (tie.spec (λ c κs. search needs) returns (λ c κs. search needs) returns-2 (λ c κs. search needs) returns-3)

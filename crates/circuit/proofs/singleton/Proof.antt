@@ -9,11 +9,8 @@ use lib.Pow.{shl-exact}
 use Rattle.circuit.proofs.singleton.Statement.{statement}
 use Rattle.circuit.proofs.singleton.Tie as tie
 
-shl-result : tie.Need-shl-result
-shl-result c = search needs
-
 returns : tie.Need-returns
 returns c = shl-exact 1 (c .args .q) 32 (lit< tt) (omega arith) ∙ one-mul (2 ^ c .args .q)
 
 pub singleton-spec : {M : Type 1} → statement M
-singleton-spec = tie.close (tie.spec shl-result returns)
+singleton-spec = tie.close (tie.spec (λ c. search needs) returns)

@@ -14,15 +14,9 @@ returns : tie.Need-returns
 unfolding sorted
 returns c = sym (ap sorted (kind-past (c .before .args .kind) (c .if1 .taken)))
 
-mul-result : tie.Need-mul-result
-mul-result c = search needs
-
-array-read-result : tie.Need-array-read-result
-array-read-result c = search needs
-
 returns-2 : tie.Need-returns-2
 unfolding sorted kindAt
 returns-2 c = at (λ k. sorted (kindAt k)) (map sorted kinds) refl (c .before .args .kind) (omega arith)
 
 pub sorted-count-spec : {M : Type 1} → statement M
-sorted-count-spec = tie.close (tie.spec returns mul-result array-read-result returns-2)
+sorted-count-spec = tie.close (tie.spec returns (λ c. search needs) (λ c. search needs) returns-2)

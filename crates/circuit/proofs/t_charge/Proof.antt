@@ -18,12 +18,6 @@ Inv-loop codes sum₀ i₀ sum i = (i ≤ length codes) × (sum + charge (drop i
 abbrev μ-loop : tie.MeasureT-loop
 μ-loop codes sum₀ i₀ sum i = length codes - i
 
-loop-holds : tie.Need-loop-holds Inv-loop μ-loop
-loop-holds c = search needs
-
-mul-t6 : tie.Need-mul-t6 Inv-loop μ-loop
-mul-t6 c = search needs
-
 -- the sum with this gate's charge and that of what is left after it
 module _ (c : tie.After-t-charge Inv-loop μ-loop) where
   abbrev codes : List ℕ
@@ -56,8 +50,8 @@ t-charge-spec =
     (tie.spec
     Inv-loop
     μ-loop
-    loop-holds
-    mul-t6
+    (λ c. search needs)
+    (λ c. search needs)
     (λ c. search needs)
     (λ c κs. search needs)
     add-sum

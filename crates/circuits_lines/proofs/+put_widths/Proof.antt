@@ -28,7 +28,6 @@ abbrev put-widths-below : ℕ → In 3 put-widths-kinds.ps
 put-widths-below t =
     and 3 put-widths-kinds.ps (falls 3 put-widths-kinds.ps _<_ μ-put-widths t) put-widths.Pre
 
--- src/lib.rt:420:9
 put-widths-returns : (t : ℕ) → put-widths-lts.Need-returns (
   put-widths-below t,
   put-widths.Post,
@@ -42,7 +41,6 @@ put-widths-returns t c =
     let e = none ∙ ap (widthTexts (toldMurm (a .table)) (a .parents .now) (a .codes .now)) (sym (c .if1 .taken)) in
     (laid-none {at = a .at} {old = a .out .now} e (omega (arith, s .pre .1 .1 .1)) .put, omega arith)
 
--- src/lib.rt:422:43
 put-widths-sub-put-widths : (t : ℕ) → put-widths-lts.Need-sub-put-widths (
   put-widths-below t,
   put-widths.Post,
@@ -51,7 +49,6 @@ put-widths-sub-put-widths : (t : ℕ) → put-widths-lts.Need-sub-put-widths (
 ) (put-widths-at t) put-widths.Post
 put-widths-sub-put-widths t c = search needs
 
--- src/lib.rt:422:9
 put-widths-put-widths-requires : (t : ℕ) → put-widths-lts.Need-put-widths-requires (
   put-widths-below t,
   put-widths.Post,
@@ -66,7 +63,6 @@ put-widths-put-widths-requires t c κs =
       ((omega (arith, p .0 .0), p .0 .1), (p .1 .0, omega (arith, p .1 .1, room))),
     )
 
--- src/lib.rt:423:5
 put-widths-put-width-requires : (t : ℕ) → put-widths-lts.Need-put-width-requires (
   put-widths-below t,
   put-widths.Post,
@@ -81,7 +77,6 @@ put-widths-put-width-requires t c κs =
     let room = more-room (s .args .q) (33 * s .args .table .config .«max_entries_per_qubit» + 90) (omega (arith, left)) in
     ((omega (arith, left), p .0 .0, p .0 .1), (p .1 .0, omega (arith, p .1 .1, room, d .ensures .1, d .kept .0)))
 
--- src/lib.rt:405:1
 put-widths-same-length : (t : ℕ) → put-widths-lts.Need-same-length (
   put-widths-below t,
   put-widths.Post,
@@ -90,7 +85,6 @@ put-widths-same-length : (t : ℕ) → put-widths-lts.Need-same-length (
 ) (put-widths-at t) put-widths.Post
 put-widths-same-length t c = search needs
 
--- src/lib.rt:405:1
 put-widths-returns-2 : (t : ℕ) → put-widths-lts.Need-returns-2 (
   put-widths-below t,
   put-widths.Post,

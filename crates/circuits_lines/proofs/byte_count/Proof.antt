@@ -5,31 +5,24 @@ use Rattle.cyclotomic.proofs.Number.{past}
 use Rattle.circuits_lines.proofs.byte_count.Statement.{statement}
 use Rattle.circuits_lines.proofs.byte_count.Tie as tie
 
--- src/lib.rt:245:1
 returns : tie.Need-returns
 returns c = (rw (c .match .keys1), omega arith)
 
--- src/lib.rt:245:1
 returns-2 : tie.Need-returns-2
 returns-2 c = (rw (c .match .keys2), omega arith)
 
--- src/lib.rt:245:1
 returns-3 : tie.Need-returns-3
 returns-3 c = (rw (c .match .keys3), omega arith)
 
--- src/lib.rt:245:1
 returns-4 : tie.Need-returns-4
 returns-4 c = (rw (c .match .keys4), omega arith)
 
--- src/lib.rt:245:1
 returns-5 : tie.Need-returns-5
 returns-5 c = (rw (c .match .keys5), omega arith)
 
--- src/lib.rt:245:1
 returns-6 : tie.Need-returns-6
 returns-6 c = (rw (c .match .keys6), omega arith)
 
--- src/lib.rt:245:1
 returns-7 : tie.Need-returns-7
 returns-7 c = (rw (lt-ltb 5 (c .before .args .width) (past _ 6 (c .match .rest))), omega arith)
 

@@ -4,7 +4,6 @@ use Rattle.circuits_lines.specs.Program.{lentMost}
 use Rattle.circuits_lines.proofs.byte_space.Statement.{statement}
 use Rattle.circuits_lines.proofs.byte_space.Tie as tie
 
--- src/lib.rt:261:1
 returns : tie.Need-returns
 unfolding lentMost
 returns c = refl

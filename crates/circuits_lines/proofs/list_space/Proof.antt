@@ -4,7 +4,6 @@ use Rattle.circuits_lines.specs.Program.{lentList}
 use Rattle.circuits_lines.proofs.list_space.Statement.{statement}
 use Rattle.circuits_lines.proofs.list_space.Tie as tie
 
--- src/lib.rt:183:1
 returns : tie.Need-returns
 unfolding lentList
 returns c = refl

@@ -5,19 +5,6 @@ use borrow.Author.Needs.{needs}
 use Rattle.circuits_lines.proofs.put_code.Statement.{statement}
 use Rattle.circuits_lines.proofs.put_code.Tie as tie
 
--- src/lib.rt:118:9
-put-byte-requires : tie.Need-put-byte-requires
-put-byte-requires c κs = search needs
-
--- src/lib.rt:119:5
-put-decimal-requires : tie.Need-put-decimal-requires
-put-decimal-requires c κs = search needs
-
--- src/lib.rt:113:1
-same-length : tie.Need-same-length
-same-length c = search needs
-
--- src/lib.rt:113:1
 returns : tie.Need-returns
 returns c =
     let s = c .before .before .before .before .before .before .before .before .before in
@@ -26,4 +13,4 @@ returns c =
     (then-put b (d .0), omega (arith, decimal-short 9 (s .args .code) (omega (arith, s .fits .code)), b .after, d .0 .after))
 
 pub put-code-spec : {M : Type 1} → statement M
-put-code-spec = tie.close (tie.spec put-byte-requires put-decimal-requires same-length returns)
+put-code-spec = tie.close (tie.spec (λ c κs. search needs) (λ c κs. search needs) (λ c. search needs) returns)

@@ -17,31 +17,9 @@ Inv-loop out₀ at codes p₀ i₀ out p i = (i ≤ length codes) × (p ≤ at +
 abbrev μ-loop : tie.MeasureT-loop
 μ-loop out₀ at codes p₀ i₀ out p i = length codes - i
 
--- src/lib.rt:130:5
 loop-holds : tie.Need-loop-holds Inv-loop μ-loop
 loop-holds c = (omega arith, omega arith, laid-none codes-none (omega arith))
 
--- src/lib.rt:131:30
-mul-put-code : tie.Need-mul-put-code Inv-loop μ-loop
-mul-put-code c = search needs
-
--- src/lib.rt:131:30
-shared-slice-read-put-code : tie.Need-shared-slice-read-put-code Inv-loop μ-loop
-shared-slice-read-put-code c = search needs
-
--- src/lib.rt:131:9
-put-code-requires : tie.Need-put-code-requires Inv-loop μ-loop
-put-code-requires c κs = search needs
-
--- src/lib.rt:132:9
-add-i : tie.Need-add-i Inv-loop μ-loop
-add-i c = search needs
-
--- src/lib.rt:130:5
-loop-less : tie.Need-loop-less Inv-loop μ-loop
-loop-less c = search needs
-
--- src/lib.rt:130:5
 loop-again : tie.Need-loop-again Inv-loop μ-loop
 loop-again c =
     let l = c .before .before .before .before .before .before .loop in
@@ -52,11 +30,6 @@ loop-again c =
       laid-on (codes-more _ _ test) (l .inv .2) (d .ensures .0) (d .kept .0),
     )
 
--- src/lib.rt:123:1
-same-length : tie.Need-same-length Inv-loop μ-loop
-same-length c = search needs
-
--- src/lib.rt:123:1
 returns : tie.Need-returns Inv-loop μ-loop
 returns c =
     let l = c .before .loop in
@@ -69,11 +42,11 @@ put-codes-spec =
     Inv-loop
     μ-loop
     loop-holds
-    mul-put-code
-    shared-slice-read-put-code
-    put-code-requires
-    add-i
-    loop-less
+    (λ c. search needs)
+    (λ c. search needs)
+    (λ c κs. search needs)
+    (λ c. search needs)
+    (λ c. search needs)
     loop-again
-    same-length
+    (λ c. search needs)
     returns)

@@ -8,38 +8,22 @@ use borrow.Author.Needs.{needs}
 use Rattle.circuits_lines.proofs.put_first.Statement.{statement}
 use Rattle.circuits_lines.proofs.put_first.Tie as tie
 
--- src/lib.rt:158:36
 slice-aggregate-put-answer : tie.Need-slice-aggregate-put-answer
 slice-aggregate-put-answer c =
     let s = c .before .before .before .before .before .args in
     sym (length-take-le (s .m) (s .list .now) (c .before .before .if1 .taken))
 
--- src/lib.rt:158:9
 put-answer-requires : tie.Need-put-answer-requires
 put-answer-requires c κs =
     let s = c .before .before .before .before .before in
     omega (arith, length-take-le (s .args .m) (s .args .list .now) (c .before .before .if1 .taken), s .pre .0, s .pre .1, c .before .before .if1 .taken)
 
--- src/lib.rt:158:9
-same-length : tie.Need-same-length
-same-length c = search needs
-
--- src/lib.rt:158:9
 returns : tie.Need-returns
 returns c =
     let s = c .before .before .before .before .before .before .before .before in
     let d = c .before .before .put-answer .ensures in
     (d .0, omega (arith, d .1, length-take-le (s .args .m) (s .args .list .now) (c .before .before .before .before .before .if1 .taken), s .pre .1, c .before .before .before .before .before .if1 .taken))
 
--- src/lib.rt:160:5
-put-answer-requires-2 : tie.Need-put-answer-requires-2
-put-answer-requires-2 c κs = search needs
-
--- src/lib.rt:152:1
-same-length-2 : tie.Need-same-length-2
-same-length-2 c = search needs
-
--- src/lib.rt:152:1
 returns-2 : tie.Need-returns-2
 returns-2 c =
     let s = c .before .before .before .before .before .before .before in
@@ -52,8 +36,8 @@ put-first-spec =
     (tie.spec
     slice-aggregate-put-answer
     put-answer-requires
-    same-length
+    (λ c. search needs)
     returns
-    put-answer-requires-2
-    same-length-2
+    (λ c κs. search needs)
+    (λ c. search needs)
     returns-2)

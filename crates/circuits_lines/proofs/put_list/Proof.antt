@@ -12,33 +12,11 @@ use borrow.Author.Needs.{needs}
 use Rattle.circuits_lines.proofs.put_list.Statement.{statement}
 use Rattle.circuits_lines.proofs.put_list.Tie as tie
 
--- src/lib.rt:282:21
-byte-space-requires : tie.Need-byte-space-requires
-byte-space-requires c κs = search needs
-
--- src/lib.rt:283:9
-byte-count-requires : tie.Need-byte-count-requires
-byte-count-requires c κs = search needs
-
--- src/lib.rt:293:9
-array-borrow-prefix-bytes : tie.Need-array-borrow-prefix-bytes
-array-borrow-prefix-bytes c = search needs
-
--- src/lib.rt:293:9
 slice-aggregate-put-listed : tie.Need-slice-aggregate-put-listed
 slice-aggregate-put-listed c =
     let n = c .before .before .byte-count in
     lent-length (n .result) (c .before .before .before .byte-space .result) (n .ensures .1) (c .before .before .before .byte-space .ensures)
 
--- src/lib.rt:284:5
-put-listed-requires : tie.Need-put-listed-requires
-put-listed-requires c κs = search needs
-
--- src/lib.rt:268:1
-same-length : tie.Need-same-length
-same-length c = search needs
-
--- src/lib.rt:268:1
 returns : tie.Need-returns
 unfolding listText
 returns c =
@@ -54,10 +32,10 @@ pub put-list-spec : {M : Type 1} → statement M
 put-list-spec =
     tie.close
     (tie.spec
-    byte-space-requires
-    byte-count-requires
-    array-borrow-prefix-bytes
+    (λ c κs. search needs)
+    (λ c κs. search needs)
+    (λ c. search needs)
     slice-aggregate-put-listed
-    put-listed-requires
-    same-length
+    (λ c κs. search needs)
+    (λ c. search needs)
     returns)

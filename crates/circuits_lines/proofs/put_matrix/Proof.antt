@@ -6,31 +6,6 @@ use borrow.Author.Needs.{needs}
 use Rattle.circuits_lines.proofs.put_matrix.Statement.{statement}
 use Rattle.circuits_lines.proofs.put_matrix.Tie as tie
 
--- src/lib.rt:205:20
-list-space-requires : tie.Need-list-space-requires
-list-space-requires c κs = search needs
-
--- src/lib.rt:214:9
-slice-aggregate-synthesize : tie.Need-slice-aggregate-synthesize
-slice-aggregate-synthesize c = search needs
-
--- src/lib.rt:206:9
-synthesize-requires : tie.Need-synthesize-requires
-synthesize-requires c κs = search needs
-
--- src/lib.rt:216:32
-slice-aggregate-put-reply : tie.Need-slice-aggregate-put-reply
-slice-aggregate-put-reply c = search needs
-
--- src/lib.rt:216:5
-put-reply-requires : tie.Need-put-reply-requires
-put-reply-requires c κs = search needs
-
--- src/lib.rt:190:1
-same-length : tie.Need-same-length
-same-length c = search needs
-
--- src/lib.rt:190:1
 returns : tie.Need-returns
 returns c =
     let s = c .before .before .before .before .before .before .before .before .before .before .before .before .before .args in
@@ -44,10 +19,10 @@ pub put-matrix-spec : {M : Type 1} → statement M
 put-matrix-spec =
     tie.close
     (tie.spec
-    list-space-requires
-    slice-aggregate-synthesize
-    synthesize-requires
-    slice-aggregate-put-reply
-    put-reply-requires
-    same-length
+    (λ c κs. search needs)
+    (λ c. search needs)
+    (λ c κs. search needs)
+    (λ c. search needs)
+    (λ c κs. search needs)
+    (λ c. search needs)
     returns)

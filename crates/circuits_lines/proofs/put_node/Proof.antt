@@ -6,23 +6,6 @@ use borrow.Author.Needs.{needs}
 use Rattle.circuits_lines.proofs.put_node.Statement.{statement}
 use Rattle.circuits_lines.proofs.put_node.Tie as tie
 
--- src/lib.rt:85:9
-put-short-requires : tie.Need-put-short-requires
-put-short-requires c κs = search needs
-
--- src/lib.rt:86:9
-put-short-requires-2 : tie.Need-put-short-requires-2
-put-short-requires-2 c κs = search needs
-
--- src/lib.rt:87:5
-put-short-requires-3 : tie.Need-put-short-requires-3
-put-short-requires-3 c κs = search needs
-
--- src/lib.rt:80:1
-same-length : tie.Need-same-length
-same-length c = search needs
-
--- src/lib.rt:80:1
 returns : tie.Need-returns
 unfolding nodeLine
 returns c =
@@ -34,4 +17,4 @@ returns c =
 pub put-node-spec : {M : Type 1} → statement M
 put-node-spec =
     tie.close
-    (tie.spec put-short-requires put-short-requires-2 put-short-requires-3 same-length returns)
+    (tie.spec (λ c κs. search needs) (λ c κs. search needs) (λ c κs. search needs) (λ c. search needs) returns)

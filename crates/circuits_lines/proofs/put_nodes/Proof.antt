@@ -15,43 +15,9 @@ Inv-loop out₀ at parents codes count p₀ i₀ out p i = (i ≤ count) × (p �
 abbrev μ-loop : tie.MeasureT-loop
 μ-loop out₀ at parents codes count p₀ i₀ out p i = count - i
 
--- src/lib.rt:105:5
 loop-holds : tie.Need-loop-holds Inv-loop μ-loop
 loop-holds c = (omega arith, omega arith, laid-none (nodes-none _ _) (omega arith))
 
--- src/lib.rt:106:30
-cast-put-node : tie.Need-cast-put-node Inv-loop μ-loop
-cast-put-node c = search needs
-
--- src/lib.rt:106:40
-mul-put-node : tie.Need-mul-put-node Inv-loop μ-loop
-mul-put-node c = search needs
-
--- src/lib.rt:106:40
-shared-slice-read-put-node : tie.Need-shared-slice-read-put-node Inv-loop μ-loop
-shared-slice-read-put-node c = search needs
-
--- src/lib.rt:106:52
-mul-put-node-2 : tie.Need-mul-put-node-2 Inv-loop μ-loop
-mul-put-node-2 c = search needs
-
--- src/lib.rt:106:52
-shared-slice-read-put-node-2 : tie.Need-shared-slice-read-put-node-2 Inv-loop μ-loop
-shared-slice-read-put-node-2 c = search needs
-
--- src/lib.rt:106:9
-put-node-requires : tie.Need-put-node-requires Inv-loop μ-loop
-put-node-requires c κs = search needs
-
--- src/lib.rt:107:9
-add-i : tie.Need-add-i Inv-loop μ-loop
-add-i c = search needs
-
--- src/lib.rt:105:5
-loop-less : tie.Need-loop-less Inv-loop μ-loop
-loop-less c = search needs
-
--- src/lib.rt:105:5
 loop-again : tie.Need-loop-again Inv-loop μ-loop
 loop-again c =
     let l = c .before .before .before .before .before .before .before .loop in
@@ -61,11 +27,6 @@ loop-again c =
       laid-on (nodes-more _ _ (l .i)) (l .inv .2) (d .ensures .0) (d .kept .0),
     )
 
--- src/lib.rt:91:1
-same-length : tie.Need-same-length Inv-loop μ-loop
-same-length c = search needs
-
--- src/lib.rt:91:1
 returns : tie.Need-returns Inv-loop μ-loop
 returns c =
     let l = c .before .loop in
@@ -80,14 +41,14 @@ put-nodes-spec =
     Inv-loop
     μ-loop
     loop-holds
-    cast-put-node
-    mul-put-node
-    shared-slice-read-put-node
-    mul-put-node-2
-    shared-slice-read-put-node-2
-    put-node-requires
-    add-i
-    loop-less
+    (λ c. search needs)
+    (λ c. search needs)
+    (λ c. search needs)
+    (λ c. search needs)
+    (λ c. search needs)
+    (λ c κs. search needs)
+    (λ c. search needs)
+    (λ c. search needs)
     loop-again
-    same-length
+    (λ c. search needs)
     returns)

@@ -12,19 +12,6 @@ use borrow.Author.Needs.{needs}
 use Rattle.circuits_lines.proofs.put_query.Statement.{statement}
 use Rattle.circuits_lines.proofs.put_query.Tie as tie
 
--- src/lib.rt:327:9
-is-query-requires : tie.Need-is-query-requires
-is-query-requires c κs = search needs
-
--- src/lib.rt:328:9
-put-refused-requires : tie.Need-put-refused-requires
-put-refused-requires c κs = search needs
-
--- src/lib.rt:328:9
-same-length : tie.Need-same-length
-same-length c = search needs
-
--- src/lib.rt:328:9
 returns : tie.Need-returns
 returns c =
     let s = c .before .before .before .before .before .before .before .before .before .before .before .args in
@@ -36,31 +23,15 @@ returns c =
 two : (c : tie.After-shared-slice-known5) → 2 ≤ length (c .before .before .before .before .before .before .before .before .before .args .numbers .now)
 two c = two-numbers (c .before .before .before .before .before .before .before .before .before .args .numbers .now) (sym (c .before .before .before .is-query .ensures) ∙ not-false _ (c .before .before .if1 .left))
 
--- src/lib.rt:337:9
 shared-slice-read-put-list : tie.Need-shared-slice-read-put-list
 shared-slice-read-put-list c = omega (arith, two c)
 
--- src/lib.rt:338:9
 sub-put-list : tie.Need-sub-put-list
 sub-put-list c = two c
 
--- src/lib.rt:338:9
 part-put-list-start : tie.Need-part-put-list-start
 part-put-list-start c = two c
 
--- src/lib.rt:338:9
-part-put-list-end : tie.Need-part-put-list-end
-part-put-list-end c = search needs
-
--- src/lib.rt:330:5
-put-list-requires : tie.Need-put-list-requires
-put-list-requires c κs = search needs
-
--- src/lib.rt:314:1
-same-length-2 : tie.Need-same-length-2
-same-length-2 c = search needs
-
--- src/lib.rt:314:1
 returns-2 : tie.Need-returns-2
 returns-2 c =
     let s = c .before .before .before .before .before .before .before .before .before .before .before .before .before .args in
@@ -72,14 +43,14 @@ pub put-query-spec : {M : Type 1} → statement M
 put-query-spec =
     tie.close
     (tie.spec
-    is-query-requires
-    put-refused-requires
-    same-length
+    (λ c κs. search needs)
+    (λ c κs. search needs)
+    (λ c. search needs)
     returns
     shared-slice-read-put-list
     sub-put-list
     part-put-list-start
-    part-put-list-end
-    put-list-requires
-    same-length-2
+    (λ c. search needs)
+    (λ c κs. search needs)
+    (λ c. search needs)
     returns-2)

@@ -6,27 +6,6 @@ use borrow.Author.Needs.{needs}
 use Rattle.circuits_lines.proofs.put_refused.Statement.{statement}
 use Rattle.circuits_lines.proofs.put_refused.Tie as tie
 
--- src/lib.rt:35:51
-slice-aggregate-put-bytes : tie.Need-slice-aggregate-put-bytes
-slice-aggregate-put-bytes c = search needs
-
--- src/lib.rt:35:9
-put-bytes-requires : tie.Need-put-bytes-requires
-put-bytes-requires c κs = search needs
-
--- src/lib.rt:36:9
-put-number-requires : tie.Need-put-number-requires
-put-number-requires c κs = search needs
-
--- src/lib.rt:37:5
-put-number-requires-2 : tie.Need-put-number-requires-2
-put-number-requires-2 c κs = search needs
-
--- src/lib.rt:30:1
-same-length : tie.Need-same-length
-same-length c = search needs
-
--- src/lib.rt:30:1
 returns : tie.Need-returns
 unfolding refusedLine
 returns c =
@@ -39,9 +18,9 @@ pub put-refused-spec : {M : Type 1} → statement M
 put-refused-spec =
     tie.close
     (tie.spec
-    slice-aggregate-put-bytes
-    put-bytes-requires
-    put-number-requires
-    put-number-requires-2
-    same-length
+    (λ c. search needs)
+    (λ c κs. search needs)
+    (λ c κs. search needs)
+    (λ c κs. search needs)
+    (λ c. search needs)
     returns)

@@ -8,15 +8,6 @@ use borrow.Author.Needs.{needs}
 use Rattle.circuits_lines.proofs.put_short.Statement.{statement}
 use Rattle.circuits_lines.proofs.put_short.Tie as tie
 
--- src/lib.rt:26:5
-put-number-requires : tie.Need-put-number-requires
-put-number-requires c κs = search needs
-
--- src/lib.rt:21:1
-same-length : tie.Need-same-length
-same-length c = search needs
-
--- src/lib.rt:21:1
 returns : tie.Need-returns
 returns c =
     let s = c .before .before .before .before .before in
@@ -26,4 +17,4 @@ returns c =
     )
 
 pub put-short-spec : {M : Type 1} → statement M
-put-short-spec = tie.close (tie.spec put-number-requires same-length returns)
+put-short-spec = tie.close (tie.spec (λ c κs. search needs) (λ c. search needs) returns)

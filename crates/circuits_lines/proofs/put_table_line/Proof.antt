@@ -9,39 +9,6 @@ use borrow.Author.Needs.{needs}
 use Rattle.circuits_lines.proofs.put_table_line.Statement.{statement}
 use Rattle.circuits_lines.proofs.put_table_line.Tie as tie
 
--- src/lib.rt:72:51
-slice-aggregate-put-bytes : tie.Need-slice-aggregate-put-bytes
-slice-aggregate-put-bytes c = search needs
-
--- src/lib.rt:72:9
-put-bytes-requires : tie.Need-put-bytes-requires
-put-bytes-requires c κs = search needs
-
--- src/lib.rt:73:9
-put-number-requires : tie.Need-put-number-requires
-put-number-requires c κs = search needs
-
--- src/lib.rt:74:9
-put-number-requires-2 : tie.Need-put-number-requires-2
-put-number-requires-2 c κs = search needs
-
--- src/lib.rt:75:9
-put-number-requires-3 : tie.Need-put-number-requires-3
-put-number-requires-3 c κs = search needs
-
--- src/lib.rt:76:29
-digit-requires : tie.Need-digit-requires
-digit-requires c κs = search needs
-
--- src/lib.rt:76:5
-put-number-requires-4 : tie.Need-put-number-requires-4
-put-number-requires-4 c κs = search needs
-
--- src/lib.rt:60:1
-same-length : tie.Need-same-length
-same-length c = search needs
-
--- src/lib.rt:60:1
 returns : tie.Need-returns
 unfolding tableLine
 returns c =
@@ -59,12 +26,12 @@ pub put-table-line-spec : {M : Type 1} → statement M
 put-table-line-spec =
     tie.close
     (tie.spec
-    slice-aggregate-put-bytes
-    put-bytes-requires
-    put-number-requires
-    put-number-requires-2
-    put-number-requires-3
-    digit-requires
-    put-number-requires-4
-    same-length
+    (λ c. search needs)
+    (λ c κs. search needs)
+    (λ c κs. search needs)
+    (λ c κs. search needs)
+    (λ c κs. search needs)
+    (λ c κs. search needs)
+    (λ c κs. search needs)
+    (λ c. search needs)
     returns)

@@ -13,27 +13,16 @@ use Rattle.circuits_output.proofs.circuits.Tie as tie
 abbrev lent : tie.Start → Arrays
 lent c = arrays (c .args .prints .now) (c .args .parents .now) (c .args .codes .now)
 
--- src/lib.rt:179:20
-room-requires : tie.Need-room-requires
-room-requires c κs = search needs
-
--- src/lib.rt:180:9
 returns : tie.Need-returns
 returns c =
     let s = c .before .before .before .before .before .before .before in
     program-short (s .args .input .now) (lent s) (s .args .out .now) (omega (arith, c .if1 .taken, c .before .room .ensures))
 
--- src/lib.rt:183:30
 put-refused-requires : tie.Need-put-refused-requires
 put-refused-requires c κs =
     let s = c .before .before .before .before .before .before .before .before .before .args in
     omega (arith, some-room (length (s .parents .now)) (length (s .out .now)) (omega (arith, c .before .before .if1 .left, c .before .before .before .room .ensures)))
 
--- src/lib.rt:183:9
-same-length : tie.Need-same-length
-same-length c = search needs
-
--- src/lib.rt:183:9
 returns-2 : tie.Need-returns-2
 returns-2 c =
     let s = c .before .before .before .before .before .before .before .before .before .before .before .before in
@@ -41,21 +30,11 @@ returns-2 c =
     program-came input (lent s) (s .args .out .now) (omega (arith, c .before .before .before .before .before .if1 .left, c .before .before .before .before .before .before .room .ensures))
     (came-as (lent s) _ _ _ _ (input-long input (omega (arith, c .before .before .before .before .if2 .taken))) (c .before .before .put-refused .ensures .0, refl))
 
--- src/lib.rt:185:9
-find-requires : tie.Need-find-requires
-find-requires c κs = search needs
-
--- src/lib.rt:187:30
 put-refused-requires-2 : tie.Need-put-refused-requires-2
 put-refused-requires-2 c κs =
     let s = c .before .before .before .before .before .before .before .before .before .before .before .args in
     omega (arith, some-room (length (s .parents .now)) (length (s .out .now)) (omega (arith, c .before .before .before .before .if1 .left, c .before .before .before .before .before .room .ensures)))
 
--- src/lib.rt:187:9
-same-length-2 : tie.Need-same-length-2
-same-length-2 c = search needs
-
--- src/lib.rt:187:9
 returns-3 : tie.Need-returns-3
 returns-3 c =
     let s = c .before .before .before .before .before .before .before .before .before .before .before .before .before .before in
@@ -64,35 +43,12 @@ returns-3 c =
     (came-as (lent s) _ _ _ _ (input-cut input (omega (arith, c .before .before .before .before .before .before .if2 .left)) (omega (arith, c .before .before .before .before .if3 .taken, c .before .before .before .before .before .find .ensures .0)))
     (c .before .before .put-refused2 .ensures .0, refl))
 
--- src/lib.rt:189:39
 slice-aggregate-put-first-line : tie.Need-slice-aggregate-put-first-line
 slice-aggregate-put-first-line c = sym (length-take-le (c .before .before .before .find .result) (c .before .before .before .before .before .before .before .before .before .before .before .before .args .input .now) (search needs))
 
--- src/lib.rt:189:83
-add-put-first-line : tie.Need-add-put-first-line
-add-put-first-line c = search needs
-
--- src/lib.rt:189:19
 put-first-line-requires : tie.Need-put-first-line-requires
 put-first-line-requires c κs = (search needs, omega (arith, c .before .before .before .before .before .before .before .if2 .left), omega (arith, c .before .before .before .before .before .before .before .before .if1 .left, c .before .before .before .before .before .before .before .before .before .room .ensures))
 
--- src/lib.rt:170:1
-same-length-3 : tie.Need-same-length-3
-same-length-3 c = search needs
-
--- src/lib.rt:170:1
-same-length-4 : tie.Need-same-length-4
-same-length-4 c = search needs
-
--- src/lib.rt:170:1
-same-length-5 : tie.Need-same-length-5
-same-length-5 c = search needs
-
--- src/lib.rt:170:1
-same-length-6 : tie.Need-same-length-6
-same-length-6 c = search needs
-
--- src/lib.rt:170:1
 returns-4 : tie.Need-returns-4
 returns-4 c =
     let s = c .before .before .before .before .before .before .before .before .before .before .before .before .before .before .before .before .before .before .before .before .before .before .before .before in
@@ -106,20 +62,20 @@ pub circuits-spec : {M : Type 1} → statement M
 circuits-spec =
     tie.close
     (tie.spec
-    room-requires
+    (λ c κs. search needs)
     returns
     put-refused-requires
-    same-length
+    (λ c. search needs)
     returns-2
-    find-requires
+    (λ c κs. search needs)
     put-refused-requires-2
-    same-length-2
+    (λ c. search needs)
     returns-3
     slice-aggregate-put-first-line
-    add-put-first-line
+    (λ c. search needs)
     put-first-line-requires
-    same-length-3
-    same-length-4
-    same-length-5
-    same-length-6
+    (λ c. search needs)
+    (λ c. search needs)
+    (λ c. search needs)
+    (λ c. search needs)
     returns-4)

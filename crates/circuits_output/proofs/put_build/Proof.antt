@@ -14,11 +14,6 @@ use Rattle.circuits_output.proofs.put_build.Tie as tie
 abbrev lent : tie.Start → Arrays
 lent c = arrays (c .args .prints .now) (c .args .parents .now) (c .args .codes .now)
 
--- src/lib.rt:111:9
-build-requires : tie.Need-build-requires
-build-requires c κs = search needs
-
--- src/lib.rt:112:5
 put-building-requires : tie.Need-put-building-requires
 put-building-requires c κs =
     let s = c .before .before .before .before .before .before .before .before .before .before .before .before .before .before .before .before .before .before .before in
@@ -27,23 +22,6 @@ put-building-requires c κs =
       (s .pre .0, s .pre .1, subst (λ (n : ℕ). roomFor n ≤ length (s .args .out .now)) (sym (b .kept .1 .1 .0)) (s .pre .2)),
     )
 
--- src/lib.rt:98:1
-same-length : tie.Need-same-length
-same-length c = search needs
-
--- src/lib.rt:98:1
-same-length-2 : tie.Need-same-length-2
-same-length-2 c = search needs
-
--- src/lib.rt:98:1
-same-length-3 : tie.Need-same-length-3
-same-length-3 c = search needs
-
--- src/lib.rt:98:1
-same-length-4 : tie.Need-same-length-4
-same-length-4 c = search needs
-
--- src/lib.rt:98:1
 returns : tie.Need-returns
 returns c =
     let s = c .before .before .before .before .before .before .before .before .before .before .before .before .before .before .before .before .before .before .before .before .before .before in
@@ -54,10 +32,10 @@ pub put-build-spec : {M : Type 1} → statement M
 put-build-spec =
     tie.close
     (tie.spec
-    build-requires
+    (λ c κs. search needs)
     put-building-requires
-    same-length
-    same-length-2
-    same-length-3
-    same-length-4
+    (λ c. search needs)
+    (λ c. search needs)
+    (λ c. search needs)
+    (λ c. search needs)
     returns)

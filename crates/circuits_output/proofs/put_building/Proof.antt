@@ -10,99 +10,42 @@ use Rattle.circuits_output.proofs.put_building.Tie as tie
 abbrev m : tie.Start → Arrays
 m c = arrays (c .args .prints .now) (c .args .parents .now) (c .args .codes .now)
 
--- src/lib.rt:88:25
-enum-known-built : tie.Need-enum-known-built
-enum-known-built c = search needs
-
--- src/lib.rt:88:35
 put-table-requires : tie.Need-put-table-requires
 put-table-requires c κs = (ready-as (c .before .before .built .given .1) _ _ (c .before .before .before .before .before .before .before .before .before .pre .0), c .before .before .before .before .before .before .before .before .before .pre .1)
 
--- src/lib.rt:89:61
 enum-told : tie.Need-enum-told
 enum-told c = search needs
 
--- src/lib.rt:89:33
 put-refused-requires : tie.Need-put-refused-requires
 put-refused-requires c κs = omega (arith, some-room _ _ (c .before .before .before .before .before .before .before .before .pre .1 .2))
 
--- src/lib.rt:90:60
-enum-told-2 : tie.Need-enum-told-2
-enum-told-2 c = search needs
-
--- src/lib.rt:90:32
 put-refused-requires-2 : tie.Need-put-refused-requires-2
 put-refused-requires-2 c κs = omega (arith, some-room _ _ (c .before .before .before .before .before .before .before .before .pre .1 .2))
 
--- src/lib.rt:91:56
-enum-told-3 : tie.Need-enum-told-3
-enum-told-3 c = search needs
-
--- src/lib.rt:91:28
 put-refused-requires-3 : tie.Need-put-refused-requires-3
 put-refused-requires-3 c κs = omega (arith, some-room _ _ (c .before .before .before .before .before .before .before .before .pre .1 .2))
 
--- src/lib.rt:92:59
-enum-told-4 : tie.Need-enum-told-4
-enum-told-4 c = search needs
-
--- src/lib.rt:92:31
 put-refused-requires-4 : tie.Need-put-refused-requires-4
 put-refused-requires-4 c κs = omega (arith, some-room _ _ (c .before .before .before .before .before .before .before .before .pre .1 .2))
 
--- src/lib.rt:93:64
-enum-told-5 : tie.Need-enum-told-5
-enum-told-5 c = search needs
-
--- src/lib.rt:93:36
 put-refused-requires-5 : tie.Need-put-refused-requires-5
 put-refused-requires-5 c κs = omega (arith, some-room _ _ (c .before .before .before .before .before .before .before .before .pre .1 .2))
 
--- src/lib.rt:74:1
-same-length : tie.Need-same-length
-same-length c = search needs
-
--- src/lib.rt:74:1
 returns : tie.Need-returns
 returns c = building-as (c .before .before .before .before .before .built .given .1) (m (c .before .before .before .before .before .before .before .before .before .before .before .before)) _ (c .before .before .put-table .ensures)
 
--- src/lib.rt:74:1
-same-length-2 : tie.Need-same-length-2
-same-length-2 c = search needs
-
--- src/lib.rt:74:1
 returns-2 : tie.Need-returns-2
 returns-2 c = building-as (c .before .before .before .before .enum-told .given .1) (m (c .before .before .before .before .before .before .before .before .before .before .before)) _ (c .before .before .put-refused .ensures .0)
 
--- src/lib.rt:74:1
-same-length-3 : tie.Need-same-length-3
-same-length-3 c = search needs
-
--- src/lib.rt:74:1
 returns-3 : tie.Need-returns-3
 returns-3 c = building-as (c .before .before .before .before .enum-told2 .given .1) (m (c .before .before .before .before .before .before .before .before .before .before .before)) _ (c .before .before .put-refused2 .ensures .0)
 
--- src/lib.rt:74:1
-same-length-4 : tie.Need-same-length-4
-same-length-4 c = search needs
-
--- src/lib.rt:74:1
 returns-4 : tie.Need-returns-4
 returns-4 c = building-as (c .before .before .before .before .enum-told3 .given .1) (m (c .before .before .before .before .before .before .before .before .before .before .before)) _ (c .before .before .put-refused3 .ensures .0)
 
--- src/lib.rt:74:1
-same-length-5 : tie.Need-same-length-5
-same-length-5 c = search needs
-
--- src/lib.rt:74:1
 returns-5 : tie.Need-returns-5
 returns-5 c = building-as (c .before .before .before .before .enum-told4 .given .1) (m (c .before .before .before .before .before .before .before .before .before .before .before)) _ (c .before .before .put-refused4 .ensures .0)
 
--- src/lib.rt:74:1
-same-length-6 : tie.Need-same-length-6
-same-length-6 c = search needs
-
--- src/lib.rt:74:1
 returns-6 : tie.Need-returns-6
 returns-6 c = building-as (c .before .before .before .before .enum-told5 .given .1) (m (c .before .before .before .before .before .before .before .before .before .before .before)) _ (c .before .before .put-refused5 .ensures .0)
 
@@ -110,27 +53,27 @@ pub put-building-spec : {M : Type 1} → statement M
 put-building-spec =
     tie.close
     (tie.spec
-    enum-known-built
+    (λ c. search needs)
     put-table-requires
     enum-told
     put-refused-requires
-    enum-told-2
+    (λ c. search needs)
     put-refused-requires-2
-    enum-told-3
+    (λ c. search needs)
     put-refused-requires-3
-    enum-told-4
+    (λ c. search needs)
     put-refused-requires-4
-    enum-told-5
+    (λ c. search needs)
     put-refused-requires-5
-    same-length
+    (λ c. search needs)
     returns
-    same-length-2
+    (λ c. search needs)
     returns-2
-    same-length-3
+    (λ c. search needs)
     returns-3
-    same-length-4
+    (λ c. search needs)
     returns-4
-    same-length-5
+    (λ c. search needs)
     returns-5
-    same-length-6
+    (λ c. search needs)
     returns-6)

@@ -1,5 +1,5 @@
 -- `put_first_line` meets its contract: the line's numbers, or that it is broken, decide the text. Assumes nothing.
-use mathlib.Core.Path.{_≡_, refl, sym}
+use mathlib.Core.Path.{refl, sym}
 use mathlib.Core.List.{List}
 use native.Mathlib.Omega.{arith}
 use borrow.Author.Needs.{needs}
@@ -21,71 +21,28 @@ lent c = arrays (c .args .prints .now) (c .args .parents .now) (c .args .codes .
 abbrev ls : tie.Start → List InputLine
 ls c = linesOf (drop (c .args .from) (c .args .input .now))
 
--- src/lib.rt:151:23
-number-space-requires : tie.Need-number-space-requires
-number-space-requires c κs = search needs
-
--- src/lib.rt:152:40
-slice-aggregate-numbers : tie.Need-slice-aggregate-numbers
-slice-aggregate-numbers c = search needs
-
--- src/lib.rt:152:11
-numbers-requires : tie.Need-numbers-requires
-numbers-requires c κs = search needs
-
--- src/lib.rt:153:23
-enum-known-n : tie.Need-enum-known-n
-enum-known-n c = search needs
-
--- src/lib.rt:153:46
 array-share-prefix-numbers : tie.Need-array-share-prefix-numbers
 array-share-prefix-numbers c =
     let r = c .before .before .before .before .before .numbers2 in
     omega (arith, line-fits (r .ensures) (c .before .before .n .given .1), r .kept .1 .0)
 
--- src/lib.rt:153:46
 slice-aggregate-put-numbers : tie.Need-slice-aggregate-put-numbers
 slice-aggregate-put-numbers c = sym (length-take-le (c .before .before .before .n .given .0 .0) (c .before .before .before .before .before .before .numbers2 .last .1 .0) (array-share-prefix-numbers (c .before)))
 
--- src/lib.rt:153:29
 put-numbers-requires : tie.Need-put-numbers-requires
 put-numbers-requires c κs = c .before .before .before .before .before .before .before .before .before .before .before .before .before .before .before .before .before .before .pre
 
--- src/lib.rt:154:53
 enum-told : tie.Need-enum-told
 enum-told c = search needs
 
--- src/lib.rt:154:25
 put-refused-requires : tie.Need-put-refused-requires
 put-refused-requires c κs = omega (arith, some-room _ _ (c .before .before .before .before .before .before .before .before .before .before .before .before .before .pre .2))
 
--- src/lib.rt:138:1
-same-length : tie.Need-same-length
-same-length c = search needs
-
--- src/lib.rt:138:1
-same-length-2 : tie.Need-same-length-2
-same-length-2 c = search needs
-
--- src/lib.rt:138:1
-same-length-3 : tie.Need-same-length-3
-same-length-3 c = search needs
-
--- src/lib.rt:138:1
-same-length-4 : tie.Need-same-length-4
-same-length-4 c = search needs
-
--- src/lib.rt:138:1
 returns : tie.Need-returns
 returns c =
     let s = c .before .before .before .before .before .before .before .before .before .before .before .before .before .before .before .before .before .before .before .before .before .before .before .before .before .before .before in
     came-as (lent s) _ _ _ _ (read-numbers broken (firstNumbers (ls s)) (c .before .before .before .before .before .before .before .before .before .before .before .before .before .before .before .before .before .before .numbers2 .ensures) (c .before .before .before .before .before .before .before .before .before .before .before .before .before .before .before .n .given .1)) (c .before .before .before .before .before .before .before .before .put-numbers .ensures)
 
--- src/lib.rt:138:1
-same-length-5 : tie.Need-same-length-5
-same-length-5 c = search needs
-
--- src/lib.rt:138:1
 returns-2 : tie.Need-returns-2
 returns-2 c =
     let s = c .before .before .before .before .before .before .before .before .before .before .before .before .before .before .before .before in
@@ -98,19 +55,19 @@ pub put-first-line-spec : {M : Type 1} → statement M
 put-first-line-spec =
     tie.close
     (tie.spec
-    number-space-requires
-    slice-aggregate-numbers
-    numbers-requires
-    enum-known-n
+    (λ c κs. search needs)
+    (λ c. search needs)
+    (λ c κs. search needs)
+    (λ c. search needs)
     array-share-prefix-numbers
     slice-aggregate-put-numbers
     put-numbers-requires
     enum-told
     put-refused-requires
-    same-length
-    same-length-2
-    same-length-3
-    same-length-4
+    (λ c. search needs)
+    (λ c. search needs)
+    (λ c. search needs)
+    (λ c. search needs)
     returns
-    same-length-5
+    (λ c. search needs)
     returns-2)

@@ -15,54 +15,15 @@ Inv-loop out₀ at prints parents codes input from murm p₀ i₀ out p i = Aski
 abbrev μ-loop : tie.MeasureT-loop
 μ-loop out₀ at prints parents codes input from murm p₀ i₀ out p i = length input - i
 
--- src/lib.rt:43:5
 loop-holds : tie.Need-loop-holds Inv-loop μ-loop
 loop-holds c = (asking-none _ _ (search needs) (search needs), search needs, search needs)
 
--- src/lib.rt:44:13
-find-requires : tie.Need-find-requires Inv-loop μ-loop
-find-requires c κs = search needs
-
--- src/lib.rt:46:13
-put-refused-requires : tie.Need-put-refused-requires Inv-loop μ-loop
-put-refused-requires c κs = search needs
-
--- src/lib.rt:46:13
-same-length : tie.Need-same-length Inv-loop μ-loop
-same-length c = search needs
-
--- src/lib.rt:46:13
 returns : tie.Need-returns Inv-loop μ-loop
 returns c =
     let l = c .before .before .before .before .before .before .before .loop in
     let f = c .before .before .before .before .before .find .ensures in
     asking-cut (l .inv .0) _ (f .0) (search needs) (search needs) (c .before .before .put-refused .ensures .0)
 
--- src/lib.rt:48:82
-sub-put-query-line : tie.Need-sub-put-query-line Inv-loop μ-loop
-sub-put-query-line c = search needs
-
--- src/lib.rt:48:82
-part-put-query-line-start : tie.Need-part-put-query-line-start Inv-loop μ-loop
-part-put-query-line-start c = search needs
-
--- src/lib.rt:48:82
-part-put-query-line-end : tie.Need-part-put-query-line-end Inv-loop μ-loop
-part-put-query-line-end c = search needs
-
--- src/lib.rt:48:9
-put-query-line-requires : tie.Need-put-query-line-requires Inv-loop μ-loop
-put-query-line-requires c κs = search needs
-
--- src/lib.rt:49:13
-add-i : tie.Need-add-i Inv-loop μ-loop
-add-i c = search needs
-
--- src/lib.rt:43:5
-loop-less : tie.Need-loop-less Inv-loop μ-loop
-loop-less c = search needs
-
--- src/lib.rt:43:5
 loop-again : tie.Need-loop-again Inv-loop μ-loop
 loop-again c =
     let l = c .before .before .before .before .before .before .before .before .loop in
@@ -73,11 +34,6 @@ loop-again c =
       l .inv .2,
     )
 
--- src/lib.rt:27:1
-same-length-2 : tie.Need-same-length-2 Inv-loop μ-loop
-same-length-2 c = search needs
-
--- src/lib.rt:27:1
 returns-2 : tie.Need-returns-2 Inv-loop μ-loop
 returns-2 c = asking-done (c .before .loop .inv .0) (omega (arith, c .loop-test .left))
 
@@ -88,16 +44,16 @@ put-queries-spec =
     Inv-loop
     μ-loop
     loop-holds
-    find-requires
-    put-refused-requires
-    same-length
+    (λ c κs. search needs)
+    (λ c κs. search needs)
+    (λ c. search needs)
     returns
-    sub-put-query-line
-    part-put-query-line-start
-    part-put-query-line-end
-    put-query-line-requires
-    add-i
-    loop-less
+    (λ c. search needs)
+    (λ c. search needs)
+    (λ c. search needs)
+    (λ c κs. search needs)
+    (λ c. search needs)
+    (λ c. search needs)
     loop-again
-    same-length-2
+    (λ c. search needs)
     returns-2)

@@ -1,5 +1,4 @@
 -- `put_table` meets its contract: the widths, then the queries. Assumes nothing.
-use Prim.Native.Nat.{_≤_}
 use native.Mathlib.Omega.{arith}
 use borrow.Author.Needs.{needs}
 use Rattle.murm_config.specs.Told.{toldMurm}
@@ -8,7 +7,6 @@ use Rattle.circuits_output.proofs.Rooms.{table-room}
 use Rattle.circuits_output.proofs.put_table.Statement.{statement}
 use Rattle.circuits_output.proofs.put_table.Tie as tie
 
--- src/lib.rt:69:9
 put-widths-requires : tie.Need-put-widths-requires
 put-widths-requires c κs =
     let s = c .before .before .before .before .before .before in
@@ -16,7 +14,6 @@ put-widths-requires c κs =
     let room = table-room (toldMurm (s .args .table)) _ (p .0 .0) (p .0 .1) in
     ((omega arith, p .0 .0), ((p .0 .1, p .0 .2), omega (arith, room, p .1 .2)))
 
--- src/lib.rt:70:5
 put-queries-requires : tie.Need-put-queries-requires
 put-queries-requires c κs =
     let s = c .before .before .before .before .before .before .before .before .before .before in
@@ -25,13 +22,8 @@ put-queries-requires c κs =
     let room = table-room (toldMurm (s .args .table)) _ (p .0 .0) (p .0 .1) in
     (p .1 .0, omega (arith, room, p .1 .1, p .1 .2, d .ensures .1, d .kept .0))
 
--- src/lib.rt:55:1
-same-length : tie.Need-same-length
-same-length c = search needs
-
--- src/lib.rt:55:1
 returns : tie.Need-returns
 returns c = then-put (c .before .before .before .before .before .before .put-widths .ensures .0) (c .before .before .put-queries .ensures)
 
 pub put-table-spec : {M : Type 1} → statement M
-put-table-spec = tie.close (tie.spec put-widths-requires put-queries-requires same-length returns)
+put-table-spec = tie.close (tie.spec put-widths-requires put-queries-requires (λ c. search needs) returns)

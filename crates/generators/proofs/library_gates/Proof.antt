@@ -32,9 +32,6 @@ all-filled n basis at old new h f =
     let most = most-enough n basis h in
     (count, (f .written, (lists n basis (omega arith), omega arith)))
 
-bits-requires : tie.Need-bits-requires Inv-loop μ-loop
-bits-requires c κs = search needs
-
 loop-holds : tie.Need-loop-holds Inv-loop μ-loop
 loop-holds c = (omega arith, filled-none _ _ _)
 
@@ -43,12 +40,6 @@ push-firsts-requires c κs =
     let l = c .before .before in
     let s = l .before .before in
     (omega arith, omega arith, filled-room 12 most (l .loop .inv .1) (omega arith) (room (s .args .width) (l .before .bits .result) (s .pre)))
-
-add-kind : tie.Need-add-kind Inv-loop μ-loop
-add-kind c = search needs
-
-loop-less : tie.Need-loop-less Inv-loop μ-loop
-loop-less c = search needs
 
 loop-again : tie.Need-loop-again Inv-loop μ-loop
 loop-again c = (omega arith, filled-more (c .before .before .before .loop .inv .1) (c .push-firsts .ensures .0) (c .push-firsts .ensures .1))
@@ -63,4 +54,4 @@ returns c =
 pub library-gates-spec : {M : Type 1} → statement M
 library-gates-spec =
     tie.close
-    (tie.spec Inv-loop μ-loop bits-requires loop-holds push-firsts-requires add-kind loop-less loop-again returns)
+    (tie.spec Inv-loop μ-loop (λ c κs. search needs) loop-holds push-firsts-requires (λ c. search needs) (λ c. search needs) loop-again returns)

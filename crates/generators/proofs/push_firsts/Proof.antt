@@ -24,12 +24,6 @@ push-seconds-requires c κs =
     let t = c .before .loop-test .taken in
     (p .0, p .1, t, filled-room (l .before .args .n) most (l .loop .inv .1) t (p .2))
 
-add-a : tie.Need-add-a Inv-loop μ-loop
-add-a c = search needs
-
-loop-less : tie.Need-loop-less Inv-loop μ-loop
-loop-less c = search needs
-
 loop-again : tie.Need-loop-again Inv-loop μ-loop
 loop-again c = (omega arith, filled-more (c .before .before .before .loop .inv .1) (c .push-seconds .ensures .0) (c .push-seconds .ensures .1))
 
@@ -40,4 +34,4 @@ returns c =
 
 pub push-firsts-spec : {M : Type 1} → statement M
 push-firsts-spec =
-    tie.close (tie.spec Inv-loop μ-loop loop-holds push-seconds-requires add-a loop-less loop-again returns)
+    tie.close (tie.spec Inv-loop μ-loop loop-holds push-seconds-requires (λ c. search needs) (λ c. search needs) loop-again returns)

@@ -24,12 +24,6 @@ push-thirds-requires c κs =
     let t = c .before .loop-test .taken in
     (p .0, p .1, p .2, t, filled-room (l .before .args .n) most (l .loop .inv .1) t (p .3))
 
-add-b : tie.Need-add-b Inv-loop μ-loop
-add-b c = search needs
-
-loop-less : tie.Need-loop-less Inv-loop μ-loop
-loop-less c = search needs
-
 loop-again : tie.Need-loop-again Inv-loop μ-loop
 loop-again c = (omega arith, filled-more (c .before .before .before .loop .inv .1) (c .push-thirds .ensures .0) (c .push-thirds .ensures .1))
 
@@ -40,4 +34,4 @@ returns c =
 
 pub push-seconds-spec : {M : Type 1} → statement M
 push-seconds-spec =
-    tie.close (tie.spec Inv-loop μ-loop loop-holds push-thirds-requires add-b loop-less loop-again returns)
+    tie.close (tie.spec Inv-loop μ-loop loop-holds push-thirds-requires (λ c. search needs) (λ c. search needs) loop-again returns)

@@ -19,20 +19,11 @@ abbrev μ-loop : tie.MeasureT-loop
 loop-holds : tie.Need-loop-holds Inv-loop μ-loop
 loop-holds c = (omega arith, filled-none _ _ _)
 
-code-of-requires : tie.Need-code-of-requires Inv-loop μ-loop
-code-of-requires c κs = search needs
-
 push-valid-requires : tie.Need-push-valid-requires Inv-loop μ-loop
 push-valid-requires c κs =
     let l = c .before .before .before in
     rw (c .before .code-of .ensures)
     (filled-room (l .before .args .n) most (l .loop .inv .1) (c .before .before .loop-test .taken) (l .before .pre .4))
-
-add-c : tie.Need-add-c Inv-loop μ-loop
-add-c c = search needs
-
-loop-less : tie.Need-loop-less Inv-loop μ-loop
-loop-less c = search needs
 
 loop-again : tie.Need-loop-again Inv-loop μ-loop
 loop-again c =
@@ -52,9 +43,9 @@ push-thirds-spec =
     Inv-loop
     μ-loop
     loop-holds
-    code-of-requires
+    (λ c κs. search needs)
     push-valid-requires
-    add-c
-    loop-less
+    (λ c. search needs)
+    (λ c. search needs)
     loop-again
     returns)

@@ -14,9 +14,6 @@ use Rattle.generators.proofs.push_valid.Tie as tie
 is-valid : (c : tie.Else1) → validFor (c .before .before .args .n) (c .before .before .args .basis) (c .before .before .args .code) ≡ true
 is-valid c = sym (c .before .is-valid-for .ensures) ∙ not-false _ (c .if1 .left)
 
-is-valid-for-requires : tie.Need-is-valid-for-requires
-is-valid-for-requires c κs = search needs
-
 returns : tie.Need-returns
 unfolding kept
 returns c =
@@ -24,17 +21,11 @@ returns c =
     let e : validFor (s .n) (s .basis) (s .code) ≡ false = sym (c .before .is-valid-for .ensures) ∙ not-true _ (c .if1 .taken) in
     rw e (omega arith, refl)
 
-mul-gates : tie.Need-mul-gates
-mul-gates c = search needs
-
 element-write-gates : tie.Need-element-write-gates
 unfolding kept
 element-write-gates c =
     let h : c .before .before .args .count + 1 ≤ most = rw (is-valid c) at (c .before .before .pre) in
     omega arith
-
-add-result : tie.Need-add-result
-add-result c = search needs
 
 returns-2 : tie.Need-returns-2
 unfolding kept
@@ -43,4 +34,4 @@ returns-2 c = rw (is-valid c) (refl, refl)
 pub push-valid-spec : {M : Type 1} → statement M
 push-valid-spec =
     tie.close
-    (tie.spec is-valid-for-requires returns mul-gates element-write-gates add-result returns-2)
+    (tie.spec (λ c κs. search needs) returns (λ c. search needs) element-write-gates (λ c. search needs) returns-2)

@@ -15,9 +15,6 @@ Inv-loop m₀ n control t d r₀ m r = Swept n (lowRow (2 ^ t)) m₀ (exchangeRo
 abbrev μ-loop : tie.MeasureT-loop
 μ-loop m₀ n control t d r₀ m r = d - r
 
-dim-requires : tie.Need-dim-requires Inv-loop μ-loop
-dim-requires c κs = search needs
-
 loop-holds : tie.Need-loop-holds Inv-loop μ-loop
 loop-holds c = swept-none _ _ _ _ (c .before .pre .0)
 
@@ -25,12 +22,6 @@ exchange-row-requires : tie.Need-exchange-row-requires Inv-loop μ-loop
 exchange-row-requires c κs =
     let s = c .before .before .before .before in
     (c .before .before .loop .inv .long, (s .pre .1 .0, (s .pre .1 .1, omega (arith, c .before .before .before .dim .ensures))))
-
-add-r : tie.Need-add-r Inv-loop μ-loop
-add-r c = search needs
-
-loop-less : tie.Need-loop-less Inv-loop μ-loop
-loop-less c = search needs
 
 loop-again : tie.Need-loop-again Inv-loop μ-loop
 loop-again c =
@@ -49,10 +40,10 @@ apply-controlled-x-left-spec =
     (tie.spec
     Inv-loop
     μ-loop
-    dim-requires
+    (λ c κs. search needs)
     loop-holds
     exchange-row-requires
-    add-r
-    loop-less
+    (λ c. search needs)
+    (λ c. search needs)
     loop-again
     returns)

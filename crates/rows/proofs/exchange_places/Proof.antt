@@ -19,36 +19,6 @@ abbrev μ-loop : tie.MeasureT-loop
 loop-holds : tie.Need-loop-holds Inv-loop μ-loop
 loop-holds c = (search needs, exchanged-none _ _ _)
 
-add-x : tie.Need-add-x Inv-loop μ-loop
-add-x c = search needs
-
-element-copy-out-x : tie.Need-element-copy-out-x Inv-loop μ-loop
-element-copy-out-x c = search needs
-
-add-y : tie.Need-add-y Inv-loop μ-loop
-add-y c = search needs
-
-element-copy-out-y : tie.Need-element-copy-out-y Inv-loop μ-loop
-element-copy-out-y c = search needs
-
-add-y-2 : tie.Need-add-y-2 Inv-loop μ-loop
-add-y-2 c = search needs
-
-element-set-from-y : tie.Need-element-set-from-y Inv-loop μ-loop
-element-set-from-y c = search needs
-
-add-x-2 : tie.Need-add-x-2 Inv-loop μ-loop
-add-x-2 c = search needs
-
-element-set-from-x : tie.Need-element-set-from-x Inv-loop μ-loop
-element-set-from-x c = search needs
-
-add-i : tie.Need-add-i Inv-loop μ-loop
-add-i c = search needs
-
-loop-less : tie.Need-loop-less Inv-loop μ-loop
-loop-less c = search needs
-
 loop-again : tie.Need-loop-again Inv-loop μ-loop
 loop-again c =
     let s = c .before .before .before .before in
@@ -73,15 +43,15 @@ exchange-places-spec =
     Inv-loop
     μ-loop
     loop-holds
-    add-x
-    element-copy-out-x
-    add-y
-    element-copy-out-y
-    add-y-2
-    element-set-from-y
-    add-x-2
-    element-set-from-x
-    add-i
-    loop-less
+    (λ c. search needs)
+    (λ c. search needs)
+    (λ c. search needs)
+    (λ c. search needs)
+    (λ c. search needs)
+    (λ c. search needs)
+    (λ c. search needs)
+    (λ c. search needs)
+    (λ c. search needs)
+    (λ c. search needs)
     loop-again
     returns)

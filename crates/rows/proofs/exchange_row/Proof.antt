@@ -20,16 +20,10 @@ within c =
 returns : tie.Need-returns
 returns c = pair-off _ _ _ _ (c .before .pre .1 .1 .0) (c .if1 .taken)
 
-mask-requires : tie.Need-mask-requires
-mask-requires c κs = search needs
-
 returns-2 : tie.Need-returns-2
 returns-2 c =
     let e = c .before .mask .ensures in
     pair-none _ _ _ _ (rw e at (c .if2 .taken))
-
-dim-requires : tie.Need-dim-requires
-dim-requires c κs = search needs
 
 mul-exchange-places : tie.Need-mul-exchange-places
 mul-exchange-places c = omega (arith, within c)
@@ -61,9 +55,9 @@ exchange-row-spec =
     tie.close
     (tie.spec
     returns
-    mask-requires
+    (λ c κs. search needs)
     returns-2
-    dim-requires
+    (λ c κs. search needs)
     mul-exchange-places
     mul-exchange-places-2
     mul-exchange-places-3

@@ -11,12 +11,9 @@ use Rattle.circuit.proofs.GateSet.contains.Tie as tie
 returns : tie.Need-returns
 returns c = sym (high-bit (c .before .args .self .0) 32 (c .before .args .kind) (omega arith) (c .if1 .taken))
 
-shr-result : tie.Need-shr-result
-shr-result c = search needs
-
 returns-2 : tie.Need-returns-2
 unfolding bit
 returns-2 c = refl
 
 pub contains-spec : {M : Type 1} → statement M
-contains-spec = tie.close (tie.spec returns shr-result returns-2)
+contains-spec = tie.close (tie.spec returns (λ c. search needs) returns-2)

@@ -1,0 +1,243 @@
+-- Demand 3 of the program's lines, from demand 3 of the entries. Assumes nothing.
+use mathlib.Core.Path.{_≡_, refl, sym, ap, _∙_, subst}
+use mathlib.Core.Bool.{Bool, true, false}
+use mathlib.Core.Logic.{_⊎_, ⊎-elim}
+use mathlib.Core.List.{List, [], _∷_, _++_, append-assoc, append-nil}
+use Prim.Native.Nat.{ℕ, suc, _≤_, _<_}
+use native.Mathlib.Omega.{arith}
+use borrow.Author.Tests.{le-ltb, ltb-true, ltb-false, eq-eqb}
+use lib.Dec.{ltb}
+use lib.IntN.{ℤ, pos}
+use lib.ListN.{length, drop, length-replicate}
+use lib.Seq.{take-at}
+use Rattle.ints.specs.Lists.{pick, all, each}
+use Rattle.ints.proofs.Bools.{both-true}
+use Rattle.circuit.specs.Charge.{charge}
+use Rattle.circuit.specs.Codes.{kindNumber, valid, validFor}
+use Rattle.circuit.specs.Sets.{member}
+use Rattle.circuit.proofs.Charges.{charge-most}
+use Rattle.exact.specs.Matrix.{PowerOf}
+use Rattle.exact.specs.Paper.{paperProduct}
+use Rattle.exact.specs.Lists.{product}
+use Rattle.exact.specs.Fits.{Steps, allFit, unfitAt, steps}
+use Rattle.exact.specs.Answers.{Answer, given, bySteps, listAnswer}
+use Rattle.exact.specs.Answers as e
+use Rattle.exact.proofs.Acts.{power-of, power-sym, power-trans}
+use Rattle.exact.proofs.Papers.{paper-value}
+use Rattle.exact.proofs.Coded.{valid-below}
+use Rattle.places.specs.Places.{held}
+use Rattle.walk.specs.AtWidth.{ListOf}
+use Rattle.tables.specs.Checks.{Limits, Arrays, byteCount, queryRows}
+use Rattle.tables.specs.Tables.{Table, walkOf, widthAt, widthOf, table, Query, query, listRow, synthesized}
+use Rattle.tables.specs.Built.{Built}
+use Rattle.tables.specs.Demand3 as d
+use Rattle.tables.specs.Demand3.{Gives, Refuses, NotRefused, NoSmaller, Complete, Decided}
+use Rattle.tables.proofs.Demand3.{demand}
+use Rattle.tables.proofs.Accepted.{accepted}
+use Rattle.tables.proofs.Counts.{width-is}
+use Rattle.tables.proofs.Rows.{first-past, firstRow-append, numbered-query}
+use Rattle.tables.proofs.Refused.{never-refused}
+use Rattle.tables.specs.Checks.{firstRow}
+use Rattle.murm.specs.Entries.{Outcome, outcome, firstInvalid, formed, listed}
+use Rattle.murm.proofs.Demand2.{demand-2}
+use Rattle.murm.proofs.Queried.{accepted-allowed}
+use Rattle.circuits_text.specs.Reading.{space}
+use Rattle.circuits_text.specs.Writing.{decimal}
+use Rattle.circuits_text.specs.Allowed.{AllowedLine, alone, spaced}
+use Rattle.circuits_text.proofs.Accepts.{decimal-spelled}
+use Rattle.circuits_lines.specs.Lines.{spacedCodes, answerLine}
+use Rattle.circuits_lines.specs.Program.{answerText, lentList, matrixText, listedText, lentCount, lentBytes, listText}
+use Rattle.circuits_output.specs.Output.{inputText, outputWith, lentArrays, output}
+use Rattle.circuits_output.specs.ProgramDemand3.{SameUpToPower, Condition, ReadsAs, ListRefused, wide, not-valid, too-large}
+use Rattle.circuits_output.specs.ProgramDemand3.{LineMeans, a-list, no-list, refused, ProgramDemand3}
+use Rattle.circuits_output.proofs.Builds.{text-is}
+use Rattle.circuits_output.proofs.Accepts.{query-prints}
+
+-- ---- an answer's line is read as its list
+
+-- every number is at most 4294967295
+unfoldable AllSmall : List ℕ → Type 0
+AllSmall [] = true ≡ true
+AllSmall (n ∷ ns) = (n ≤ 4294967295) × AllSmall ns
+
+codes-small : (w basis : ℕ) (m : List ℕ) → ListOf w basis m → AllSmall m
+unfolding AllSmall all validFor
+codes-small w basis [] h = refl
+codes-small w basis (g ∷ gs) h =
+    let p = both-true (validFor w basis g) (all (validFor w basis) gs) h in
+    let v = both-true (member basis (kindNumber g)) (valid w g) (p .0) .1 in
+    (omega (arith, valid-below w g v), codes-small w basis gs (p .1))
+
+spaced-codes : (n : ℕ) (m : List ℕ) → n ≤ 4294967295 → AllSmall m → AllowedLine (n ∷ m) (decimal n ++ spacedCodes m)
+unfolding AllSmall spacedCodes each
+spaced-codes n [] h s = subst (λ (l : List ℕ). AllowedLine (n ∷ []) l) (sym (append-nil (decimal n))) (alone (decimal-spelled n h))
+spaced-codes n (g ∷ gs) h s =
+    spaced (decimal-spelled n h) (spaced-codes g gs (s .0) (s .1))
+
+module _ (w : ℕ) (l : Limits) (m : List ℕ) (of-basis : ListOf w (l .basis) m) (short : length m ≤ 64) where
+  answer-reads : ReadsAs m (answerLine m)
+  unfolding answerLine
+  answer-reads =
+      let count = decimal (length m) in
+      let rest = decimal (charge m) ++ spacedCodes m in
+      record {
+        line = count ++ (space ∷ rest);
+        says = spaced (decimal-spelled (length m) (omega (arith, short)))
+            (spaced-codes (charge m) m (omega (arith, short, charge-most m)) (codes-small w (l .basis) m of-basis));
+        is = ap (λ (z : List ℕ). z ++ (10 ∷ []))
+            (append-assoc (count ++ (space ∷ [])) (decimal (charge m)) (spacedCodes m) ∙ append-assoc count (space ∷ []) rest);
+      }
+
+-- ---- the list's own refusals
+
+bytes-count : (w : ℕ) → w ≤ 5 → length (lentBytes w) ≡ byteCount w
+unfolding lentBytes
+bytes-count w h = length-replicate {0} {A = ℤ} (lentCount w) (pos 0) ∙ rw (le-ltb 5 w h)
+
+all-valid : (w : ℕ) (l : List ℕ) → length l ≤ firstInvalid w l → all (valid w) l ≡ true
+unfolding all
+all-valid w [] h = refl
+all-valid w (g ∷ gs) h = by (valid w g) refl h (λ k. all-valid w gs k)
+  where
+    by : (b : Bool) → valid w g ≡ b → suc (length gs) ≤ pick b (suc (firstInvalid w gs)) 0
+        → (length gs ≤ firstInvalid w gs → all (valid w) gs ≡ true) → all (valid w) (g ∷ gs) ≡ true
+    by true e k rest = rw e (rest (omega arith))
+    by false e k rest = absurd (omega arith)
+
+-- what a refusal of a list says
+abbrev Own : ℕ → List ℕ → Answer → Type 0
+Own w asked (given k) = true ≡ true
+Own w asked (e.refused number position) = ListRefused w asked number position
+
+own : (w : ℕ) (asked : List ℕ) → Own w asked (listed w asked (lentBytes w) .answer)
+unfolding listed listAnswer
+own w asked = by-width (ltb 5 w) refl
+  where
+    by-steps : (s : Steps) → w ≤ 5 → length asked ≤ firstInvalid w asked → steps w asked ≡ s
+        → Own w asked (formed w asked (lentBytes w) (bySteps (product w asked .k) s) .answer)
+    by-steps allFit h v x = refl
+    by-steps (unfitAt i) h v x =
+        let a = all-valid w asked v in
+        too-large i h a (demand-2 w asked (lentBytes w) .too-large h (bytes-count w h) a i .0
+        (rw (le-ltb 5 w h, eq-eqb (length (lentBytes w)) (byteCount w) (bytes-count w h), le-ltb (firstInvalid w asked) (length asked) v, x)))
+
+    by-codes : (b : Bool) → ltb (firstInvalid w asked) (length asked) ≡ b → w ≤ 5
+        → Own w asked (pick b (outcome (e.refused 7 (firstInvalid w asked)) (lentBytes w)) (formed w asked (lentBytes w) (listAnswer w asked)) .answer)
+    by-codes true x h = not-valid h (ltb-true (firstInvalid w asked) (length asked) x)
+    by-codes false x h = by-steps (steps w asked) h (ltb-false (firstInvalid w asked) (length asked) x) refl
+
+    by-width : (b : Bool) → ltb 5 w ≡ b → Own w asked (listed w asked (lentBytes w) .answer)
+    by-width true x = rw x (wide (ltb-true 5 w x))
+    by-width false x =
+        let h = ltb-false 5 w x in
+        rw (x, eq-eqb (length (lentBytes w)) (byteCount w) (bytes-count w h)) (by-codes (ltb (firstInvalid w asked) (length asked)) refl h)
+
+-- ---- a list whose matrix is asked
+
+module _ (t : Table) (m : Arrays) (b : Built t m) (w : ℕ) (asked : List ℕ) (k : ℕ) (bytes : List ℤ)
+    (e : listed w asked (lentBytes w) ≡ outcome (given k) bytes) where
+  abbrev q : Query
+  q = query w k bytes
+
+  -- the matrix asked is the product of the list asked
+  asked-is : PowerOf w (paperProduct w asked) (held w k bytes)
+  asked-is = power-of w (demand-2 w asked (lentBytes w) .value k bytes e)
+
+  paper : (l : List ℕ) → PowerOf w (product w l) (paperProduct w l)
+  paper l = power-sym w (power-of w (paper-value w l))
+
+  to : (l : List ℕ) → PowerOf w (held w k bytes) (product w l) → PowerOf w (paperProduct w asked) (paperProduct w l)
+  to l p = power-trans w asked-is (power-trans w p (paper l))
+
+  from : (l : List ℕ) → SameUpToPower (t .limits) w asked l → d.Reaches t q l
+  from l r = record {
+    of-basis = r .of-basis;
+    power = power-trans w (power-sym w asked-is) (power-trans w (r .power) (power-sym w (paper l)));
+  }
+
+  -- the table does not refuse it
+  list-short : listRow t lentList .holds ≡ false
+  unfolding lentList
+  list-short =
+      le-ltb (length lentList) (t .limits .gates) (omega (arith, accepted (t .limits) (b .accepted) .gates, length-replicate {0} {A = ℕ} 64 0))
+
+  not-refused : NotRefused t m q lentList
+  unfolding firstRow
+  not-refused =
+      never-refused t m q lentList b
+      (firstRow-append (queryRows w k bytes) (listRow t lentList ∷ []) (numbered-query w k bytes) (accepted-allowed w asked (lentBytes w) k bytes e)
+      ∙ first-past (listRow t lentList) [] list-short)
+
+  complete : Condition (t .limits) w → Complete t m q
+  complete c =
+      ⊎-elim (λ p. demand .complete t m b (c .gates) q p) (λ p. demand .complete-rightly t m b (c .gates) q p) (c .prints)
+
+  -- its text
+  text : listText t m w asked ≡ answerText (synthesized t m q lentList)
+  unfolding listText matrixText
+  text = ap (λ (o : Outcome). listedText t m w (o .answer) (o .bytes)) e
+
+  given-text : (l : List ℕ) → Gives t m q lentList l → listText t m w asked ≡ answerLine l
+  given-text l g = text ∙ (ap answerText g ∙ ap answerLine (take-at l (drop (length l) lentList) (length l) refl))
+
+-- a larger table gives the same list
+module _ (t t′ : Table) (m m′ : Arrays) (b : Built t m) (b′ : Built t′ m′) (s : NoSmaller (t .limits) (t′ .limits)) where
+  larger-text : (w : ℕ) (asked : List ℕ) (k : ℕ) (bytes : List ℤ) → listed w asked (lentBytes w) ≡ outcome (given k) bytes → (l : List ℕ)
+      → Gives t m (query w k bytes) lentList l → listText t′ m′ w asked ≡ answerLine l
+  larger-text w asked k bytes e l g =
+      ⊎-elim
+      (λ (x : Gives t′ m′ (query w k bytes) lentList l). given-text t′ m′ b′ w asked k bytes e l x)
+      (λ (x : Refuses t′ m′ (query w k bytes) lentList 12). absurd (not-refused t′ m′ b′ w asked k bytes e 12 x))
+      (demand .larger t t′ m m′ b b′ s (query w k bytes) lentList lentList l g)
+
+module _ (t : Table) (m : Arrays) (b : Built t m) (w : ℕ) (asked : List ℕ) where
+  matrix-means : (k : ℕ) (bytes : List ℤ) → listed w asked (lentBytes w) ≡ outcome (given k) bytes → LineMeans (t .limits) w asked (listText t m w asked)
+  matrix-means k bytes e = by (demand .decided t m (query w k bytes) lentList)
+    where
+      by : Decided t m (query w k bytes) lentList → LineMeans (t .limits) w asked (listText t m w asked)
+      by (d.a-list l g) =
+          let r = demand .right t m (query w k bytes) lentList l g in
+          let x = given-text t m b w asked k bytes e l g in
+          a-list l x (subst (ReadsAs l) (sym x) (answer-reads w (t .limits) l (r .1) (omega (arith, r .2, accepted (t .limits) (b .accepted) .gates))))
+          (record { power = to t m b w asked k bytes e l (r .0); of-basis = r .1 }) (r .2)
+          (λ l′ lent m′ t′ s f. let z = demand .build-built l′ lent m′ t′ f in
+          larger-text t t′ m m′ b (z .0) (subst (NoSmaller (t .limits)) (sym (z .1)) s) w asked k bytes e l g ∙ sym x)
+          (λ c o z. complete t m b w asked k bytes e c .shortest lentList l g o (from t m b w asked k bytes e o z))
+      by (d.no-list g) =
+          no-list (text t m b w asked k bytes e ∙ ap answerText g)
+          (λ c p u s o z h. complete t m b w asked k bytes e c .none-exactly p u s lentList (not-refused t m b w asked k bytes e) .0 g o
+          (from t m b w asked k bytes e o z) h)
+      by (d.a-refusal r n) = absurd (not-refused t m b w asked k bytes e r n)
+
+  refused-means : (number position : ℕ) (bytes : List ℤ) → listed w asked (lentBytes w) ≡ outcome (e.refused number position) bytes
+      → LineMeans (t .limits) w asked (listText t m w asked)
+  unfolding listText
+  refused-means number position bytes x =
+      refused number position (ap (λ (o : Outcome). listedText t m w (o .answer) (o .bytes)) x)
+      (subst (Own w asked) (ap (λ (o : Outcome). o .answer) x) (own w asked))
+
+  line-means : LineMeans (t .limits) w asked (listText t m w asked)
+  line-means = by (listed w asked (lentBytes w) .answer) (listed w asked (lentBytes w) .bytes) refl
+    where
+      by : (a : Answer) (bytes : List ℤ) → listed w asked (lentBytes w) ≡ outcome a bytes → LineMeans (t .limits) w asked (listText t m w asked)
+      by (given k) bytes x = matrix-means k bytes x
+      by (e.refused number position) bytes x = refused-means number position bytes x
+
+-- ---- the whole
+
+row-is : (t : Table) (m : Arrays) → Built t m → (l : Limits) → t .limits ≡ l → (w : ℕ) → 0 < w → w ≤ l .qubits → widthAt t w ≡ widthOf (walkOf l w)
+row-is t m b l e w p u =
+    width-is t m b w p (subst (λ (k : Limits). w ≤ k .qubits) (sym e) u) ∙ ap (λ (k : Limits). widthOf (walkOf k w)) e
+
+pub program-demand-3 : ProgramDemand3
+unfolding output outputWith
+program-demand-3 = record {
+  printed = λ input l ls t m x y.
+      let z = demand .build-built l lentArrays m t y in
+      record {
+        whole = ap (inputText lentArrays) x ∙ sym (text-is l lentArrays ls (sym y));
+        rows = λ w p u. row-is t m (z .0) l (z .1) w p u;
+        prints = λ w asked line h. query-prints t m h;
+        means = λ w asked. subst (λ (k : Limits). LineMeans k w asked (listText t m w asked)) (z .1) (line-means t m (z .0) w asked);
+      };
+}

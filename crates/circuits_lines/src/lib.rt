@@ -236,7 +236,7 @@ fn put_listed(
 }
 
 // How many bytes a list's matrix takes; none for a width that is refused.
-pub fn byte_count(width: u32) -> usize
+pub fn lent_count(width: u32) -> usize
     ensures { λ r. ⌜ r ≡ lentCount width ⌝ }
     ensures { λ r. ⌜ r ≤ 4096 ⌝ }
 {
@@ -274,7 +274,7 @@ fn put_list(
     ensures { λ r. ⌜ r ≤ at + 746 ⌝ }
 {
     let mut bytes = byte_space();
-    let n = byte_count(width);
+    let n = lent_count(width);
     put_listed(
         out,
         at,

@@ -144,7 +144,7 @@ fn list(out: &mut [u8], at: usize, width: u32, codes: &[u32]) -> usize
     ensures { λ r. ⌜ r ≤ at + 49190 ⌝ }
 {
     let mut entries = entry_space();
-    let n = circuits_lines::byte_count(width);
+    let n = circuits_lines::lent_count(width);
     listed(out, at, width, codes, &mut entries[..n])
 }
 

@@ -14,7 +14,7 @@ use Rattle.circuits_lines.proofs.put_list.Tie as tie
 
 slice-aggregate-put-listed : tie.Need-slice-aggregate-put-listed
 slice-aggregate-put-listed c =
-    let n = c .before .before .byte-count in
+    let n = c .before .before .lent-count in
     lent-length (n .result) (c .before .before .before .byte-space .result) (n .ensures .1) (c .before .before .before .byte-space .ensures)
 
 returns : tie.Need-returns
@@ -22,7 +22,7 @@ unfolding listText
 returns c =
     let s = c .before .before .before .before .before .before .before .before .before .before .before .before .before .args in
     let d = c .before .before .before .put-listed .ensures in
-    let n = c .before .before .before .before .before .before .byte-count in
+    let n = c .before .before .before .before .before .before .lent-count in
     let e = lent-part (s .width) (n .result) (c .before .before .before .before .before .before .before .byte-space .result) (n .ensures .0) (n .ensures .1) (c .before .before .before .before .before .before .before .byte-space .ensures) in (
       put-as (ap (λ (bytes : List ℤ). outcomeText (toldMurm (s .table)) (arrays (s .prints .now) (s .parents .now) (s .codes .now)) (s .width) (listed (s .width) (s .gates .now) bytes)) e) (d .0),
       d .1,

@@ -7,12 +7,12 @@ use Rattle.inspect.proofs.list.Statement.{statement}
 use Rattle.inspect.proofs.list.Tie as tie
 
 slice-aggregate-listed : tie.Need-slice-aggregate-listed
-slice-aggregate-listed c = sym (length-take-le (c .before .before .byte-count .result) (c .before .before .before .entry-space .result) (omega arith))
+slice-aggregate-listed c = sym (length-take-le (c .before .before .lent-count .result) (c .before .before .before .entry-space .result) (omega arith))
 
 listed-requires : tie.Need-listed-requires
 listed-requires c κs = (
   search needs,
-  omega (arith, length-take-le (c .before .before .byte-count .result) (c .before .before .before .entry-space .result) (omega arith)),
+  omega (arith, length-take-le (c .before .before .lent-count .result) (c .before .before .before .entry-space .result) (omega arith)),
 )
 
 pub list-spec : {M : Type 1} → statement M

@@ -1,9 +1,9 @@
--- `byte_count` meets its contract: each width has its number. Assumes nothing.
+-- `lent_count` meets its contract: each width has its number. Assumes nothing.
 use native.Mathlib.Omega.{arith}
 use borrow.Author.Tests.{lt-ltb}
 use Rattle.cyclotomic.proofs.Number.{past}
-use Rattle.circuits_lines.proofs.byte_count.Statement.{statement}
-use Rattle.circuits_lines.proofs.byte_count.Tie as tie
+use Rattle.circuits_lines.proofs.lent_count.Statement.{statement}
+use Rattle.circuits_lines.proofs.lent_count.Tie as tie
 
 returns : tie.Need-returns
 returns c = (rw (c .match .keys1), omega arith)
@@ -26,6 +26,6 @@ returns-6 c = (rw (c .match .keys6), omega arith)
 returns-7 : tie.Need-returns-7
 returns-7 c = (rw (lt-ltb 5 (c .before .args .width) (past _ 6 (c .match .rest))), omega arith)
 
-pub byte-count-spec : {M : Type 1} → statement M
-byte-count-spec =
+pub lent-count-spec : {M : Type 1} → statement M
+lent-count-spec =
     tie.close (tie.spec returns returns-2 returns-3 returns-4 returns-5 returns-6 returns-7)

@@ -26,7 +26,8 @@ use Rattle.exact.proofs.Acts.{power-of, power-sym, power-trans}
 use Rattle.exact.proofs.Papers.{paper-value}
 use Rattle.exact.proofs.Coded.{valid-below}
 use Rattle.places.specs.Places.{held}
-use Rattle.walk.specs.AtWidth.{ListOf}
+use Rattle.walk.specs.AtWidth.{atWidth, ListOf}
+use Rattle.walk.proofs.Prefixes.{completed-unsaturated}
 use Rattle.tables.specs.Checks.{Limits, Arrays, byteCount, queryRows}
 use Rattle.tables.specs.Tables.{Table, walkOf, widthAt, widthOf, table, Query, query, listRow, synthesized}
 use Rattle.tables.specs.Built.{Built}
@@ -237,6 +238,7 @@ program-demand-3 = record {
       record {
         whole = ap (inputText lentArrays) x ∙ sym (text-is l lentArrays ls (sym y));
         rows = λ w p u. row-is t m (z .0) l (z .1) w p u;
+        again = λ w. completed-unsaturated (atWidth w (l .basis)) (l .gates) (l .entries);
         prints = λ w asked line h. query-prints t m h;
         means = λ w asked. subst (λ (k : Limits). LineMeans k w asked (listText t m w asked)) (z .1) (line-means t m (z .0) w asked);
       };

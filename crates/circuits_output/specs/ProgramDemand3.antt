@@ -13,7 +13,7 @@ use Rattle.exact.specs.Matrix.{PowerOf}
 use Rattle.exact.specs.Paper.{paperProduct}
 use Rattle.exact.specs.Fits.{FirstPast}
 use Rattle.walk.specs.AtWidth.{ListOf, NoSharedPrint, SkippedRightly}
-use Rattle.tables.specs.Checks.{Limits, Arrays}
+use Rattle.tables.specs.Checks.{Limits, limitsOf, Arrays}
 use Rattle.tables.specs.Tables.{Table, walkOf, widthAt, widthOf, table, left, buildOf}
 use Rattle.tables.specs.Demand3.{NoSmaller}
 use Rattle.murm.specs.Entries.{firstInvalid}
@@ -71,6 +71,8 @@ pub record OutputMeans (input : List ℕ) (l : Limits) (ls : List InputLine) (t 
   pub whole : output input ≡ tableText t (m .parents) (m .codes) ++ queryTexts t m ls
   -- count, depth and saturated of a `table` line are the walk's
   pub rows : (w : ℕ) → 0 < w → w ≤ l .qubits → widthAt t w ≡ widthOf (walkOf l w)
+  -- with its completed depth as the gate limit, and the other limits as they are, a width is not saturated
+  pub again : (w : ℕ) → walkOf (limitsOf (l .qubits) (walkOf l w .depth) (l .entries) (l .basis)) w .saturated ≡ false
   -- a query's line prints the text of its list, and this is what that means
   pub prints : (w : ℕ) (asked line : List ℕ) → QueryLine w asked line → readLine brokenText (ended line) (queryText t m) ≡ listText t m w asked
   pub means : (w : ℕ) (asked : List ℕ) → LineMeans l w asked (listText t m w asked)

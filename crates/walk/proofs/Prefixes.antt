@@ -4,7 +4,7 @@ use mathlib.Core.Path.{_≡_, refl, sym, ap, subst}
 use mathlib.Core.Logic.{_⊎_, inl, inr}
 use mathlib.Core.Bool.{Bool, true, false, _||_}
 use mathlib.Core.List.{List, [], _∷_}
-use Prim.Native.Nat.{ℕ, zero, suc, _-_, _≤_}
+use Prim.Native.Nat.{ℕ, zero, suc, _+_, _-_, _≤_}
 use native.Mathlib.Omega.{arith}
 use borrow.Author.Tests.{ltb-true, lt-ltb}
 use lib.Dec.{ltb}
@@ -16,7 +16,7 @@ use Rattle.walk.specs.Walk.{Rules, State, Build, skipped, child, try, tr
 use Rattle.walk.specs.Grown.{Prefix}
 use Rattle.walk.proofs.Sequences.{prefix-refl, prefix-snoc, prefix-trans}
 use Rattle.walk.proofs.Candidates.{grownBy, filled, try-later, layer-later, try-saturated}
-use Rattle.walk.proofs.Layers.{settled-nodes, deeper-nodes}
+use Rattle.walk.proofs.Layers.{settled-nodes, deeper-nodes, deeper-depth}
 
 -- the walk with the smaller limit has come just as far, or is saturated and its nodes are the first of the other's
 abbrev Ahead : State → State → Type 0
@@ -105,3 +105,34 @@ module _ (R : Rules) where
       both : (t : Bool) (r r′ : Build) → Prefix (r .nodes) (r′ .nodes) → Prefix ((pick t begin r) .nodes) ((pick t begin r′) .nodes)
       both true r r′ x = prefix-refl (begin .nodes)
       both false r r′ x = x
+
+  -- ---- the completed depth as the gate limit
+
+  -- as many depths more as were completed, and the width is not saturated
+  depths-completed : (E m : ℕ) (b : Build) → b .saturated ≡ false
+      → ((k : ℕ) × (b .depth + k ≡ depths R E b m .depth) × (depths R E b k .saturated ≡ false))
+  unfolding depths
+  depths-completed E zero b e = (0, omega arith, e)
+  depths-completed E (suc m) b e = by (ended b) (deeper R E b .saturated) refl refl (λ f. depths-completed E m (deeper R E b) f)
+    where
+      by : (x y : Bool) → ended b ≡ x → deeper R E b .saturated ≡ y
+          → (deeper R E b .saturated ≡ false
+          → ((k : ℕ) × (deeper R E b .depth + k ≡ depths R E (deeper R E b) m .depth) × (depths R E (deeper R E b) k .saturated ≡ false)))
+          → ((k : ℕ) × (b .depth + k ≡ pick x b (depths R E (deeper R E b) m) .depth) × (depths R E b k .saturated ≡ false))
+      by true y p q rest = (0, omega arith, e)
+      by false true p q rest =
+          let z = ap (λ (c : Build). c .depth) (depths-saturated E m (deeper R E b) q) in
+          (0, omega (arith, z, deeper-depth R E b .1 q), e)
+      by false false p q rest =
+          let (k, i, j) = rest q in
+          (suc k, omega (arith, i, deeper-depth R E b .0 q), rw p j)
+
+  -- a walk with its completed depth as the gate limit is not saturated
+  pub completed-unsaturated : (G E : ℕ) → walk R (walk R G E .depth) E .saturated ≡ false
+  unfolding walk depths
+  completed-unsaturated G E = by (isNil (R .generators)) (depths-completed E G begin refl)
+    where
+      by : (t : Bool) → (((k : ℕ) × (begin .depth + k ≡ depths R E begin G .depth) × (depths R E begin k .saturated ≡ false)))
+          → pick t begin (depths R E begin (pick t begin (depths R E begin G) .depth)) .saturated ≡ false
+      by true x = refl
+      by false (k, i, j) = let z : k ≡ depths R E begin G .depth = omega (arith, i) in rw (sym z) j

@@ -3,7 +3,7 @@ ghost use mathlib.Core.Path.{_≡_};
 ghost use Prim.Native.Nat.{_≤_};
 ghost use lib.ListN.{length};
 ghost use Rattle.circuits_text.specs.Writing.{Put};
-ghost use Rattle.circuits_output.specs.Output.{output, lentPlaces};
+ghost use Rattle.circuits_output.specs.Output.{output, lentPlaces, roomFor};
 use circuits_output::Printed;
 use libc::STDIN_FILENO;
 use libc::STDOUT_FILENO;
@@ -31,7 +31,7 @@ fn node_space() -> [u32; 2048]
 
 // The program's output for an input, in the first of the lent bytes: how many they are.
 fn answer(input: &[u8], out: &mut [u8]) -> usize
-    requires { ⌜ 3133584 ≤ length (now out) ⌝ }
+    requires { ⌜ roomFor 2048 ≤ length (now out) ⌝ }
     ensures { λ r. ⌜ Put 0 (output (now (input .entry))) r (now (out .entry)) (now (out .exit)) ⌝ }
 {
     let mut prints = print_space();
@@ -45,7 +45,7 @@ fn answer(input: &[u8], out: &mut [u8]) -> usize
 
 // The output is made and written.
 fn write_answer(input: &[u8], out: &mut [u8])
-    requires { ⌜ 3133584 ≤ length (now out) ⌝ }
+    requires { ⌜ roomFor 2048 ≤ length (now out) ⌝ }
 {
     let n = answer(input, out);
     io::write_all(STDOUT_FILENO, &out[..n]);

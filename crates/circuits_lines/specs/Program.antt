@@ -1,4 +1,4 @@
--- What a query and a table print. Document 01, "The program circuits". Assumes nothing.
+-- What a table and a query print. Document 01, "The program circuits". Assumes nothing.
 use mathlib.Core.Bool.{Bool, _&&_}
 use mathlib.Core.List.{List, [], _∷_, _++_}
 use Prim.Native.Nat.{ℕ, _+_}
@@ -41,6 +41,24 @@ readLine other (cut l) by = other
 -- "A line that breaks this prints `refused 14 0`"
 abbrev pub brokenText : List ℕ
 brokenText = refusedLine 14 0
+
+-- ---- the table
+
+-- "`table` width, entries, depth, saturated (0 or 1), then that width's nodes": by the row of the record and the width's places
+unfoldable pub rowText : ℕ → Width → List ℕ → List ℕ → List ℕ
+rowText w row parents codes = tableLine w (row .count) (row .depth) (row .saturated) ++ nodeLines parents codes (row .count)
+
+-- a width of a table
+unfoldable pub widthText : Table → List ℕ → List ℕ → ℕ → List ℕ
+widthText t parents codes w = rowText w (widthAt t w) (partOf w (t .limits .entries) parents) (partOf w (t .limits .entries) codes)
+
+-- "For each width rising it prints ..": widths 1 to q
+unfoldable pub widthTexts : Table → List ℕ → List ℕ → ℕ → List ℕ
+widthTexts t parents codes q = each (range 1 q) (widthText t parents codes)
+
+-- all widths
+abbrev pub tableText : Table → List ℕ → List ℕ → List ℕ
+tableText t parents codes = widthTexts t parents codes (t .limits .qubits)
 
 -- ---- a query
 
@@ -95,21 +113,3 @@ queryText t m ns = pick (isQuery ns) (listText t m (getD ns 0 0) (drop 2 ns)) br
 unfoldable pub queryTexts : Table → Arrays → List InputLine → List ℕ
 queryTexts t m [] = []
 queryTexts t m (l ∷ ls) = readLine brokenText l (queryText t m) ++ queryTexts t m ls
-
--- ---- the table
-
--- "`table` width, entries, depth, saturated (0 or 1), then that width's nodes": by the row of the record and the width's places
-unfoldable pub rowText : ℕ → Width → List ℕ → List ℕ → List ℕ
-rowText w row parents codes = tableLine w (row .count) (row .depth) (row .saturated) ++ nodeLines parents codes (row .count)
-
--- a width of a table
-unfoldable pub widthText : Table → List ℕ → List ℕ → ℕ → List ℕ
-widthText t parents codes w = rowText w (widthAt t w) (partOf w (t .limits .entries) parents) (partOf w (t .limits .entries) codes)
-
--- "For each width rising it prints ..": widths 1 to q
-unfoldable pub widthTexts : Table → List ℕ → List ℕ → ℕ → List ℕ
-widthTexts t parents codes q = each (range 1 q) (widthText t parents codes)
-
--- all widths
-abbrev pub tableText : Table → List ℕ → List ℕ → List ℕ
-tableText t parents codes = widthTexts t parents codes (t .limits .qubits)

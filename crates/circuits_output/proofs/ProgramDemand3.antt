@@ -2,15 +2,15 @@
 use mathlib.Core.Path.{_≡_, refl, sym, ap, _∙_, subst}
 use mathlib.Core.Bool.{Bool, true, false}
 use mathlib.Core.Logic.{_⊎_, ⊎-elim}
-use mathlib.Core.List.{List, [], _∷_, _++_, append-assoc, append-nil}
-use Prim.Native.Nat.{ℕ, suc, _≤_, _<_}
+use mathlib.Core.List.{List, [], _∷_, _++_, map, append-assoc, append-nil}
+use Prim.Native.Nat.{ℕ, zero, suc, _+_, _-_, _*_, _≤_, _<_}
 use native.Mathlib.Omega.{arith}
 use borrow.Author.Tests.{le-ltb, ltb-true, ltb-false, eq-eqb}
 use lib.Dec.{ltb}
 use lib.IntN.{ℤ, pos}
-use lib.ListN.{length, drop, length-replicate}
-use lib.Seq.{take-at}
-use Rattle.ints.specs.Lists.{pick, all, each}
+use lib.ListN.{length, getD, drop, length-replicate}
+use lib.Seq.{take-at, getD-take, getD-drop}
+use Rattle.ints.specs.Lists.{pick, all, range, each}
 use Rattle.ints.proofs.Bools.{both-true}
 use Rattle.circuit.specs.Charge.{charge}
 use Rattle.circuit.specs.Codes.{kindNumber, valid, validFor}
@@ -26,51 +26,56 @@ use Rattle.exact.proofs.Acts.{power-of, power-sym, power-trans}
 use Rattle.exact.proofs.Papers.{paper-value}
 use Rattle.exact.proofs.Coded.{valid-below}
 use Rattle.places.specs.Places.{held}
+use Rattle.walk.specs.Walk.{gate}
 use Rattle.walk.specs.AtWidth.{atWidth, ListOf}
+use Rattle.width_table.specs.Table.{parentOf}
+use Rattle.width_table.proofs.Columns.{map-at}
 use Rattle.walk.proofs.Prefixes.{completed-unsaturated}
 use Rattle.tables.specs.Checks.{Limits, Arrays, byteCount, queryRows}
-use Rattle.tables.specs.Tables.{Table, walkOf, widthAt, widthOf, table, Query, query, listRow, synthesized}
+use Rattle.tables.specs.Tables.{Table, walkOf, widthAt, widthOf, parentsOf, codesOf, partOf, table, Query, query, listRow, synthesized}
 use Rattle.tables.specs.Built.{Built}
 use Rattle.tables.specs.Demand3 as d
 use Rattle.tables.specs.Demand3.{Gives, Refuses, NotRefused, NoSmaller, Complete, Decided}
 use Rattle.tables.proofs.Demand3.{demand}
 use Rattle.tables.proofs.Accepted.{accepted}
 use Rattle.tables.proofs.Counts.{width-is}
+use Rattle.tables.proofs.FromBuild.{walk-count}
 use Rattle.tables.proofs.Rows.{first-past, firstRow-append, numbered-query}
 use Rattle.tables.proofs.Refused.{never-refused}
 use Rattle.tables.specs.Checks.{firstRow}
 use Rattle.murm.specs.Entries.{Outcome, outcome, firstInvalid, formed, listed}
+use Rattle.murm.proofs.Checks.{all-valid}
 use Rattle.murm.proofs.Demand2.{demand-2}
 use Rattle.murm.proofs.Queried.{accepted-allowed}
 use Rattle.circuits_text.specs.Reading.{space}
 use Rattle.circuits_text.specs.Writing.{decimal}
 use Rattle.circuits_text.specs.Allowed.{AllowedLine, alone, spaced}
 use Rattle.circuits_text.proofs.Accepts.{decimal-spelled}
-use Rattle.circuits_lines.specs.Lines.{spacedCodes, answerLine}
-use Rattle.circuits_lines.specs.Program.{answerText, lentList, matrixText, listedText, lentCount, lentBytes, listText}
+use Rattle.circuits_lines.specs.Lines.{tableLine, nodeLine, nodeLines, spacedCodes, answerLine}
+use Rattle.circuits_lines.specs.Program.{answerText, lentList, matrixText, listedText, lentCount, lentBytes, listText, queryTexts, rowText, widthText, widthTexts, tableText}
 use Rattle.circuits_output.specs.Output.{inputText, outputWith, lentArrays, output}
 use Rattle.circuits_output.specs.ProgramDemand3.{SameUpToPower, Condition, ReadsAs, ListRefused, wide, not-valid, too-large}
-use Rattle.circuits_output.specs.ProgramDemand3.{LineMeans, a-list, no-list, refused, ProgramDemand3}
+use Rattle.circuits_output.specs.ProgramDemand3.{LineMeans, a-list, no-list, refused, walkText, ProgramDemand3}
 use Rattle.circuits_output.proofs.Builds.{text-is}
 use Rattle.circuits_output.proofs.Accepts.{query-prints}
 
 -- ---- an answer's line is read as its list
 
 -- every number is at most 4294967295
-unfoldable AllSmall : List ℕ → Type 0
-AllSmall [] = true ≡ true
-AllSmall (n ∷ ns) = (n ≤ 4294967295) × AllSmall ns
+unfoldable InWord : List ℕ → Type 0
+InWord [] = true ≡ true
+InWord (n ∷ ns) = (n ≤ 4294967295) × InWord ns
 
-codes-small : (w basis : ℕ) (m : List ℕ) → ListOf w basis m → AllSmall m
-unfolding AllSmall all validFor
+codes-small : (w basis : ℕ) (m : List ℕ) → ListOf w basis m → InWord m
+unfolding InWord all validFor
 codes-small w basis [] h = refl
 codes-small w basis (g ∷ gs) h =
     let p = both-true (validFor w basis g) (all (validFor w basis) gs) h in
     let v = both-true (member basis (kindNumber g)) (valid w g) (p .0) .1 in
     (omega (arith, valid-below w g v), codes-small w basis gs (p .1))
 
-spaced-codes : (n : ℕ) (m : List ℕ) → n ≤ 4294967295 → AllSmall m → AllowedLine (n ∷ m) (decimal n ++ spacedCodes m)
-unfolding AllSmall spacedCodes each
+spaced-codes : (n : ℕ) (m : List ℕ) → n ≤ 4294967295 → InWord m → AllowedLine (n ∷ m) (decimal n ++ spacedCodes m)
+unfolding InWord spacedCodes each
 spaced-codes n [] h s = subst (λ (l : List ℕ). AllowedLine (n ∷ []) l) (sym (append-nil (decimal n))) (alone (decimal-spelled n h))
 spaced-codes n (g ∷ gs) h s =
     spaced (decimal-spelled n h) (spaced-codes g gs (s .0) (s .1))
@@ -94,16 +99,6 @@ module _ (w : ℕ) (l : Limits) (m : List ℕ) (of-basis : ListOf w (l .basis) m
 bytes-count : (w : ℕ) → w ≤ 5 → length (lentBytes w) ≡ byteCount w
 unfolding lentBytes
 bytes-count w h = length-replicate {0} {A = ℤ} (lentCount w) (pos 0) ∙ rw (le-ltb 5 w h)
-
-all-valid : (w : ℕ) (l : List ℕ) → length l ≤ firstInvalid w l → all (valid w) l ≡ true
-unfolding all
-all-valid w [] h = refl
-all-valid w (g ∷ gs) h = by (valid w g) refl h (λ k. all-valid w gs k)
-  where
-    by : (b : Bool) → valid w g ≡ b → suc (length gs) ≤ pick b (suc (firstInvalid w gs)) 0
-        → (length gs ≤ firstInvalid w gs → all (valid w) gs ≡ true) → all (valid w) (g ∷ gs) ≡ true
-    by true e k rest = rw e (rest (omega arith))
-    by false e k rest = absurd (omega arith)
 
 -- what a refusal of a list says
 abbrev Own : ℕ → List ℕ → Answer → Type 0
@@ -224,6 +219,43 @@ module _ (t : Table) (m : Arrays) (b : Built t m) (w : ℕ) (asked : List ℕ) w
       by (given k) bytes x = matrix-means k bytes x
       by (e.refused number position) bytes x = refused-means number position bytes x
 
+-- ---- a table's text: the nodes of the walk
+
+each-same : (i count : ℕ) (f g : ℕ → List ℕ) → ((j : ℕ) → i ≤ j → j < i + count → f j ≡ g j) → each (range i count) f ≡ each (range i count) g
+unfolding each range
+each-same i zero f g h = refl
+each-same i (suc count) f g h =
+    ap (λ (l : List ℕ). l ++ each (range (suc i) count) f) (h i (omega arith) (omega arith))
+    ∙ ap (λ (l : List ℕ). g i ++ l) (each-same (suc i) count f g (λ j p q. h j (omega arith) (omega arith)))
+
+module _ (t : Table) (m : Arrays) (b : Built t m) (w : ℕ) (p : 0 < w) (u : w ≤ t .limits .qubits) where
+  -- place j of a width's part is place (w - 1) × E + j of the array
+  part-at : (xs : List ℕ) (j : ℕ) → j < t .limits .entries → getD (partOf w (t .limits .entries) xs) j 0 ≡ getD xs ((w - 1) * t .limits .entries + j) 0
+  part-at xs j h =
+      getD-take (t .limits .entries) (drop ((w - 1) * t .limits .entries) xs) j 0 h ∙ getD-drop ((w - 1) * t .limits .entries) xs j 0
+
+  nodes-are : nodeLines (partOf w (t .limits .entries) (m .parents)) (partOf w (t .limits .entries) (m .codes)) (length (walkOf (t .limits) w .nodes))
+      ≡ nodeLines (parentsOf (t .limits) w) (codesOf (t .limits) w) (length (walkOf (t .limits) w .nodes))
+  unfolding nodeLines parentsOf codesOf
+  nodes-are =
+      each-same 0 (length (walkOf (t .limits) w .nodes)) _ _
+      (λ j _ h. let few = walk-count (t .limits) w (accepted (t .limits) (b .accepted) .some) .1 in
+      let n = b .nodes w p u j (omega (arith, h)) in
+      let ns = walkOf (t .limits) w .nodes in
+      let x : getD (partOf w (t .limits .entries) (m .parents)) j 0 ≡ getD (map parentOf ns) j 0 =
+      part-at (m .parents) j (omega (arith, h, few)) ∙ (n .parent ∙ sym (map-at parentOf ns j (omega (arith, h)))) in
+      let y : getD (partOf w (t .limits .entries) (m .codes)) j 0 ≡ getD (map gate ns) j 0 =
+      part-at (m .codes) j (omega (arith, h, few)) ∙ (n .code ∙ sym (map-at gate ns j (omega (arith, h)))) in
+      ap (λ (v : ℕ). nodeLine j v (getD (partOf w (t .limits .entries) (m .codes)) j 0)) x ∙ ap (λ (v : ℕ). nodeLine j (getD (map parentOf ns) j 0) v) y)
+
+  width-text : widthText t (m .parents) (m .codes) w ≡ walkText (t .limits) w
+  unfolding widthText rowText walkText
+  width-text = rw (width-is t m b w p u) (ap (λ (l : List ℕ). tableLine w (length (walkOf (t .limits) w .nodes)) (walkOf (t .limits) w .depth) (walkOf (t .limits) w .saturated) ++ l) nodes-are)
+
+table-text : (t : Table) (m : Arrays) → Built t m → tableText t (m .parents) (m .codes) ≡ each (range 1 (t .limits .qubits)) (walkText (t .limits))
+unfolding widthTexts
+table-text t m b = each-same 1 (t .limits .qubits) _ _ (λ w p u. width-text t m b w (omega (arith, p)) (omega (arith, u)))
+
 -- ---- the whole
 
 row-is : (t : Table) (m : Arrays) → Built t m → (l : Limits) → t .limits ≡ l → (w : ℕ) → 0 < w → w ≤ l .qubits → widthAt t w ≡ widthOf (walkOf l w)
@@ -236,7 +268,9 @@ program-demand-3 = record {
   printed = λ input l ls t m x y.
       let z = demand .build-built l lentArrays m t y in
       record {
-        whole = ap (inputText lentArrays) x ∙ sym (text-is l lentArrays ls (sym y));
+        whole =
+            ap (inputText lentArrays) x ∙ (sym (text-is l lentArrays ls (sym y))
+            ∙ ap (λ (u : List ℕ). u ++ queryTexts t m ls) (table-text t m (z .0) ∙ ap (λ (k : Limits). each (range 1 (k .qubits)) (walkText k)) (z .1)));
         rows = λ w p u. row-is t m (z .0) l (z .1) w p u;
         again = λ w. completed-unsaturated (atWidth w (l .basis)) (l .gates) (l .entries);
         prints = λ w asked line h. query-prints t m h;

@@ -1,6 +1,6 @@
 -- With three arrays of 2,048 zeros lent, the text is the program's output. Assumes nothing.
 use mathlib.Core.List.{List, _++_}
-use mathlib.Core.Path.{_≡_, refl, sym, ap, _∙_}
+use mathlib.Core.Path.{_≡_, refl, sym, ap, _∙_, subst}
 use Prim.Native.Nat.{ℕ, _+_, _≤_}
 use native.Mathlib.Omega.{arith}
 use borrow.Author.Tests.{le-ltb}
@@ -16,9 +16,10 @@ pub places-count : {l : List ℕ} → l ≡ lentPlaces → 2048 ≡ length l
 unfolding lentPlaces
 places-count e = sym (ap length e ∙ length-replicate {0} {A = ℕ} 2048 0)
 
-pub places-room : roomFor (length lentPlaces) ≡ 3133584
+-- the program lends this many bytes
+pub room-is : roomFor 2048 ≡ 3133584
 unfolding roomFor
-places-room = let n = places-count refl in omega (arith, n)
+room-is = refl
 
 pub zeros-are : {f u c : List ℕ} → f ≡ lentPlaces → u ≡ lentPlaces → c ≡ lentPlaces → arrays f u c ≡ lentArrays
 zeros-are {f} {u} {c} a b d =
@@ -28,11 +29,11 @@ zeros-are {f} {u} {c} a b d =
 over-fits : (new old : List ℕ) → length (over new old) ≡ length old → length new ≤ length old
 over-fits new old e = omega (arith, e, length-append new (drop (length new) old), length-drop (length new) old)
 
-module _ (input old xs : List ℕ) {lent after : Arrays} {printed : Printed} (zeros : lent ≡ lentArrays) (room : 3133584 ≤ length old)
+module _ (input old xs : List ℕ) {lent after : Arrays} {printed : Printed} (zeros : lent ≡ lentArrays) (room : roomFor 2048 ≤ length old)
     (e : run printed xs after ≡ programOf input lent old) where
   made : run printed xs after ≡ textRun (output input) old (arraysAfter lentArrays input)
   unfolding programOf output
-  made = e ∙ (ap (λ (a : Arrays). programOf input a old) zeros ∙ rw (le-ltb (length old) (roomFor (length lentPlaces)) (omega (arith, places-room))))
+  made = e ∙ (ap (λ (a : Arrays). programOf input a old) zeros ∙ rw (le-ltb (length old) (roomFor (length lentPlaces)) (subst (λ (k : ℕ). roomFor k ≤ length old) (places-count refl) room)))
 
   pub some-text : printed ≡ NoRoom → ⊥
   some-text f =

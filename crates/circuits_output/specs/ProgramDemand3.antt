@@ -6,7 +6,7 @@ use mathlib.Core.Logic.{_⊎_}
 use mathlib.Core.List.{List, [], _∷_, _++_}
 use Prim.Native.Nat.{ℕ, _≤_, _<_}
 use lib.ListN.{length}
-use Rattle.ints.specs.Lists.{all}
+use Rattle.ints.specs.Lists.{all, range, each}
 use Rattle.circuit.specs.Charge.{charge}
 use Rattle.circuit.specs.Codes.{valid}
 use Rattle.exact.specs.Matrix.{PowerOf}
@@ -14,12 +14,12 @@ use Rattle.exact.specs.Paper.{paperProduct}
 use Rattle.exact.specs.Fits.{FirstPast}
 use Rattle.walk.specs.AtWidth.{ListOf, NoSharedPrint, SkippedRightly}
 use Rattle.tables.specs.Checks.{Limits, limitsOf, Arrays}
-use Rattle.tables.specs.Tables.{Table, walkOf, widthAt, widthOf, table, left, buildOf}
+use Rattle.tables.specs.Tables.{Table, walkOf, widthAt, widthOf, parentsOf, codesOf, table, left, buildOf}
 use Rattle.tables.specs.Demand3.{NoSmaller}
 use Rattle.murm.specs.Entries.{firstInvalid}
 use Rattle.circuits_text.specs.Allowed.{AllowedLine}
-use Rattle.circuits_lines.specs.Lines.{refusedLine, noneLine, answerLine}
-use Rattle.circuits_lines.specs.Program.{InputLine, ended, readLine, brokenText, queryText, queryTexts, listText, tableText}
+use Rattle.circuits_lines.specs.Lines.{refusedLine, noneLine, tableLine, nodeLines, answerLine}
+use Rattle.circuits_lines.specs.Program.{InputLine, ended, readLine, brokenText, queryText, queryTexts, listText}
 use Rattle.circuits_output.specs.Output.{asks, inputOf, lentArrays, output}
 use Rattle.circuits_output.specs.Allowed.{QueryLine}
 
@@ -66,10 +66,17 @@ pub data LineMeans (l : Limits) (w : ℕ) (asked text : List ℕ) : Type 0 where
   -- a refusal is the list's own: the table refuses no matrix of a list
   refused : (number position : ℕ) → text ≡ refusedLine number position → ListRefused w asked number position → LineMeans l w asked text
 
+-- "`table` width, entries, depth, saturated (0 or 1), then that width's nodes, each a line of node, parent, code": those of the width's walk
+unfoldable pub walkText : Limits → ℕ → List ℕ
+walkText l w =
+    tableLine w (length (walkOf l w .nodes)) (walkOf l w .depth) (walkOf l w .saturated)
+    ++ nodeLines (parentsOf l w) (codesOf l w) (length (walkOf l w .nodes))
+
 -- the output of an input whose line one has the limits l, and whose later lines are ls, where the build returned t and left m in the arrays
 pub record OutputMeans (input : List ℕ) (l : Limits) (ls : List InputLine) (t : Table) (m : Arrays) : Type 0 where
-  pub whole : output input ≡ tableText t (m .parents) (m .codes) ++ queryTexts t m ls
-  -- count, depth and saturated of a `table` line are the walk's
+  -- "For each width rising it prints .."; "After the last width comes per query .."
+  pub whole : output input ≡ each (range 1 (l .qubits)) (walkText l) ++ queryTexts t m ls
+  -- the record's count, depth and saturated are the walk's
   pub rows : (w : ℕ) → 0 < w → w ≤ l .qubits → widthAt t w ≡ widthOf (walkOf l w)
   -- with its completed depth as the gate limit, and the other limits as they are, a width is not saturated
   pub again : (w : ℕ) → walkOf (limitsOf (l .qubits) (walkOf l w .depth) (l .entries) (l .basis)) w .saturated ≡ false

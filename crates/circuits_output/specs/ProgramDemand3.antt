@@ -18,8 +18,8 @@ use Rattle.tables.specs.Tables.{Table, walkOf, widthAt, widthOf, parentsOf, cod
 use Rattle.tables.specs.Demand3.{NoSmaller}
 use Rattle.murm.specs.Entries.{firstInvalid}
 use Rattle.circuits_text.specs.Allowed.{AllowedLine}
-use Rattle.circuits_lines.specs.Lines.{refusedLine, noneLine, tableLine, nodeLines, answerLine}
-use Rattle.circuits_lines.specs.Program.{InputLine, ended, readLine, brokenText, queryText, queryTexts, listText}
+use Rattle.circuits_lines.specs.Lines.{refusedLine, noneLine, answerLine}
+use Rattle.circuits_lines.specs.Program.{InputLine, ended, readLine, brokenText, queryText, queryTexts, listText, rowText}
 use Rattle.circuits_output.specs.Output.{asks, inputOf, lentArrays, output}
 use Rattle.circuits_output.specs.Allowed.{QueryLine}
 
@@ -68,9 +68,7 @@ pub data LineMeans (l : Limits) (w : ℕ) (asked text : List ℕ) : Type 0 where
 
 -- "`table` width, entries, depth, saturated (0 or 1), then that width's nodes, each a line of node, parent, code": those of the width's walk
 unfoldable pub walkText : Limits → ℕ → List ℕ
-walkText l w =
-    tableLine w (length (walkOf l w .nodes)) (walkOf l w .depth) (walkOf l w .saturated)
-    ++ nodeLines (parentsOf l w) (codesOf l w) (length (walkOf l w .nodes))
+walkText l w = rowText w (widthOf (walkOf l w)) (parentsOf l w) (codesOf l w)
 
 -- the output of an input whose line one has the limits l, and whose later lines are ls, where the build returned t and left m in the arrays
 pub record OutputMeans (input : List ℕ) (l : Limits) (ls : List InputLine) (t : Table) (m : Arrays) : Type 0 where

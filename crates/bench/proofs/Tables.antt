@@ -1,7 +1,7 @@
 -- What the entries for tables come to as numbers: a record that is too short, and else the library's answer. Assumes nothing.
 use mathlib.Core.Path.{_≡_, sym, ap, _∙_}
 use mathlib.Core.List.{List}
-use Prim.Native.Nat.{ℕ, _≤_, _<_}
+use Prim.Native.Nat.{ℕ, _+_, _≤_, _<_}
 use borrow.Author.Tests.{lt-ltb, le-ltb}
 use lib.ListN.{length}
 use Rattle.ints.specs.Lists.{over}
@@ -10,9 +10,13 @@ use Rattle.tables.specs.Checks.{Limits, Arrays}
 use Rattle.tables.specs.Tables.{Table, BuildReply, Left, left, buildOf, Query, synthesized}
 use Rattle.murm_config.specs.Told.{toldMurm}
 use Rattle.murm_config.specs.declared.Murm.{Murm}
-use Rattle.murm.specs.Entries.{toldBuilding}
+use Rattle.refusal.specs.Told.{numberOf}
+use Rattle.refusal.specs.declared.Refusal.{Refusal}
+use Rattle.murm.specs.Entries.{toldBuilding, toldSynthesized}
 use Rattle.murm.specs.declared.Building.{Building}
 use Rattle.murm.specs.declared.Building.the-variants as b
+use Rattle.murm.specs.declared.Synthesized.{Synthesized}
+use Rattle.murm.specs.declared.Synthesized.the-variants as s
 use Rattle.bench.specs.Tables.{tableOf, numbersOf, buildNumber, recorded, builtAs, builtBy, benchBuilt, replyNumber, answered, answeredBy, benchAnswered}
 
 -- ---- a build
@@ -22,6 +26,13 @@ pub table-told : (old : List ℕ) (m : Murm) {t : Building} {new : List ℕ} →
 table-told old m e h = (
   ap (λ (x : Building). buildNumber (toldBuilding x)) (sym e),
   h ∙ ap (λ (x : Building). recorded (toldBuilding x) old) (sym e),
+)
+
+pub refused-told : (old : List ℕ) (r : Refusal) {t : Building} {n : ℕ} → t ≡ b.Refused r → n ≡ numberOf r
+    → (n ≡ buildNumber (toldBuilding t)) × (old ≡ recorded (toldBuilding t) old)
+refused-told old r e h = (
+  h ∙ ap (λ (x : Building). buildNumber (toldBuilding x)) (sym e),
+  ap (λ (x : Building). recorded (toldBuilding x) old) (sym e),
 )
 
 pub short-built : (l : Limits) (a : Arrays) (numbers : List ℕ) → length numbers < 15 → builtAs 99 a numbers ≡ benchBuilt l a numbers
@@ -37,6 +48,9 @@ long-built l a numbers t {a′} {new} h hl e hr hn =
     ∙ (ap (builtAs (buildNumber t) a′) hn ∙ ap (λ (o : Left). builtBy o numbers) (e ∙ ap (λ (z : Limits). buildOf z a) hl)))
 
 -- ---- an answer
+
+pub refused-reply : (r : Refusal) {t : Synthesized} {n : ℕ} → t ≡ s.Refused r → n ≡ numberOf r → 2000 + n ≡ replyNumber (toldSynthesized t)
+refused-reply r e h = ap (λ (k : ℕ). 2000 + k) h ∙ ap (λ (x : Synthesized). replyNumber (toldSynthesized x)) (sym e)
 
 pub short-answered : (l : Limits) (numbers : List ℕ) (a : Arrays) (q : Query) (out : List ℕ) → length numbers < 15
     → answered 2099 out ≡ benchAnswered l numbers a q out

@@ -32,10 +32,7 @@ pub extern "C" fn bench_list(width: u32, codes: &[u32], out: &mut [Coefficient])
 {
     match murm::library_circuit_matrix(width, codes, out) {
         Listed::Matrix(k) => k as u64,
-        Listed::WidthTooLarge => 65536,
-        Listed::LengthNotExact => 65536,
-        Listed::NotValid(_) => 65536,
-        Listed::DoesNotFit(_) => 65536,
+        Listed::Refused(_) => 65536,
     }
 }
 
@@ -46,10 +43,7 @@ pub extern "C" fn bench_query(width: u32, exponent: u16, entries: &[Coefficient]
 {
     match murm::library_fingerprint(width, exponent, entries) {
         Fingerprinted::Fingerprint(p) => p,
-        Fingerprinted::WidthTooLarge => 0,
-        Fingerprinted::LengthNotExact => 0,
-        Fingerprinted::OutOfRange => 0,
-        Fingerprinted::NotLowest => 0,
+        Fingerprinted::Refused(_) => 0,
     }
 }
 
@@ -142,11 +136,7 @@ fn built(building: Building, numbers: &mut [u64]) -> u64
             put_record(numbers, table);
             0
         }
-        Building::WidthLimit => 1,
-        Building::NoEntries => 2,
-        Building::Basis => 3,
-        Building::TooLarge => 4,
-        Building::ArrayTooShort => 5,
+        Building::Refused(r) => refusal::number_of(r).0,
     }
 }
 
@@ -178,13 +168,7 @@ fn reply(told: Synthesized) -> u64
     match told {
         Synthesized::Circuit(m) => m as u64,
         Synthesized::Nothing => 1000,
-        Synthesized::ArrayTooShort => 2005,
-        Synthesized::WidthTooLarge => 2006,
-        Synthesized::LengthNotExact => 2009,
-        Synthesized::OutOfRange => 2010,
-        Synthesized::NotLowest => 2011,
-        Synthesized::ListTooShort => 2012,
-        Synthesized::BadTable => 2013,
+        Synthesized::Refused(r) => 2000 + refusal::number_of(r).0,
     }
 }
 

@@ -5,6 +5,7 @@ ghost use Prim.Native.Nat.{_+_, _*_, _<_, _≤_};
 ghost use lib.ListN.{length, take, drop};
 ghost use Rattle.tables.specs.Checks.{arrays, placesOf};
 ghost use Rattle.tables.specs.Tables.{recordRow};
+ghost use Rattle.refusal.specs.Told.{numberOf, positionOf};
 ghost use Rattle.murm_config.specs.Told.{toldConfig, toldWidth, toldMurm};
 ghost use Rattle.murm.specs.Entries.{toldSynthesized, listed};
 ghost use Rattle.circuits_text.specs.Writing.{Put};
@@ -17,6 +18,7 @@ use cyclotomic::Coefficient;
 use murm::Listed;
 use murm::Synthesized;
 use murm_config::Murm;
+use refusal::Refusal;
 use width_table::WidthTable;
 
 // A number and a byte after it: at most 21 bytes.
@@ -39,14 +41,15 @@ fn put_short(out: &mut [u8], at: usize, n: u32, after: u8) -> usize
 }
 
 // `refused` number position: at most 50 bytes.
-pub fn put_refused(out: &mut [u8], at: usize, number: u64, position: u64) -> usize
+pub fn put_refused(out: &mut [u8], at: usize, why: Refusal) -> usize
     requires { ⌜ at + 50 ≤ length (now out) ⌝ }
-    ensures { λ r. ⌜ Put at (refusedLine number position) r (now (out .entry)) (now (out .exit)) ⌝ }
+    ensures { λ r. ⌜ Put at (refusedLine (numberOf why) (positionOf why)) r (now (out .entry)) (now (out .exit)) ⌝ }
     ensures { λ r. ⌜ r ≤ at + 50 ⌝ }
 {
+    let told = refusal::number_of(why);
     let first = circuits_text::put_bytes(out, at, b"refused ");
-    let second = put_number(out, first, number, SPACE);
-    put_number(out, second, position, NEWLINE)
+    let second = put_number(out, first, told.0, SPACE);
+    put_number(out, second, told.1, NEWLINE)
 }
 
 // `none`: 5 bytes.
@@ -163,13 +166,7 @@ fn put_reply(out: &mut [u8], at: usize, answer: Synthesized, list: &[u32]) -> us
     match answer {
         Synthesized::Circuit(m) => put_first(out, at, list, m),
         Synthesized::Nothing => put_none(out, at),
-        Synthesized::ArrayTooShort => put_refused(out, at, 5, 0),
-        Synthesized::WidthTooLarge => put_refused(out, at, 6, 0),
-        Synthesized::LengthNotExact => put_refused(out, at, 9, 0),
-        Synthesized::OutOfRange => put_refused(out, at, 10, 0),
-        Synthesized::NotLowest => put_refused(out, at, 11, 0),
-        Synthesized::ListTooShort => put_refused(out, at, 12, 0),
-        Synthesized::BadTable => put_refused(out, at, 13, 0),
+        Synthesized::Refused(r) => put_refused(out, at, r),
     }
 }
 
@@ -228,10 +225,7 @@ fn put_listed(
 {
     match murm::library_circuit_matrix(width, gates, bytes) {
         Listed::Matrix(k) => put_matrix(out, at, table, prints, parents, codes, width, k, bytes),
-        Listed::WidthTooLarge => put_refused(out, at, 6, 0),
-        Listed::LengthNotExact => put_refused(out, at, 9, 0),
-        Listed::NotValid(i) => put_refused(out, at, 7, i as u64),
-        Listed::DoesNotFit(i) => put_refused(out, at, 8, i as u64),
+        Listed::Refused(r) => put_refused(out, at, r),
     }
 }
 
@@ -319,7 +313,7 @@ fn put_query(
     ensures { λ r. ⌜ r ≤ at + 746 ⌝ }
 {
     if !is_query(numbers) {
-        return put_refused(out, at, 14, 0);
+        return put_refused(out, at, Refusal::BrokenLine);
     }
     put_list(
         out,
@@ -445,6 +439,6 @@ pub fn put_query_line(
     let mut numbers = number_space();
     match circuits_text::numbers(line, &mut numbers) {
         Line::Numbers(n) => put_query(out, at, table, prints, parents, codes, &numbers[..n]),
-        Line::Broken => put_refused(out, at, 14, 0),
+        Line::Broken => put_refused(out, at, Refusal::BrokenLine),
     }
 }

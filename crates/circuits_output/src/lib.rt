@@ -17,6 +17,7 @@ use circuits_text::NEWLINE;
 use murm::Building;
 use murm_config::Murm;
 use murm_config::MurmConfig;
+use refusal::Refusal;
 
 // What was made: a text of that many bytes, or none, since the lent bytes are too few.
 pub enum Printed {
@@ -44,7 +45,7 @@ fn put_queries(
     while i < input.len() {
         let e = circuits_text::find(input, i, NEWLINE);
         if input.len() <= e {
-            return circuits_lines::put_refused(out, p, 14, 0);
+            return circuits_lines::put_refused(out, p, Refusal::BrokenLine);
         }
         p = circuits_lines::put_query_line(out, p, murm, prints, parents, codes, &input[i..e]);
         i = e + 1;
@@ -86,11 +87,7 @@ fn put_building(
 {
     match built {
         Building::Table(table) => put_table(out, table, prints, parents, codes, input, from),
-        Building::WidthLimit => circuits_lines::put_refused(out, 0, 1, 0),
-        Building::NoEntries => circuits_lines::put_refused(out, 0, 2, 0),
-        Building::Basis => circuits_lines::put_refused(out, 0, 3, 0),
-        Building::TooLarge => circuits_lines::put_refused(out, 0, 4, 0),
-        Building::ArrayTooShort => circuits_lines::put_refused(out, 0, 5, 0),
+        Building::Refused(r) => circuits_lines::put_refused(out, 0, r),
     }
 }
 
@@ -140,7 +137,7 @@ fn put_numbers(
     ensures { λ _. ⌜ arrays (now (prints .exit)) (now (parents .exit)) (now (codes .exit)) ≡ inputArrays (arrays (now (prints .entry)) (now (parents .entry)) (now (codes .entry))) (firstNumbers (linesOf (drop from (now (input .entry)))) (now (numbers .entry))) ⌝ }
 {
     if numbers.len() != 4 {
-        return circuits_lines::put_refused(out, 0, 14, 0);
+        return circuits_lines::put_refused(out, 0, Refusal::BrokenLine);
     }
     put_build(out, config_of(numbers), prints, parents, codes, input, from)
 }
@@ -169,7 +166,7 @@ fn put_first_line(
     let mut numbers = number_space();
     match circuits_text::numbers(line, &mut numbers) {
         Line::Numbers(n) => put_numbers(out, &numbers[..n], prints, parents, codes, input, from),
-        Line::Broken => circuits_lines::put_refused(out, 0, 14, 0),
+        Line::Broken => circuits_lines::put_refused(out, 0, Refusal::BrokenLine),
     }
 }
 
@@ -198,11 +195,11 @@ pub fn circuits(
         return Printed::NoRoom;
     }
     if 16384 < input.len() {
-        return Printed::Text(circuits_lines::put_refused(out, 0, 15, 0));
+        return Printed::Text(circuits_lines::put_refused(out, 0, Refusal::LongInput));
     }
     let e = circuits_text::find(input, 0, NEWLINE);
     if input.len() <= e {
-        return Printed::Text(circuits_lines::put_refused(out, 0, 14, 0));
+        return Printed::Text(circuits_lines::put_refused(out, 0, Refusal::BrokenLine));
     }
     Printed::Text(put_first_line(out, &input[..e], prints, parents, codes, input, e + 1))
 }

@@ -28,6 +28,7 @@ use murm::Listed;
 use murm::Synthesized;
 use murm_config::Murm;
 use murm_config::MurmConfig;
+use refusal::Refusal;
 use width_table::WidthTable;
 
 // The longest input, one byte more than which is read.
@@ -104,10 +105,7 @@ fn fingerprinted(
 {
     match murm::library_fingerprint(width, exponent, entries) {
         Fingerprinted::Fingerprint(f) => put_matrix(out, at, exponent, f, entries),
-        Fingerprinted::WidthTooLarge => circuits_lines::put_refused(out, at, 6, 0),
-        Fingerprinted::LengthNotExact => circuits_lines::put_refused(out, at, 9, 0),
-        Fingerprinted::OutOfRange => circuits_lines::put_refused(out, at, 10, 0),
-        Fingerprinted::NotLowest => circuits_lines::put_refused(out, at, 11, 0),
+        Fingerprinted::Refused(r) => circuits_lines::put_refused(out, at, r),
     }
 }
 
@@ -124,10 +122,7 @@ fn listed(
 {
     match murm::library_circuit_matrix(width, codes, entries) {
         Listed::Matrix(k) => fingerprinted(out, at, width, k, entries),
-        Listed::WidthTooLarge => circuits_lines::put_refused(out, at, 6, 0),
-        Listed::LengthNotExact => circuits_lines::put_refused(out, at, 9, 0),
-        Listed::NotValid(i) => circuits_lines::put_refused(out, at, 7, i as u64),
-        Listed::DoesNotFit(i) => circuits_lines::put_refused(out, at, 8, i as u64),
+        Listed::Refused(r) => circuits_lines::put_refused(out, at, r),
     }
 }
 
@@ -158,10 +153,10 @@ fn list_numbers(out: &mut [u8], at: usize, numbers: &[u32]) -> usize
     ensures { λ r. ⌜ r ≤ at + 49190 ⌝ }
 {
     if numbers.len() < 2 {
-        return circuits_lines::put_refused(out, at, 14, 0);
+        return circuits_lines::put_refused(out, at, Refusal::BrokenLine);
     }
     if numbers.len() - 2 != long(numbers[1]) {
-        return circuits_lines::put_refused(out, at, 14, 0);
+        return circuits_lines::put_refused(out, at, Refusal::BrokenLine);
     }
     list(out, at, numbers[0], &numbers[2..])
 }
@@ -174,7 +169,7 @@ fn list_line(out: &mut [u8], at: usize, rest: &[u8]) -> usize
     let mut numbers = [0u32; 258];
     match circuits_text::numbers(rest, &mut numbers) {
         Line::Numbers(n) => list_numbers(out, at, &numbers[..n]),
-        Line::Broken => circuits_lines::put_refused(out, at, 14, 0),
+        Line::Broken => circuits_lines::put_refused(out, at, Refusal::BrokenLine),
     }
 }
 
@@ -292,26 +287,14 @@ fn put_widths(
 }
 
 // A refused `table` line.
-fn no_table(out: &mut [u8], at: usize, number: u64) -> Told
+fn no_table(out: &mut [u8], at: usize, why: Refusal) -> Told
     requires { ⌜ (at ≤ 16346) × (65536 ≤ length (now out)) ⌝ }
     ensures { λ r. ⌜ r .filled ≤ 65536 ⌝ }
 {
-    let filled = circuits_lines::put_refused(out, at, number, 0);
+    let filled = circuits_lines::put_refused(out, at, why);
     Told {
         filled,
         last: Last::Nothing,
-    }
-}
-
-// The number of a refused build.
-fn build_refusal(built: Building) -> u64 {
-    match built {
-        Building::Table(_) => 0,
-        Building::WidthLimit => 1,
-        Building::NoEntries => 2,
-        Building::Basis => 3,
-        Building::TooLarge => 4,
-        Building::ArrayTooShort => 5,
     }
 }
 
@@ -337,14 +320,15 @@ fn table(
         max_entries_per_qubit: e,
         basis: GateSet(b),
     };
-    let built = murm::build(config, fingerprints, parents, codes);
-    let Building::Table(t) = built else {
-        return no_table(out, at, build_refusal(built));
-    };
-    let filled = put_widths(out, at, t, q, e, fingerprints, parents, codes);
-    Told {
-        filled,
-        last: Last::Table(t),
+    match murm::build(config, fingerprints, parents, codes) {
+        Building::Table(t) => {
+            let filled = put_widths(out, at, t, q, e, fingerprints, parents, codes);
+            Told {
+                filled,
+                last: Last::Table(t),
+            }
+        }
+        Building::Refused(r) => no_table(out, at, r),
     }
 }
 
@@ -365,7 +349,7 @@ fn table_line(
     match circuits_text::numbers(rest, &mut limits) {
         Line::Numbers(n) => {
             if n < 4 {
-                return no_table(out, at, 14);
+                return no_table(out, at, Refusal::BrokenLine);
             }
             table(
                 out,
@@ -379,7 +363,7 @@ fn table_line(
                 codes,
             )
         }
-        Line::Broken => no_table(out, at, 14),
+        Line::Broken => no_table(out, at, Refusal::BrokenLine),
     }
 }
 
@@ -479,21 +463,6 @@ fn print_of(width: u32, exponent: u16, entries: &[Coefficient]) -> u64 {
     f
 }
 
-// The number of a refused query.
-fn answer_refusal(answer: Synthesized) -> u64 {
-    match answer {
-        Synthesized::Circuit(_) => 0,
-        Synthesized::Nothing => 0,
-        Synthesized::ArrayTooShort => 5,
-        Synthesized::WidthTooLarge => 6,
-        Synthesized::LengthNotExact => 9,
-        Synthesized::OutOfRange => 10,
-        Synthesized::NotLowest => 11,
-        Synthesized::ListTooShort => 12,
-        Synthesized::BadTable => 13,
-    }
-}
-
 // A table is asked. That a list is no longer than the lent one is tested, so that no contract of the entry is used.
 fn asked(
     out: &mut [u8],
@@ -523,12 +492,12 @@ fn asked(
     match answer {
         Synthesized::Circuit(m) => {
             if 64 < m {
-                return circuits_lines::put_refused(out, at, 12, 0);
+                return circuits_lines::put_refused(out, at, Refusal::ListTooShort);
             }
             put_circuit(out, at, print_of(width, exponent, entries), &list[..m])
         }
         Synthesized::Nothing => put_none(out, at, print_of(width, exponent, entries)),
-        _ => circuits_lines::put_refused(out, at, answer_refusal(answer), 0),
+        Synthesized::Refused(r) => circuits_lines::put_refused(out, at, r),
     }
 }
 
@@ -556,7 +525,7 @@ fn query(
     ensures { λ r. ⌜ r ≤ at + 1382 ⌝ }
 {
     if 65535 < k {
-        return circuits_lines::put_refused(out, at, 14, 0);
+        return circuits_lines::put_refused(out, at, Refusal::BrokenLine);
     }
     let exponent = k as u16;
     let mut entries = query_space();
@@ -572,7 +541,7 @@ fn query(
             exponent,
             &entries[..n],
         ),
-        Line::Broken => circuits_lines::put_refused(out, at, 14, 0),
+        Line::Broken => circuits_lines::put_refused(out, at, Refusal::BrokenLine),
     }
 }
 
@@ -590,11 +559,11 @@ fn matrix_line(
     ensures { λ r. ⌜ r ≤ at + 1382 ⌝ }
 {
     let Last::Table(table) = last else {
-        return circuits_lines::put_refused(out, at, 14, 0);
+        return circuits_lines::put_refused(out, at, Refusal::BrokenLine);
     };
     let first = circuits_text::find(rest, 0, SPACE);
     if rest.len() <= first {
-        return circuits_lines::put_refused(out, at, 14, 0);
+        return circuits_lines::put_refused(out, at, Refusal::BrokenLine);
     }
     let second = circuits_text::find(rest, first + 1, SPACE);
     let mut head = [0u32; 2];
@@ -611,7 +580,7 @@ fn matrix_line(
             rest,
             second,
         ),
-        Line::Broken => circuits_lines::put_refused(out, at, 14, 0),
+        Line::Broken => circuits_lines::put_refused(out, at, Refusal::BrokenLine),
     }
 }
 
@@ -620,7 +589,7 @@ fn no_line(out: &mut [u8], at: usize, last: Last) -> Told
     requires { ⌜ (at ≤ 16346) × (65536 ≤ length (now out)) ⌝ }
     ensures { λ r. ⌜ r .filled ≤ 65536 ⌝ }
 {
-    let filled = circuits_lines::put_refused(out, at, 14, 0);
+    let filled = circuits_lines::put_refused(out, at, Refusal::BrokenLine);
     Told { filled, last }
 }
 

@@ -14,6 +14,9 @@ use Rattle.exact.specs.Lists.{product}
 use Rattle.exact.specs.Answers.{given, refused, listAnswer}
 use Rattle.places.specs.Places.{read}
 use Rattle.matrix.specs.Step.{Holds}
+use Rattle.refusal.specs.Told.{Reason, numberOf, positionOf}
+use Rattle.refusal.specs.declared.Refusal.{Refusal}
+use Rattle.refusal.proofs.Numbers.{Refuses}
 use Rattle.tables.specs.Checks.{byteCount, anyBelow, firstRow, queryRows}
 use Rattle.tables.proofs.Rows.{first-none}
 use Rattle.murm.specs.Entries.{firstInvalid, coefficients, outcome, listed, printedBy, fingerprinted}
@@ -81,6 +84,10 @@ module _ (n k : ℕ) (bytes : List ℤ) where
       let b = first-none _ _ (omega arith) (a .1) in
       (ltb-false 5 n (a .0), le-of-eq (sym (byte-count n) ∙ sym (eqb-true (length bytes) (byteCount n) (not-false _ (b .0)))))
 
-  pub printed : {r : ℕ} → r ≡ firstRow (queryRows n k bytes) → printedBy n k bytes r ≡ fingerprinted n k bytes
+  pub printed : 0 ≡ firstRow (queryRows n k bytes) → printedBy n k bytes 0 ≡ fingerprinted n k bytes
   unfolding fingerprinted
   printed e = ap (printedBy n k bytes) e
+
+  pub not-printed : {r : Refusal} → Refuses r (firstRow (queryRows n k bytes)) → refused (numberOf r) (positionOf r) ≡ fingerprinted n k bytes
+  unfolding fingerprinted
+  not-printed x = rw (x .test) (ap (λ (t : Reason). refused (t .number) (t .position)) (x .told))

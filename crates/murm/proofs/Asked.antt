@@ -1,11 +1,14 @@
 -- What a table answers, row by row, as the definition has it. Assumes nothing.
-use mathlib.Core.Path.{_≡_, sym, ap, _∙_}
+use mathlib.Core.Path.{_≡_, refl, sym, ap, _∙_}
 use mathlib.Core.Bool.{true, false}
 use mathlib.Core.List.{List}
 use Prim.Native.Nat.{ℕ, _≤_, _<_}
 use borrow.Author.Tests.{eq-eqb, ne-eqb, lt-ltb, le-ltb}
 use lib.ListN.{length}
 use Rattle.width_answer.specs.Answers.{none, refused, outcome}
+use Rattle.refusal.specs.Told.{Reason, numberOf, positionOf}
+use Rattle.refusal.specs.declared.Refusal.{Refusal}
+use Rattle.refusal.proofs.Numbers.{Refuses}
 use Rattle.tables.specs.Checks.{firstRow, Arrays, roomRow, queryRows}
 use Rattle.tables.specs.Tables.{Table, Query, recordRow, answerRows, partAsked, repliedBy, synthesized}
 use Rattle.tables.proofs.Rows.{first-here, first-past, first-some, firstRow-append, numbered-query}
@@ -47,8 +50,10 @@ module _ (t : Table) (a : Arrays) (q : Query) (out : List ℕ) where
 
     module _ (roomy : roomRow (t .limits) a .holds ≡ false) where
       -- the query's rows
-      pub bad-query : (r : ℕ) → 0 < r → firstRow (queryRows (q .width) (q .exponent) (q .bytes)) ≡ r → repliedBy t a q out r ≡ synthesized t a q out
-      bad-query r p e = by-row (first-past _ _ good ∙ first-past _ _ roomy ∙ first-some _ _ r p e)
+      pub bad-query : {r : Refusal} → Refuses r (firstRow (queryRows (q .width) (q .exponent) (q .bytes))) → outcome (refused (numberOf r) (positionOf r)) out ≡ synthesized t a q out
+      bad-query x =
+          ap (λ (z : Reason). outcome (refused (z .number) (z .position)) out) (x .told)
+          ∙ rw (x .test) at (by-row (first-past _ _ good ∙ first-past _ _ roomy ∙ first-some _ _ _ (x .some) refl))
 
       pub good-query : firstRow (queryRows (q .width) (q .exponent) (q .bytes)) ≡ 0 → askedOf t a q out ≡ synthesized t a q out
       good-query e = by-row (first-past _ _ good ∙ first-past _ _ roomy ∙ firstRow-append _ _ (numbered-query (q .width) (q .exponent) (q .bytes)) e)

@@ -1,9 +1,12 @@
 -- What a build answers, by the row that refuses: one of the limits' rows, row 5, or none. Assumes nothing.
-use mathlib.Core.Path.{_≡_, sym, _∙_}
+use mathlib.Core.Path.{_≡_, refl, sym, ap, _∙_}
 use mathlib.Core.Bool.{true, false}
 use mathlib.Core.List.{List, [], _∷_}
-use Prim.Native.Nat.{ℕ, _<_}
+use Prim.Native.Nat.{ℕ}
 use native.Mathlib.Omega.{arith}
+use Rattle.refusal.specs.Told.{Reason, numberOf, positionOf}
+use Rattle.refusal.specs.declared.Refusal.{Refusal}
+use Rattle.refusal.proofs.Numbers.{Refuses}
 use Rattle.tables.specs.Checks.{firstRow, Limits, limitRows, Arrays, arrays, roomRow}
 use Rattle.tables.specs.Tables.{Table, recordOf, printsOf, parentsOf, codesOf, filledTo, table, refusal, left, buildOf}
 use Rattle.tables.proofs.Rows.{numbered-limits, first-here, first-past, first-some, firstRow-append}
@@ -11,8 +14,10 @@ use Rattle.tables.proofs.FromBuild.{build-refusal, build-fills}
 
 module _ (l : Limits) (a : Arrays) where
   -- a row of the limits
-  pub limits-refuse : (r : ℕ) → 0 < r → r ≡ firstRow (limitRows l) → left (refusal r 0) a ≡ buildOf l a
-  limits-refuse r h e = sym (build-refusal l a r h (first-some (limitRows l) (roomRow l a ∷ []) r h (sym e)))
+  pub limits-refuse : {r : Refusal} → Refuses r (firstRow (limitRows l)) → left (refusal (numberOf r) (positionOf r)) a ≡ buildOf l a
+  limits-refuse x =
+      ap (λ (z : Reason). left (refusal (z .number) (z .position)) a) (x .told)
+      ∙ sym (build-refusal l a _ (x .some) (first-some (limitRows l) (roomRow l a ∷ []) _ (x .some) refl))
 
   module _ (e : 0 ≡ firstRow (limitRows l)) where
     -- row 5

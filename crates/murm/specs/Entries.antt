@@ -18,13 +18,12 @@ use Rattle.width_answer.specs.Answers.{Reply}
 use Rattle.width_answer.specs.Answers as a
 use Rattle.tables.specs.Checks.{byteCount, firstRow, queryRows, Arrays}
 use Rattle.tables.specs.Tables.{Table, BuildReply, table, refusal, Query, listRow, repliedBy}
+use Rattle.refusal.specs.Told.{numberOf, positionOf}
 use Rattle.murm_config.specs.Told.{toldMurm}
 use Rattle.murm.specs.declared.Listed.{Listed}
 use Rattle.murm.specs.declared.Listed.the-variants as l
 use Rattle.murm.specs.declared.Fingerprinted.{Fingerprinted}
 use Rattle.murm.specs.declared.Fingerprinted.the-variants as f
-use Rattle.murm.specs.declared.QueryCheck.{QueryCheck}
-use Rattle.murm.specs.declared.QueryCheck.the-variants as q
 use Rattle.murm.specs.declared.Building.{Building}
 use Rattle.murm.specs.declared.Building.the-variants as b
 use Rattle.murm.specs.declared.Synthesized.{Synthesized}
@@ -71,20 +70,9 @@ listed n codes bytes =
 -- the number and the values of each case
 abbrev pub toldListed : Listed → Answer
 toldListed (l.Matrix k) = given k
-toldListed l.WidthTooLarge = refused 6 0
-toldListed l.LengthNotExact = refused 9 0
-toldListed (l.NotValid i) = refused 7 i
-toldListed (l.DoesNotFit i) = refused 8 i
+toldListed (l.Refused r) = refused (numberOf r) (positionOf r)
 
 -- ---- the fingerprint of a matrix that may be asked of a table
-
--- a query's rows, each with its number
-abbrev pub toldQueryCheck : QueryCheck → ℕ
-toldQueryCheck q.Allowed = 0
-toldQueryCheck q.WidthTooLarge = 6
-toldQueryCheck q.LengthNotExact = 9
-toldQueryCheck q.OutOfRange = 10
-toldQueryCheck q.NotLowest = 11
 
 -- by the number of the first row that holds
 abbrev pub printedBy : ℕ → ℕ → List ℤ → ℕ → Answer
@@ -95,31 +83,18 @@ fingerprinted n k bytes = printedBy n k bytes (firstRow (queryRows n k bytes))
 
 abbrev pub toldFingerprinted : Fingerprinted → Answer
 toldFingerprinted (f.Fingerprint p) = given p
-toldFingerprinted f.WidthTooLarge = refused 6 0
-toldFingerprinted f.LengthNotExact = refused 9 0
-toldFingerprinted f.OutOfRange = refused 10 0
-toldFingerprinted f.NotLowest = refused 11 0
+toldFingerprinted (f.Refused r) = refused (numberOf r) (positionOf r)
 
 -- ---- a table
 
 abbrev pub toldBuilding : Building → BuildReply
 toldBuilding (b.Table m) = table (toldMurm m)
-toldBuilding b.WidthLimit = refusal 1 0
-toldBuilding b.NoEntries = refusal 2 0
-toldBuilding b.Basis = refusal 3 0
-toldBuilding b.TooLarge = refusal 4 0
-toldBuilding b.ArrayTooShort = refusal 5 0
+toldBuilding (b.Refused r) = refusal (numberOf r) (positionOf r)
 
 abbrev pub toldSynthesized : Synthesized → Reply
 toldSynthesized (s.Circuit m) = a.given m
 toldSynthesized s.Nothing = a.none
-toldSynthesized s.ArrayTooShort = a.refused 5 0
-toldSynthesized s.WidthTooLarge = a.refused 6 0
-toldSynthesized s.LengthNotExact = a.refused 9 0
-toldSynthesized s.OutOfRange = a.refused 10 0
-toldSynthesized s.NotLowest = a.refused 11 0
-toldSynthesized s.ListTooShort = a.refused 12 0
-toldSynthesized s.BadTable = a.refused 13 0
+toldSynthesized (s.Refused r) = a.refused (numberOf r) (positionOf r)
 
 -- what is answered once the checks up to 11 are passed
 abbrev pub askedOf : Table → Arrays → Query → List ℕ → a.Outcome

@@ -8,6 +8,7 @@ use lib.ListN.{length, getD}
 use Rattle.cyclotomic.specs.Zomega.{limit, eqZ}
 use Rattle.exact.specs.Fits.{AllSmall}
 use Rattle.places.specs.Places.{read}
+use Rattle.refusal.specs.Told.{Reason, byRow}
 use Rattle.tables.specs.Checks.{anyBelow, firstRow, queryRows}
 
 -- whether a coefficient is -128; a byte that is not is within the limit
@@ -20,7 +21,7 @@ pub record InRange (l : List ℤ) (r : Bool) : Type 0 where
   pub told : r ≡ not (anyBelow l)
   pub small : r ≡ true → (i : ℕ) → i < length l → natAbs (getD l i (pos 0)) ≤ limit
 
--- the checks of a query, by the number of the row that refuses; a query that none refuses is within the limit
-pub record Checked (n k : ℕ) (l : List ℤ) (r : ℕ) : Type 0 where
-  pub told : r ≡ firstRow (queryRows n k l)
-  pub small : r ≡ 0 → AllSmall n (read n l)
+-- the checks of a query, by the row that refuses; a query that none refuses is within the limit
+pub record Checked (n k : ℕ) (l : List ℤ) (r : Reason) : Type 0 where
+  pub told : r ≡ byRow (firstRow (queryRows n k l))
+  pub small : r .number ≡ 0 → AllSmall n (read n l)

@@ -12,8 +12,9 @@ ghost use Rattle.width_answer.specs.Answers.{answerOf, toldAnswered};
 ghost use Rattle.width_answer.specs.Answers.{outcome as replied};
 ghost use Rattle.tables.specs.Checks.{firstRow, queryRows, arrays, roomRow};
 ghost use Rattle.tables.specs.Tables.{left, buildOf, query, recordRow, partAsked, synthesized};
+ghost use Rattle.refusal.specs.Told.{toldCheck};
 ghost use Rattle.murm_config.specs.Told.{toldConfig, toldMurm};
-ghost use Rattle.murm.specs.Entries.{firstInvalid, outcome, listed, toldListed, fingerprinted, toldFingerprinted, toldQueryCheck, toldBuilding, askedOf, toldSynthesized};
+ghost use Rattle.murm.specs.Entries.{firstInvalid, outcome, listed, toldListed, fingerprinted, toldFingerprinted, toldBuilding, askedOf, toldSynthesized};
 ghost use Rattle.murm.specs.Work.{PastLimit, InRange, Checked};
 use circuit::GateSet;
 use circuit::LibraryGate;
@@ -21,27 +22,22 @@ use cyclotomic::Coefficient;
 use cyclotomic::LIMIT;
 use cyclotomic::Wide;
 use lists::Walked;
-use murm_config::LimitCheck;
 use murm_config::Murm;
 use murm_config::MurmConfig;
+use refusal::Check;
+use refusal::Refusal;
 use width_answer::Answered;
 
-// What a list became: its exponent, or why it was refused, with the position where there is one.
+// What a list became: its exponent, or why it was refused.
 pub enum Listed {
     Matrix(u16),
-    WidthTooLarge,
-    LengthNotExact,
-    NotValid(usize),
-    DoesNotFit(usize),
+    Refused(Refusal),
 }
 
 // The fingerprint of a matrix, or why it was refused.
 pub enum Fingerprinted {
     Fingerprint(u64),
-    WidthTooLarge,
-    LengthNotExact,
-    OutOfRange,
-    NotLowest,
+    Refused(Refusal),
 }
 
 // The position of the first code that is not valid; the number of codes if all are.
@@ -75,16 +71,16 @@ pub fn library_circuit_matrix(width: u32, codes: &[u32], out: &mut [Coefficient]
     ensures { λ r. ⌜ outcome (toldListed r) (now (out .exit)) ≡ listed width (now (codes .entry)) (now (out .entry)) ⌝ }
 {
     if width > 5 {
-        return Listed::WidthTooLarge;
+        return Listed::Refused(Refusal::WidthTooLarge);
     }
     let n = width as usize;
     let size = 4 * places::area(n);
     if out.len() != size {
-        return Listed::LengthNotExact;
+        return Listed::Refused(Refusal::LengthNotExact);
     }
     let i = first_invalid(codes, width);
     if i < codes.len() {
-        return Listed::NotValid(i);
+        return Listed::Refused(Refusal::NotValid(i));
     }
     let mut data = matrix::identity_data(n);
     match lists::apply_gates(&mut data, n, codes) {
@@ -92,7 +88,7 @@ pub fn library_circuit_matrix(width: u32, codes: &[u32], out: &mut [Coefficient]
             copy_places(out, &data[0..size]);
             Listed::Matrix(k)
         }
-        Walked::UnfitAt(j) => Listed::DoesNotFit(j),
+        Walked::UnfitAt(j) => Listed::Refused(Refusal::DoesNotFit(j)),
     }
 }
 
@@ -129,33 +125,24 @@ fn is_divisible(entries: &[Coefficient], n: usize, k: u16) -> bool
 }
 
 // Whether a matrix may be asked; else which of the rows 6, 9, 10, 11 is the first to refuse it.
-enum QueryCheck {
-    Allowed,
-    WidthTooLarge,
-    LengthNotExact,
-    OutOfRange,
-    NotLowest,
-}
-
-// The checks of a query.
-fn check_query(width: u32, exponent: u16, entries: &[Coefficient]) -> QueryCheck
-    ensures { λ r. ⌜ Checked width exponent (now (entries .entry)) (toldQueryCheck r) ⌝ }
+fn check_query(width: u32, exponent: u16, entries: &[Coefficient]) -> Check
+    ensures { λ r. ⌜ Checked width exponent (now (entries .entry)) (toldCheck r) ⌝ }
 {
     if width > 5 {
-        return QueryCheck::WidthTooLarge;
+        return Check::Refused(Refusal::WidthTooLarge);
     }
     let n = width as usize;
     let size = 4 * places::area(n);
     if entries.len() != size {
-        return QueryCheck::LengthNotExact;
+        return Check::Refused(Refusal::LengthNotExact);
     }
     if !in_range(entries) {
-        return QueryCheck::OutOfRange;
+        return Check::Refused(Refusal::OutOfRange);
     }
     if is_divisible(entries, n, exponent) {
-        return QueryCheck::NotLowest;
+        return Check::Refused(Refusal::NotLowest);
     }
-    QueryCheck::Allowed
+    Check::Passed
 }
 
 // The fingerprint of a matrix given by its bytes, with the checks of a query.
@@ -163,26 +150,19 @@ pub fn library_fingerprint(width: u32, exponent: u16, entries: &[Coefficient]) -
     ensures { λ r. ⌜ toldFingerprinted r ≡ fingerprinted width exponent (now (entries .entry)) ⌝ }
 {
     match check_query(width, exponent, entries) {
-        QueryCheck::Allowed => Fingerprinted::Fingerprint(prints::unitary_fingerprint(
+        Check::Passed => Fingerprinted::Fingerprint(prints::unitary_fingerprint(
             entries,
             width as usize,
             exponent,
         )),
-        QueryCheck::WidthTooLarge => Fingerprinted::WidthTooLarge,
-        QueryCheck::LengthNotExact => Fingerprinted::LengthNotExact,
-        QueryCheck::OutOfRange => Fingerprinted::OutOfRange,
-        QueryCheck::NotLowest => Fingerprinted::NotLowest,
+        Check::Refused(r) => Fingerprinted::Refused(r),
     }
 }
 
 // What a build comes to: the table's record, or why it was refused.
 pub enum Building {
     Table(Murm),
-    WidthLimit,
-    NoEntries,
-    Basis,
-    TooLarge,
-    ArrayTooShort,
+    Refused(Refusal),
 }
 
 // "a table is built": rows 1, 2, 3, 4, 5. A refusal leaves the three arrays as they were; else widths 1 to Q are filled, and all other places
@@ -196,16 +176,13 @@ pub fn build(
     ensures { λ r. ⌜ left (toldBuilding r) (arrays (now (fingerprints .exit)) (now (parents .exit)) (now (codes .exit))) ≡ buildOf (toldConfig config) (arrays (now (fingerprints .entry)) (now (parents .entry)) (now (codes .entry))) ⌝ }
 {
     match murm_config::limits(config) {
-        LimitCheck::Accepted => {
+        Check::Passed => {
             if murm_config::too_short(config, fingerprints.len(), parents.len(), codes.len()) {
-                return Building::ArrayTooShort;
+                return Building::Refused(Refusal::ArrayTooShort);
             }
             Building::Table(murm_widths::build_widths(config, fingerprints, parents, codes))
         }
-        LimitCheck::WidthLimit => Building::WidthLimit,
-        LimitCheck::NoEntries => Building::NoEntries,
-        LimitCheck::Basis => Building::Basis,
-        LimitCheck::TooLarge => Building::TooLarge,
+        Check::Refused(r) => Building::Refused(r),
     }
 }
 
@@ -213,13 +190,7 @@ pub fn build(
 pub enum Synthesized {
     Circuit(usize),
     Nothing,
-    ArrayTooShort,
-    WidthTooLarge,
-    LengthNotExact,
-    OutOfRange,
-    NotLowest,
-    ListTooShort,
-    BadTable,
+    Refused(Refusal),
 }
 
 // The places from `start` on, as many as a width has, are asked.
@@ -294,7 +265,7 @@ fn ask_part(
     ) {
         Answered::List(m) => Synthesized::Circuit(m),
         Answered::Nothing => Synthesized::Nothing,
-        Answered::BadChain => Synthesized::BadTable,
+        Answered::BadChain => Synthesized::Refused(Refusal::BadTable),
     }
 }
 
@@ -315,7 +286,7 @@ fn ask(
     ensures { λ r. ⌜ replied (toldSynthesized r) (now (out .exit)) ≡ askedOf (toldMurm table) (arrays (now (fingerprints .entry)) (now (parents .entry)) (now (codes .entry))) (query width exponent (now (matrix .entry))) (now (out .entry)) ⌝ }
 {
     if out.len() < table.config.max_gates as usize {
-        return Synthesized::ListTooShort;
+        return Synthesized::Refused(Refusal::ListTooShort);
     }
     if width == 0 {
         return Synthesized::Nothing;
@@ -350,13 +321,13 @@ pub fn synthesize(
     ensures { λ r. ⌜ replied (toldSynthesized r) (now (out .exit)) ≡ synthesized (toldMurm table) (arrays (now (fingerprints .entry)) (now (parents .entry)) (now (codes .entry))) (query width exponent (now (matrix .entry))) (now (out .entry)) ⌝ }
 {
     if murm_config::bad_record(table) {
-        return Synthesized::BadTable;
+        return Synthesized::Refused(Refusal::BadTable);
     }
     if murm_config::too_short(table.config, fingerprints.len(), parents.len(), codes.len()) {
-        return Synthesized::ArrayTooShort;
+        return Synthesized::Refused(Refusal::ArrayTooShort);
     }
     match check_query(width, exponent, matrix) {
-        QueryCheck::Allowed => ask(
+        Check::Passed => ask(
             table,
             fingerprints,
             parents,
@@ -366,9 +337,6 @@ pub fn synthesize(
             matrix,
             out,
         ),
-        QueryCheck::WidthTooLarge => Synthesized::WidthTooLarge,
-        QueryCheck::LengthNotExact => Synthesized::LengthNotExact,
-        QueryCheck::OutOfRange => Synthesized::OutOfRange,
-        QueryCheck::NotLowest => Synthesized::NotLowest,
+        Check::Refused(r) => Synthesized::Refused(r),
     }
 }

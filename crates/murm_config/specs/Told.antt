@@ -7,19 +7,9 @@ use Rattle.tables.specs.Tables.{Width, Table, notBuilt}
 use Rattle.width_table.specs.declared.WidthTable.{WidthTable}
 use Rattle.murm_config.specs.declared.MurmConfig.{MurmConfig}
 use Rattle.murm_config.specs.declared.Murm.{Murm}
-use Rattle.murm_config.specs.declared.LimitCheck.{LimitCheck}
-use Rattle.murm_config.specs.declared.LimitCheck.the-variants as c
 
 abbrev pub toldConfig : MurmConfig → Limits
 toldConfig m = record { qubits = m .«max_qubits»; gates = m .«max_gates»; entries = m .«max_entries_per_qubit»; basis = m .basis .0 }
-
--- the number of the row that refuses; 0 where none does
-abbrev pub toldLimitCheck : LimitCheck → ℕ
-toldLimitCheck c.Accepted = 0
-toldLimitCheck c.WidthLimit = 1
-toldLimitCheck c.NoEntries = 2
-toldLimitCheck c.Basis = 3
-toldLimitCheck c.TooLarge = 4
 
 abbrev pub toldWidth : WidthTable → Width
 toldWidth w = record { count = w .count; depth = w .depth; saturated = w .saturated }

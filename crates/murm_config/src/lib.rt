@@ -4,8 +4,11 @@ ghost use Prim.Native.Nat.{_<_, _≤_};
 ghost use Rattle.tables.specs.Checks.{firstRow, limitRows, tooShort};
 ghost use Rattle.tables.specs.Tables.{allWidths, widthAt, badCountOf, badCount, recordRow};
 ghost use Rattle.walk.specs.Walk.{any};
-ghost use Rattle.murm_config.specs.Told.{toldConfig, toldLimitCheck, toldWidth, toldMurm, withWidth, emptyOf};
+ghost use Rattle.refusal.specs.Told.{byRow, toldCheck};
+ghost use Rattle.murm_config.specs.Told.{toldConfig, toldWidth, toldMurm, withWidth, emptyOf};
 use circuit::GateSet;
+use refusal::Check;
+use refusal::Refusal;
 use width_table::WidthTable;
 
 // Q, G, E and B.
@@ -27,40 +30,32 @@ pub struct Murm {
 }
 
 // Whether the limits may be built with; else which of the rows 1 to 4 is the first to refuse them.
-pub enum LimitCheck {
-    Accepted,
-    WidthLimit,
-    NoEntries,
-    Basis,
-    TooLarge,
-}
-
-pub fn limits(config: MurmConfig) -> LimitCheck
-    ensures { λ r. ⌜ toldLimitCheck r ≡ firstRow (limitRows (toldConfig config)) ⌝ }
+pub fn limits(config: MurmConfig) -> Check
+    ensures { λ r. ⌜ toldCheck r ≡ byRow (firstRow (limitRows (toldConfig config))) ⌝ }
 {
     if config.max_qubits == 0 {
-        return LimitCheck::WidthLimit;
+        return Check::Refused(Refusal::WidthLimit);
     }
     if config.max_qubits > 5 {
-        return LimitCheck::WidthLimit;
+        return Check::Refused(Refusal::WidthLimit);
     }
     if config.max_entries_per_qubit == 0 {
-        return LimitCheck::NoEntries;
+        return Check::Refused(Refusal::NoEntries);
     }
     let basis = config.basis;
     if basis.is_empty() {
-        return LimitCheck::Basis;
+        return Check::Refused(Refusal::Basis);
     }
     if !basis.is_supported() {
-        return LimitCheck::Basis;
+        return Check::Refused(Refusal::Basis);
     }
     if config.max_gates > 64 {
-        return LimitCheck::TooLarge;
+        return Check::Refused(Refusal::TooLarge);
     }
     if config.max_entries_per_qubit > 1000000 {
-        return LimitCheck::TooLarge;
+        return Check::Refused(Refusal::TooLarge);
     }
-    LimitCheck::Accepted
+    Check::Passed
 }
 
 // Whether one of three arrays of these lengths is shorter than Q × E.
@@ -135,11 +130,8 @@ pub fn bad_record(table: Murm) -> bool
     ensures { λ r. ⌜ r ≡ recordRow (toldMurm table) .holds ⌝ }
 {
     match limits(table.config) {
-        LimitCheck::Accepted => bad_counts(table),
-        LimitCheck::WidthLimit => true,
-        LimitCheck::NoEntries => true,
-        LimitCheck::Basis => true,
-        LimitCheck::TooLarge => true,
+        Check::Passed => bad_counts(table),
+        Check::Refused(_) => true,
     }
 }
 

@@ -12,12 +12,14 @@ returns c =
     let w = c .before .before .before .before .before .before .before .before .before .before .put-bytes .ensures in
     let n = c .before .before .before .before .before .before .put-number .ensures in
     let i = c .before .before .put-number2 .ensures in
-    (then-put (then-put w (n .0)) (i .0), omega (arith, w .after, n .1, i .1))
+    let m = c .before .before .before .before .before .before .before .before .before .before .before .before .before .number-of .ensures in
+    (rw (← m .0, ← m .1 .0) (then-put (then-put w (n .0)) (i .0)), omega (arith, w .after, n .1, i .1))
 
 pub put-refused-spec : {M : Type 1} → statement M
 put-refused-spec =
     tie.close
     (tie.spec
+    (λ c κs. search needs)
     (λ c. search needs)
     (λ c κs. search needs)
     (λ c κs. search needs)

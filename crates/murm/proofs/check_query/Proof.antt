@@ -9,6 +9,7 @@ use borrow.Author.Needs.{needs}
 use borrow.Author.Tests.{not-true, not-false}
 use Rattle.places.proofs.Placed.{area-le}
 use Rattle.tables.specs.Checks.{byteCount, anyBelow}
+use Rattle.refusal.specs.Told.{byRow}
 use Rattle.murm.specs.Work.{InRange}
 use Rattle.murm.proofs.Bytes.{byte-count, bytes-small}
 use Rattle.murm.proofs.Answers.{query-6, query-9, query-10, query-11, query-allowed}
@@ -27,18 +28,18 @@ exact : (c : tie.Else2) → let s = c .before .before .before .args in length (s
 exact c = c .if2 .left ∙ sized (c .before) .1
 
 returns : tie.Need-returns
-returns c = record { told = query-6 (c .before .args .width) (c .before .args .exponent) (c .before .args .entries .now) (c .if1 .taken); small = λ e. absurd (omega (arith, e)) }
+returns c = record { told = ap byRow (query-6 (c .before .args .width) (c .before .args .exponent) (c .before .args .entries .now) (c .if1 .taken)); small = λ e. absurd (omega (arith, e)) }
 
 returns-2 : tie.Need-returns-2
 returns-2 c = record {
-  told = query-9 (c .before .before .before .args .width) (c .before .before .before .args .exponent) (c .before .before .before .args .entries .now) (sized (c .before) .0) (λ q. c .if2 .taken (q ∙ sym (sized (c .before) .1)));
+  told = ap byRow (query-9 (c .before .before .before .args .width) (c .before .before .before .args .exponent) (c .before .before .before .args .entries .now) (sized (c .before) .0) (λ q. c .if2 .taken (q ∙ sym (sized (c .before) .1))));
   small = λ e. absurd (omega (arith, e));
 }
 
 returns-3 : tie.Need-returns-3
 returns-3 c = record {
-  told = query-10 (c .before .before .before .before .before .args .width) (c .before .before .before .before .before .args .exponent) (c .before .before .before .before .before .args .entries .now) (sized (c .before .before .before) .0) (exact (c .before .before))
-      (not-false _ (sym (c .before .in-range .ensures .told) ∙ not-true _ (c .if3 .taken)));
+  told = ap byRow (query-10 (c .before .before .before .before .before .args .width) (c .before .before .before .before .before .args .exponent) (c .before .before .before .before .before .args .entries .now) (sized (c .before .before .before) .0) (exact (c .before .before))
+      (not-false _ (sym (c .before .in-range .ensures .told) ∙ not-true _ (c .if3 .taken))));
   small = λ e. absurd (omega (arith, e));
 }
 
@@ -57,7 +58,7 @@ returns-4 : tie.Need-returns-4
 returns-4 c =
     let e = c .before .before in
     record {
-      told = query-11 (c .before .before .before .before .before .before .before .args .width) (c .before .before .before .before .before .before .before .args .exponent) (c .before .before .before .before .before .before .before .args .entries .now) (whole e .0) (exact (e .before .before)) (none-below e) (sym (c .before .is-divisible .ensures) ∙ c .if4 .taken);
+      told = ap byRow (query-11 (c .before .before .before .before .before .before .before .args .width) (c .before .before .before .before .before .before .before .args .exponent) (c .before .before .before .before .before .before .before .args .entries .now) (whole e .0) (exact (e .before .before)) (none-below e) (sym (c .before .is-divisible .ensures) ∙ c .if4 .taken));
       small = λ z. absurd (omega (arith, z));
     }
 
@@ -65,7 +66,7 @@ returns-5 : tie.Need-returns-5
 returns-5 c =
     let e = c .before .before in
     record {
-      told = query-allowed (c .before .before .before .before .before .before .before .args .width) (c .before .before .before .before .before .before .before .args .exponent) (c .before .before .before .before .before .before .before .args .entries .now) (whole e .0) (exact (e .before .before)) (none-below e) (sym (c .before .is-divisible .ensures) ∙ c .if4 .left);
+      told = ap byRow (query-allowed (c .before .before .before .before .before .before .before .args .width) (c .before .before .before .before .before .before .before .args .exponent) (c .before .before .before .before .before .before .before .args .entries .now) (whole e .0) (exact (e .before .before)) (none-below e) (sym (c .before .is-divisible .ensures) ∙ c .if4 .left));
       small = λ z. bytes-small _ _ (exact (e .before .before)) (ranged e .small refl);
     }
 

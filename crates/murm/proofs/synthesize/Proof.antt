@@ -1,12 +1,13 @@
 -- `synthesize` meets its contract: each test that was passed decides its row. Assumes nothing.
 use mathlib.Core.Path.{_≡_, sym, ap, _∙_}
 use mathlib.Core.Bool.{false}
-use native.Mathlib.Omega.{arith}
 use borrow.Author.Needs.{needs}
 use Rattle.tables.specs.Checks.{Arrays, arrays, roomRow}
 use Rattle.tables.specs.Tables.{Table, Query, query, recordRow}
 use Rattle.murm_config.specs.Told.{toldConfig, toldMurm}
-use Rattle.murm.specs.Entries.{toldQueryCheck}
+use Rattle.refusal.specs.Told.{toldCheck}
+use Rattle.refusal.specs.declared.Check.{Check}
+use Rattle.refusal.proofs.Numbers.{passed, refused}
 use Rattle.murm.proofs.Parts.{record-limits}
 use Rattle.murm.proofs.Asked.{bad-record, no-room, bad-query, good-query}
 use Rattle.murm.proofs.synthesize.Statement.{statement}
@@ -47,43 +48,22 @@ ask-requires : tie.Need-ask-requires
 ask-requires c κs =
     let e = c .before .before .before .before in
     let q = c .before .before .before .check-query .ensures in
-    let z = ap toldQueryCheck (c .before .enum-told .given .1) in
-    (recorded (e .before .before), (roomy e, (sym (q .told) ∙ z, q .small z)))
+    let z = c .before .enum-told .given .1 in
+    (recorded (e .before .before), (roomy e, (passed (q .told) z, q .small (ap (λ (x : Check). toldCheck x .number) z))))
 
 returns-3 : tie.Need-returns-3
 returns-3 c =
     let e = c .before .before .before .before .before .before .before in
     let q = c .before .before .before .before .before .before .check-query .ensures in
-    let z = ap toldQueryCheck (c .before .before .before .before .enum-told .given .1) in
-    c .before .before .ask .ensures ∙ good-query (table (c .before .before .before .before .before .before .before .before .before .before .before .before .before .before .before)) (memory (c .before .before .before .before .before .before .before .before .before .before .before .before .before .before .before)) (asked (c .before .before .before .before .before .before .before .before .before .before .before .before .before .before .before)) (c .before .before .before .before .before .before .before .before .before .before .before .before .before .before .before .args .out .now) (recorded (e .before .before)) (roomy e) (sym (q .told) ∙ z)
+    let z = c .before .before .before .before .enum-told .given .1 in
+    c .before .before .ask .ensures ∙ good-query (table (c .before .before .before .before .before .before .before .before .before .before .before .before .before .before .before)) (memory (c .before .before .before .before .before .before .before .before .before .before .before .before .before .before .before)) (asked (c .before .before .before .before .before .before .before .before .before .before .before .before .before .before .before)) (c .before .before .before .before .before .before .before .before .before .before .before .before .before .before .before .args .out .now) (recorded (e .before .before)) (roomy e) (passed (q .told) z)
 
 returns-4 : tie.Need-returns-4
 returns-4 c =
-    let e = c .before .before .before in
-    let z = ap toldQueryCheck (c .enum-told2 .given .1) in
-    bad-query (table (c .before .before .before .before .before .before .before .before .before .before .before)) (memory (c .before .before .before .before .before .before .before .before .before .before .before)) (asked (c .before .before .before .before .before .before .before .before .before .before .before)) (c .before .before .before .before .before .before .before .before .before .before .before .args .out .now) (recorded (e .before .before)) (roomy e) 6 (omega arith)
-    (sym (c .before .before .check-query .ensures .told) ∙ z)
-
-returns-5 : tie.Need-returns-5
-returns-5 c =
-    let e = c .before .before .before in
-    let z = ap toldQueryCheck (c .enum-told3 .given .1) in
-    bad-query (table (c .before .before .before .before .before .before .before .before .before .before .before)) (memory (c .before .before .before .before .before .before .before .before .before .before .before)) (asked (c .before .before .before .before .before .before .before .before .before .before .before)) (c .before .before .before .before .before .before .before .before .before .before .before .args .out .now) (recorded (e .before .before)) (roomy e) 9 (omega arith)
-    (sym (c .before .before .check-query .ensures .told) ∙ z)
-
-returns-6 : tie.Need-returns-6
-returns-6 c =
-    let e = c .before .before .before in
-    let z = ap toldQueryCheck (c .enum-told4 .given .1) in
-    bad-query (table (c .before .before .before .before .before .before .before .before .before .before .before)) (memory (c .before .before .before .before .before .before .before .before .before .before .before)) (asked (c .before .before .before .before .before .before .before .before .before .before .before)) (c .before .before .before .before .before .before .before .before .before .before .before .args .out .now) (recorded (e .before .before)) (roomy e) 10 (omega arith)
-    (sym (c .before .before .check-query .ensures .told) ∙ z)
-
-returns-7 : tie.Need-returns-7
-returns-7 c =
-    let e = c .before .before .before in
-    let z = ap toldQueryCheck (c .enum-told5 .given .1) in
-    bad-query (table (c .before .before .before .before .before .before .before .before .before .before .before)) (memory (c .before .before .before .before .before .before .before .before .before .before .before)) (asked (c .before .before .before .before .before .before .before .before .before .before .before)) (c .before .before .before .before .before .before .before .before .before .before .before .args .out .now) (recorded (e .before .before)) (roomy e) 11 (omega arith)
-    (sym (c .before .before .check-query .ensures .told) ∙ z)
+    let e = c .before .before .before .before in
+    let s = e .before .before .before .before .before .before .before .before in
+    bad-query (table s) (memory s) (asked s) (s .args .out .now) (recorded (e .before .before)) (roomy e)
+    (refused (c .before .before .before .check-query .ensures .told) (c .before .r .given .1))
 
 pub synthesize-spec : {M : Type 1} → statement M
 synthesize-spec =
@@ -98,11 +78,5 @@ synthesize-spec =
     ask-requires
     (λ c. search needs)
     (λ c. search needs)
-    (λ c. search needs)
-    (λ c. search needs)
-    (λ c. search needs)
     returns-3
-    returns-4
-    returns-5
-    returns-6
-    returns-7)
+    returns-4)

@@ -1,0 +1,56 @@
+// Why an operation is refused: document 01's table of checks, a case for each number. A new number is a case here, a line in `number_of` and a
+// line in specs/Told.antt.
+ghost use mathlib.Core.Path.{_≡_};
+ghost use Prim.Native.Nat.{_≤_};
+ghost use Rattle.refusal.specs.Told.{numberOf, positionOf};
+
+pub enum Refusal {
+    WidthLimit,
+    NoEntries,
+    Basis,
+    TooLarge,
+    ArrayTooShort,
+    WidthTooLarge,
+    NotValid(usize),
+    DoesNotFit(usize),
+    LengthNotExact,
+    OutOfRange,
+    NotLowest,
+    ListTooShort,
+    BadTable,
+    BrokenLine,
+    LongInput,
+}
+
+// What a check comes to.
+pub enum Check {
+    Passed,
+    Refused(Refusal),
+}
+
+// A refusal's number and its position, which is 0 where there is none.
+pub struct Numbered(pub u64, pub u64);
+
+pub fn number_of(refusal: Refusal) -> Numbered
+    ensures { λ r. ⌜ r .0 ≡ numberOf refusal ⌝ }
+    ensures { λ r. ⌜ r .1 ≡ positionOf refusal ⌝ }
+    ensures { λ r. ⌜ r .0 ≤ 15 ⌝ }
+{
+    match refusal {
+        Refusal::WidthLimit => Numbered(1, 0),
+        Refusal::NoEntries => Numbered(2, 0),
+        Refusal::Basis => Numbered(3, 0),
+        Refusal::TooLarge => Numbered(4, 0),
+        Refusal::ArrayTooShort => Numbered(5, 0),
+        Refusal::WidthTooLarge => Numbered(6, 0),
+        Refusal::NotValid(i) => Numbered(7, i as u64),
+        Refusal::DoesNotFit(i) => Numbered(8, i as u64),
+        Refusal::LengthNotExact => Numbered(9, 0),
+        Refusal::OutOfRange => Numbered(10, 0),
+        Refusal::NotLowest => Numbered(11, 0),
+        Refusal::ListTooShort => Numbered(12, 0),
+        Refusal::BadTable => Numbered(13, 0),
+        Refusal::BrokenLine => Numbered(14, 0),
+        Refusal::LongInput => Numbered(15, 0),
+    }
+}

@@ -7,7 +7,7 @@ ghost use lib.Seq.{sets};
 ghost use Rattle.ints.specs.Lists.{over};
 ghost use Rattle.exact.specs.Fits.{AllSmall};
 ghost use Rattle.exact.specs.Fingerprint.{fingerprint};
-ghost use Rattle.places.specs.Places.{read, held};
+ghost use Rattle.exact.specs.Places.{read, held};
 ghost use Rattle.tables.specs.Tables.{query};
 ghost use Rattle.tables.specs.Checks.{limitsOf, arrays};
 ghost use Rattle.murm_config.specs.Told.{toldConfig, toldWidth, toldMurm};

@@ -25,7 +25,7 @@ use Rattle.exact.specs.Answers as e
 use Rattle.exact.proofs.Acts.{power-of, power-sym, power-trans}
 use Rattle.exact.proofs.Papers.{paper-value}
 use Rattle.exact.proofs.Coded.{valid-below}
-use Rattle.places.specs.Places.{held}
+use Rattle.exact.specs.Places.{held}
 use Rattle.walk.specs.Walk.{gate}
 use Rattle.walk.specs.AtWidth.{atWidth, ListOf}
 use Rattle.width_table.specs.Table.{parentOf}

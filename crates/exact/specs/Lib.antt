@@ -7,3 +7,4 @@ pub mod Answers
 pub mod Unitary
 pub mod Phase
 pub mod Fingerprint
+pub mod Places

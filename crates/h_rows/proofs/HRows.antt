@@ -18,7 +18,8 @@ use Rattle.ints.proofs.Bools.{clash}
 use Rattle.cyclotomic.specs.Zomega.{Zω, limit, addω, subω, Small, sizesPass}
 use Rattle.cyclotomic.proofs.Sizes.{SizesSmall, sizes-sum, sizes-difference, both-sizes}
 use Rattle.exact.specs.Fits.{AllSmall}
-use Rattle.places.specs.Places.{places, entry, put, read, Same, Kept}
+use Rattle.exact.specs.Places.{entry, read}
+use Rattle.places.specs.Places.{places, put, Same, Kept}
 use Rattle.rows.specs.Rows.{has, hRows}
 use Rattle.h_rows.specs.Work.{Summed, SizesFit, SumsFit, PairFits, PairSummed, Tells}
 use Rattle.places.proofs.Placed.{length-put, entry-put-same, entry-put-other, row-inside, row-le, row-before, rows-apart, kept-refl, kept-trans, kept-same, kept-entries}

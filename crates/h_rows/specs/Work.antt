@@ -8,7 +8,8 @@ use lib.ListN.{length}
 use lib.Bits.{bitOr}
 use Rattle.cyclotomic.specs.Zomega.{Zω, limit, addω, subω, Small}
 use Rattle.exact.specs.Fits.{AllSmall}
-use Rattle.places.specs.Places.{places, entry, Same, read, Kept}
+use Rattle.exact.specs.Places.{entry, read}
+use Rattle.places.specs.Places.{places, Same, Kept}
 use Rattle.rows.specs.Rows.{has}
 use Rattle.rows.specs.Work.{at}
 

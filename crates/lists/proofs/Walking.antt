@@ -18,7 +18,7 @@ use Rattle.exact.proofs.Listed.{product-snoc}
 use Rattle.exact.proofs.Coded.{proper}
 use Rattle.exact.proofs.Answered.{step-given, step-refused, given-list, refused-list}
 use Rattle.exact.proofs.Keeps.{step-equal, act-equal', equal-lowest}
-use Rattle.places.specs.Places.{held}
+use Rattle.exact.specs.Places.{held}
 use Rattle.matrix.specs.Step.{Holds, Ready, Stepped}
 use Rattle.matrix.specs.declared.Applied.{Applied}
 use Rattle.matrix.specs.declared.Applied.the-variants.{Done, DoesNotFit}

@@ -13,7 +13,8 @@ use Rattle.cyclotomic.proofs.Squares.{small-zero, small-one}
 use Rattle.cyclotomic.proofs.Number.{each}
 use Rattle.exact.specs.Matrix.{identity}
 use Rattle.exact.proofs.Values.{pick-ind}
-use Rattle.places.specs.Places.{places, entry, put, read, Blank}
+use Rattle.exact.specs.Places.{entry, read}
+use Rattle.places.specs.Places.{places, put, Blank}
 use Rattle.places.proofs.Placed.{entry-put-same, entry-put-other, length-put, place-fits, rows-apart, kept-put}
 use Rattle.exact.proofs.Phases.{flat-lt}
 use Rattle.matrix.specs.Step.{Holds}

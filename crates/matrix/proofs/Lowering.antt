@@ -13,7 +13,8 @@ use Rattle.cyclotomic.proofs.Squares.{small-over}
 use Rattle.exact.specs.Matrix.{sqrt2s, Equal, allDivisible, lower}
 use Rattle.exact.proofs.Values.{sqrt2s-sqrt2, divisible-to, equal-refl, equal-sym, equal-trans, lower-unique, lower-stays}
 use Rattle.exact.specs.Fits.{AllSmall}
-use Rattle.places.specs.Places.{places, read, held, Same, Kept}
+use Rattle.exact.specs.Places.{read, held}
+use Rattle.places.specs.Places.{places, Same, Kept}
 use Rattle.places.proofs.Placed.{kept-refl, kept-trans}
 use Rattle.rows.specs.Rows.{dividedAll}
 use Rattle.matrix.specs.Step.{Holds}

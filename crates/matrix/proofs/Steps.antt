@@ -15,7 +15,8 @@ use Rattle.exact.specs.Fits.{mostK, AllSmall}
 use Rattle.exact.proofs.Values.{equal-sym, equal-trans, equal-same, lower-unique, entries-to, entries-from}
 use Rattle.exact.proofs.Answered.{given-step, refused-step}
 use Rattle.exact.proofs.Keeps.{phase-act, exchange-act, phase-small, exchange-small, phase-step-fits, exchange-step-fits, had-step, had-step-k}
-use Rattle.places.specs.Places.{places, read, held, Same, Kept}
+use Rattle.exact.specs.Places.{read, held}
+use Rattle.places.specs.Places.{places, Same, Kept}
 use Rattle.places.proofs.Placed.{kept-refl, kept-trans}
 use Rattle.rows.specs.Rows.{phaseRows, exchangeRows, hRows}
 use Rattle.rows.proofs.ByMask.{phase-rows, exchange-rows, h-rows}

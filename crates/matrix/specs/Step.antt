@@ -10,7 +10,8 @@ use Rattle.circuit.specs.Pairs.{maskOf}
 use Rattle.exact.specs.Rows.{Gate, phase, exchange, act, Proper}
 use Rattle.exact.specs.Fits.{AllSmall}
 use Rattle.exact.specs.Answers.{Answer, given, refused, stepAnswer}
-use Rattle.places.specs.Places.{places, read, held, Kept}
+use Rattle.exact.specs.Places.{read, held}
+use Rattle.places.specs.Places.{places, Kept}
 use Rattle.matrix.specs.declared.UnitaryMatrix.{UnitaryMatrix}
 use Rattle.matrix.specs.declared.Applied.{Applied}
 use Rattle.matrix.specs.declared.Applied.the-variants.{Done, DoesNotFit}

@@ -12,7 +12,7 @@ use lib.ListN.{length, take}
 use Rattle.exact.specs.Matrix.{allDivisible}
 use Rattle.exact.specs.Lists.{product}
 use Rattle.exact.specs.Answers.{given, refused, listAnswer}
-use Rattle.places.specs.Places.{read}
+use Rattle.exact.specs.Places.{read}
 use Rattle.matrix.specs.Step.{Holds}
 use Rattle.refusal.specs.Told.{Reason, numberOf, positionOf}
 use Rattle.refusal.specs.declared.Refusal.{Refusal}

@@ -15,7 +15,7 @@ use Rattle.exact.specs.Matrix.{Exact, Equal}
 use Rattle.exact.specs.Fits.{AllSmall}
 use Rattle.exact.specs.Phase.{flat}
 use Rattle.exact.proofs.Phases.{row-lt, col-lt, flat-lt, at-flat}
-use Rattle.places.specs.Places.{entry, read, held}
+use Rattle.exact.specs.Places.{entry, read, held}
 use Rattle.places.proofs.Placed.{area-le, read-at, at-small}
 use Rattle.matrix.specs.Step.{Holds}
 use Rattle.tables.specs.Checks.{byteCount}

@@ -22,7 +22,7 @@ use Rattle.exact.proofs.Papers.{paper-value}
 use Rattle.exact.proofs.Keeps.{equal-lowest}
 use Rattle.exact.proofs.TooLarge.{too-large-exactly}
 use Rattle.exact.proofs.Answered.{isGiven, number, refused-list, list-refused}
-use Rattle.places.specs.Places.{held}
+use Rattle.exact.specs.Places.{held}
 use Rattle.tables.specs.Checks.{byteCount}
 use Rattle.murm.specs.Entries.{Outcome, outcome, firstInvalid, formed, listed}
 use Rattle.murm.specs.Demands.{Demand2}

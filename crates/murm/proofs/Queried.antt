@@ -19,7 +19,7 @@ use Rattle.exact.specs.Phase.{flat}
 use Rattle.exact.proofs.Phases.{row-lt, col-lt}
 use Rattle.exact.proofs.Bounds.{product-small}
 use Rattle.exact.proofs.Answered.{isGiven}
-use Rattle.places.specs.Places.{read, held}
+use Rattle.exact.specs.Places.{read, held}
 use Rattle.tables.specs.Checks.{byteCount, anyBelow, firstRow, queryRows}
 use Rattle.murm.specs.Entries.{Outcome, outcome, bytesOf, coefficients, formed, listed}
 use Rattle.murm.proofs.Bytes.{byte-count}

@@ -14,7 +14,7 @@ use Rattle.exact.specs.Matrix.{SameValue, Lowest}
 use Rattle.exact.specs.Paper.{paperProduct}
 use Rattle.exact.specs.Fits.{FirstPast}
 use Rattle.exact.specs.Answers.{given, refused}
-use Rattle.places.specs.Places.{held}
+use Rattle.exact.specs.Places.{held}
 use Rattle.tables.specs.Checks.{byteCount}
 use Rattle.tables.specs.Demand3.{Demand3}
 use Rattle.murm.specs.Entries.{outcome, listed}

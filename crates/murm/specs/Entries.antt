@@ -13,7 +13,7 @@ use Rattle.exact.specs.Lists.{product}
 use Rattle.exact.specs.Answers.{Answer, given, refused, listAnswer}
 use Rattle.exact.specs.Phase.{flat}
 use Rattle.exact.specs.Fingerprint.{fingerprint}
-use Rattle.places.specs.Places.{held}
+use Rattle.exact.specs.Places.{held}
 use Rattle.width_answer.specs.Answers.{Reply}
 use Rattle.width_answer.specs.Answers as a
 use Rattle.tables.specs.Checks.{byteCount, firstRow, queryRows, Arrays}

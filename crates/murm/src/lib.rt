@@ -7,7 +7,7 @@ ghost use lib.Dec.{ltb};
 ghost use lib.ListN.{length, take, drop};
 ghost use Rattle.exact.specs.Matrix.{allDivisible};
 ghost use Rattle.exact.specs.Fits.{AllSmall};
-ghost use Rattle.places.specs.Places.{read, held};
+ghost use Rattle.exact.specs.Places.{read, held};
 ghost use Rattle.width_answer.specs.Answers.{answerOf, toldAnswered};
 ghost use Rattle.width_answer.specs.Answers.{outcome as replied};
 ghost use Rattle.tables.specs.Checks.{firstRow, queryRows, arrays, roomRow};

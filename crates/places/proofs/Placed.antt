@@ -19,7 +19,8 @@ use Rattle.exact.specs.Matrix.{allDivisible}
 use Rattle.exact.specs.Fits.{AllSmall}
 use Rattle.exact.proofs.Values.{divisible-to, divisible-from}
 use Rattle.exact.proofs.Phases.{row-lt, col-lt, flat-lt}
-use Rattle.places.specs.Places.{entry, put, read, Kept}
+use Rattle.exact.specs.Places.{entry, read}
+use Rattle.places.specs.Places.{put, Kept}
 
 -- ---- sizes, for all widths together
 

@@ -1,30 +1,17 @@
--- How 4,096 signed places hold a matrix: four for each entry, row-major. Assumes nothing.
+-- What is done to 4,096 signed places that hold a matrix. Assumes nothing.
 use mathlib.Core.Path.{_≡_}
 use mathlib.Core.List.{List}
 use Prim.Native.Nat.{ℕ, _+_, _*_, _^_, _≤_, _<_}
 use lib.IntN.{ℤ, pos}
 use lib.ListN.{getD, set}
-use Rattle.cyclotomic.specs.Zomega.{Zω, mk}
-use Rattle.exact.specs.Matrix.{Exact}
+use Rattle.cyclotomic.specs.Zomega.{Zω}
 
 abbrev pub places : ℕ
 places = 4096
 
--- the entry at place e, counted in entries
-unfoldable pub entry : List ℤ → ℕ → Zω
-entry l e = mk (getD l (4 * e) (pos 0)) (getD l (4 * e + 1) (pos 0)) (getD l (4 * e + 2) (pos 0)) (getD l (4 * e + 3) (pos 0))
-
 -- the list with z at place e
 unfoldable pub put : List ℤ → ℕ → Zω → List ℤ
 put l e z = set (set (set (set l (4 * e) (z .a)) (4 * e + 1) (z .b)) (4 * e + 2) (z .c)) (4 * e + 3) (z .d)
-
--- the entries of the matrix of width n
-abbrev pub read : ℕ → List ℤ → ℕ → ℕ → Zω
-read n l r c = entry l (r * 2 ^ n + c)
-
--- the matrix of width n over √2 to the k
-abbrev pub held : ℕ → ℕ → List ℤ → Exact
-held n k l = record { k = k; e = read n l }
 
 -- two matrices of width n have the same entries
 pub record Same (n : ℕ) (x y : ℕ → ℕ → Zω) : Type 0 where

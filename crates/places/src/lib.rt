@@ -2,7 +2,8 @@
 ghost use mathlib.Core.Path.{_≡_};
 ghost use Prim.Native.Nat.{_+_, _*_, _^_, _<_, _≤_};
 ghost use lib.ListN.{length};
-ghost use Rattle.places.specs.Places.{entry, put};
+ghost use Rattle.exact.specs.Places.{entry};
+ghost use Rattle.places.specs.Places.{put};
 use cyclotomic::Coefficient;
 use cyclotomic::Cyclotomic;
 

@@ -11,7 +11,7 @@ use Rattle.cyclotomic.specs.Zomega.{turn, eqω}
 use Rattle.exact.specs.Phase.{phaseOf, phased, upToPhase}
 use Rattle.exact.proofs.Phases.{row-lt, col-lt, flat-lt}
 use Rattle.exact.proofs.Values.{entries-to, entries-from}
-use Rattle.places.specs.Places.{entry, held}
+use Rattle.exact.specs.Places.{entry, held}
 use Rattle.places.proofs.Placed.{read-at}
 use Rattle.prints.proofs.Pivots.{phase-any}
 

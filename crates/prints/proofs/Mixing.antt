@@ -10,7 +10,7 @@ use Rattle.words.specs.Words.{words}
 use Rattle.exact.specs.Phase.{flat, phaseOf, phased}
 use Rattle.exact.specs.Fingerprint.{Streams, start, mix, mixAll, fold, fourWords, wordsOf, fingerprint}
 use Rattle.exact.proofs.Prints.{words-same}
-use Rattle.places.specs.Places.{entry, held}
+use Rattle.exact.specs.Places.{entry, held}
 use Rattle.places.proofs.Placed.{read-at}
 use Rattle.prints.proofs.Pivots.{phase-any}
 

@@ -10,7 +10,7 @@ use Rattle.cyclotomic.specs.Zomega.{Zω, turn, isZero, less, leastUpTo, phase}
 use Rattle.cyclotomic.proofs.Answers.{zero-yes}
 use Rattle.exact.specs.Phase.{firstNonzero, pivot, phaseOf, flat}
 use Rattle.exact.proofs.Phases.{flat-lt, phase-of-zero}
-use Rattle.places.specs.Places.{entry, read, held}
+use Rattle.exact.specs.Places.{entry, read, held}
 use Rattle.places.proofs.Placed.{read-at}
 use Rattle.prints.specs.Prints.{FirstNonzero}
 

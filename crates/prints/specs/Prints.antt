@@ -5,7 +5,7 @@ use mathlib.Core.List.{List}
 use Prim.Native.Nat.{ℕ, _≤_, _<_}
 use lib.IntN.{ℤ}
 use Rattle.cyclotomic.specs.Zomega.{isZero, Small}
-use Rattle.places.specs.Places.{entry}
+use Rattle.exact.specs.Places.{entry}
 use Rattle.exact.specs.Fingerprint as exact
 use Rattle.prints.specs.declared.Streams.{Streams}
 

@@ -4,7 +4,7 @@ ghost use mathlib.Core.Path.{_≡_};
 ghost use Prim.Native.Nat.{_*_, _^_, _<_, _≤_};
 ghost use lib.ListN.{length};
 ghost use Rattle.cyclotomic.specs.Zomega.{phase, Small, turn};
-ghost use Rattle.places.specs.Places.{entry, read, held};
+ghost use Rattle.exact.specs.Places.{entry, read, held};
 ghost use Rattle.exact.specs.Fits.{AllSmall};
 ghost use Rattle.exact.specs.Phase.{phaseOf, upToPhase};
 ghost use Rattle.exact.specs.Fingerprint.{mix, mixAll, fold, fourWords, wordsOf, fingerprint};

@@ -20,7 +20,8 @@ use Rattle.ints.proofs.Bits.{digit-lt, below, and-digit, or-digit}
 use Rattle.ints.proofs.Bools.{clash}
 use Rattle.cyclotomic.proofs.Number.{each}
 use Rattle.exact.proofs.Flips.{bit-own}
-use Rattle.places.specs.Places.{entry, read, Kept}
+use Rattle.exact.specs.Places.{entry, read}
+use Rattle.places.specs.Places.{Kept}
 use Rattle.places.proofs.Placed.{row-le, row-before, row-inside, kept-refl}
 use Rattle.cyclotomic.specs.Zomega.{Zω}
 use Rattle.rows.specs.Rows.{has, lowRow, sourceRow, exchangeRows}

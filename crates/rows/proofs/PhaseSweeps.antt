@@ -8,7 +8,7 @@ use lib.IntN.{ℤ}
 use lib.Bits.{bitAnd}
 use Rattle.cyclotomic.specs.Zomega.{turn, Small}
 use Rattle.exact.specs.Fits.{AllSmall}
-use Rattle.places.specs.Places.{read}
+use Rattle.exact.specs.Places.{read}
 use Rattle.rows.specs.Rows.{phaseRows}
 use Rattle.rows.specs.Work.{Turned, SmallFrom}
 use Rattle.places.proofs.Placed.{rows-apart, kept-entries}

@@ -7,7 +7,8 @@ use borrow.Author.Count.{below-more}
 use lib.IntN.{ℤ}
 use lib.ListN.{length}
 use Rattle.cyclotomic.specs.Zomega.{Zω, turn, overSqrt2}
-use Rattle.places.specs.Places.{places, entry, put}
+use Rattle.exact.specs.Places.{entry}
+use Rattle.places.specs.Places.{places, put}
 use Rattle.rows.specs.Work.{Turned, Divided}
 use Rattle.places.proofs.Placed.{entry-put-same, entry-put-other, length-put}
 

@@ -7,7 +7,8 @@ use native.Mathlib.Decide.{ℕ-discrete}
 use lib.IntN.{ℤ}
 use lib.ListN.{length}
 use Rattle.cyclotomic.specs.Zomega.{Zω}
-use Rattle.places.specs.Places.{places, read, Same, Kept}
+use Rattle.exact.specs.Places.{read}
+use Rattle.places.specs.Places.{places, Same, Kept}
 use Rattle.places.proofs.Placed.{kept-refl, kept-trans}
 use Rattle.rows.specs.Work.{Worked}
 

@@ -5,7 +5,8 @@ use Prim.Native.Nat.{ℕ, _+_, _^_, _≤_, _<_}
 use lib.IntN.{ℤ, pos}
 use lib.ListN.{length, getD}
 use Rattle.cyclotomic.specs.Zomega.{Zω, turn, overSqrt2, Small}
-use Rattle.places.specs.Places.{entry, read, Kept}
+use Rattle.exact.specs.Places.{entry, read}
+use Rattle.places.specs.Places.{Kept}
 
 -- the place j
 abbrev pub at : List ℤ → ℕ → ℤ

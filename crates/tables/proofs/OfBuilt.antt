@@ -13,7 +13,7 @@ use lib.Seq.{getD-take, getD-drop}
 use Rattle.ints.proofs.Bools.{neither}
 use Rattle.exact.specs.Matrix.{Exact, Lowest, allDivisible}
 use Rattle.exact.proofs.Values.{pick-ind}
-use Rattle.places.specs.Places.{read, held}
+use Rattle.exact.specs.Places.{read, held}
 use Rattle.walk.specs.AtWidth.{answered}
 use Rattle.width_answer.specs.Answers.{given, refused, outcome, answerOf}
 use Rattle.width_answer.specs.Answers as a

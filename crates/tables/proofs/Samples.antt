@@ -28,7 +28,7 @@ use Rattle.exact.specs.Lists.{product}
 use Rattle.exact.specs.Fits.{stepFits, steps}
 use Rattle.exact.specs.Phase.{pivot, phaseOf, upToPhase}
 use Rattle.exact.specs.Fingerprint.{mix, fold, fingerprint}
-use Rattle.places.specs.Places.{entry}
+use Rattle.exact.specs.Places.{entry}
 use Rattle.synthesis_arena.specs.Lookup.{lowestFrom}
 use Rattle.synthesis_arena.specs.Chains.{marked, chainOf}
 use Rattle.walk.specs.Walk.{skipped, try, tryAll, layer, deeper, depths, walk}

@@ -9,7 +9,7 @@ use Rattle.ints.specs.Lists.{pick}
 use Rattle.cyclotomic.specs.Zomega.{limit, eqZ}
 use Rattle.circuit.specs.Sets.{supported, subset}
 use Rattle.exact.specs.Matrix.{allDivisible}
-use Rattle.places.specs.Places.{read}
+use Rattle.exact.specs.Places.{read}
 
 -- ---- "Rows of a place are tried top down."
 

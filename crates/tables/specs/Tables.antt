@@ -7,7 +7,7 @@ use lib.Dec.{eqb, ltb}
 use lib.ListN.{length, getD, take, drop}
 use Rattle.ints.specs.Lists.{pick, over}
 use Rattle.exact.specs.Matrix.{Exact}
-use Rattle.places.specs.Places.{held}
+use Rattle.exact.specs.Places.{held}
 use Rattle.walk.specs.Walk.{Build, gate, any}
 use Rattle.walk.specs.AtWidth.{built}
 use Rattle.width_table.specs.Table.{printOf, parentOf}

@@ -14,7 +14,7 @@ use Rattle.exact.specs.Answers.{given, refused, bySteps, listAnswer}
 use Rattle.exact.proofs.Answered.{isGiven, number, list-refused}
 use Rattle.exact.proofs.Phases.{up-trans, phased-test, phased-equal}
 use Rattle.exact.proofs.Values.{equal-sym}
-use Rattle.places.specs.Places.{held}
+use Rattle.exact.specs.Places.{held}
 use Rattle.lists.specs.Walk.{HoldsProduct}
 use Rattle.width_answer.specs.Answers.{fitsAll, rechecked}
 

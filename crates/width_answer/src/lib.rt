@@ -8,7 +8,7 @@ ghost use lib.ListN.{length, drop};
 ghost use Rattle.ints.specs.Lists.{all};
 ghost use Rattle.circuit.specs.Codes.{valid};
 ghost use Rattle.exact.specs.Fits.{AllSmall};
-ghost use Rattle.places.specs.Places.{read, held};
+ghost use Rattle.exact.specs.Places.{read, held};
 ghost use Rattle.synthesis_arena.specs.Chains.{chainOf};
 ghost use Rattle.width_answer.specs.Answers.{rechecked, outcome, ofChain, answerOf, toldAnswered};
 use circuit::GateSet;

@@ -19,7 +19,8 @@ use Rattle.exact.specs.Answers.{given, refused}
 use Rattle.exact.proofs.Keeps.{equal-lowest}
 use Rattle.exact.proofs.Phases.{flat-lt}
 use Rattle.exact.proofs.Values.{equal-sym}
-use Rattle.places.specs.Places.{places, entry, read, held}
+use Rattle.exact.specs.Places.{entry, read, held}
+use Rattle.places.specs.Places.{places}
 use Rattle.matrix.specs.Step.{Ready}
 use Rattle.walk.proofs.Sequences.{lt-or}
 use Rattle.width_table.specs.Table.{Copied, printAfter}

@@ -29,7 +29,7 @@ use Rattle.exact.proofs.Values.{equal-sym}
 use Rattle.exact.proofs.Keeps.{equal-lowest}
 use Rattle.synthesis_arena.specs.Chains.{Chain, good, bad, then, marked, chainOf}
 use Rattle.synthesis_arena.proofs.Chaining.{chain-more}
-use Rattle.places.specs.Places.{held}
+use Rattle.exact.specs.Places.{held}
 use Rattle.matrix.specs.Step.{Holds, Ready}
 use Rattle.walk.specs.Walk.{Node, root, listAt, parentAt, prod}
 use Rattle.walk.specs.Answer.{stepsFit, recheck}

@@ -3,7 +3,7 @@ use Prim.Native.Nat.{_+_, _-_, _≤_, _<_}
 use native.Mathlib.Omega.{arith}
 use borrow.Author.Needs.{needs}
 use mathlib.Core.Path.{_≡_, refl, _∙_}
-use Rattle.places.specs.Places.{entry}
+use Rattle.exact.specs.Places.{entry}
 use Rattle.h_rows.specs.Work.{Summed}
 use Rattle.h_rows.proofs.HRows.{summed-none, summed-low, summed-high, summed-more, summed-to}
 use Rattle.h_rows.proofs.sum_row.Statement.{statement}

@@ -1,6 +1,6 @@
 -- `get` meets its contract: it reads the entry's four places.
 use borrow.Author.Needs.{needs}
-use Rattle.places.specs.Places.{entry}
+use Rattle.exact.specs.Places.{entry}
 use Rattle.places.proofs.get.Statement.{statement}
 use Rattle.places.proofs.get.Tie as tie
 

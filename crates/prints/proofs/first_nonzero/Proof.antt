@@ -8,7 +8,7 @@ use borrow.Author.Count.{below-more}
 use borrow.Author.Needs.{needs}
 use Rattle.cyclotomic.specs.Zomega.{isZero}
 use Rattle.cyclotomic.proofs.Number.{fails, holds}
-use Rattle.places.specs.Places.{entry}
+use Rattle.exact.specs.Places.{entry}
 use Rattle.prints.proofs.first_nonzero.Statement.{statement}
 use Rattle.prints.proofs.first_nonzero.Tie as tie
 

@@ -6,7 +6,7 @@ use native.Mathlib.Numerals.{add-one}
 use borrow.Author.Needs.{needs}
 use Rattle.cyclotomic.specs.Zomega.{turn}
 use Rattle.exact.specs.Fingerprint.{mixAll, wordsOf}
-use Rattle.places.specs.Places.{entry}
+use Rattle.exact.specs.Places.{entry}
 use Rattle.prints.specs.Prints.{streams}
 use Rattle.prints.proofs.Mixing.{words-last}
 use Rattle.prints.proofs.mix_entries.Statement.{statement}

@@ -8,7 +8,7 @@ use borrow.Author.Count.{below-more}
 use borrow.Author.Needs.{needs}
 use borrow.Author.Tests.{not-true, not-false}
 use Rattle.cyclotomic.specs.Zomega.{divisible}
-use Rattle.places.specs.Places.{entry}
+use Rattle.exact.specs.Places.{entry}
 use Rattle.places.proofs.Placed.{divisible-yes, divisible-no}
 use Rattle.rows.proofs.all_divisible.Statement.{statement}
 use Rattle.rows.proofs.all_divisible.Tie as tie

@@ -2,7 +2,7 @@
 use Prim.Native.Nat.{_-_, _^_}
 use native.Mathlib.Omega.{arith}
 use borrow.Author.Needs.{needs}
-use Rattle.places.specs.Places.{read}
+use Rattle.exact.specs.Places.{read}
 use Rattle.rows.specs.Rows.{lowRow, exchangeRows}
 use Rattle.rows.proofs.Sweeps.{Swept, swept-none, swept-more, swept-end}
 use Rattle.rows.proofs.Pairs.{pair-same}

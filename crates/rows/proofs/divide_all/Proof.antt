@@ -4,7 +4,7 @@ use Prim.Native.Nat.{_-_, _≤_, _<_}
 use native.Mathlib.Omega.{arith}
 use borrow.Author.Needs.{needs}
 use Rattle.cyclotomic.specs.Zomega.{overSqrt2}
-use Rattle.places.specs.Places.{entry}
+use Rattle.exact.specs.Places.{entry}
 use Rattle.rows.specs.Work.{Divided}
 use Rattle.places.proofs.Placed.{area-le, small-at, kept-entries}
 use Rattle.exact.proofs.Phases.{flat-lt}

@@ -4,7 +4,7 @@ use Prim.Native.Nat.{_+_, _-_, _≤_}
 use native.Mathlib.Omega.{arith}
 use borrow.Author.Needs.{needs}
 use Rattle.cyclotomic.specs.Zomega.{turn}
-use Rattle.places.specs.Places.{entry}
+use Rattle.exact.specs.Places.{entry}
 use Rattle.rows.specs.Work.{Turned}
 use Rattle.rows.proofs.Runs.{turned-none, turned-next, turned-more}
 use Rattle.rows.proofs.turn_row.Statement.{statement}

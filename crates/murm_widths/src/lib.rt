@@ -7,9 +7,9 @@ ghost use Rattle.ints.specs.Lists.{over};
 ghost use Rattle.tables.specs.Tables.{widthOf, walkOf, recordOf, printsOf, parentsOf, codesOf, within, filledTo};
 ghost use Rattle.tables.specs.Checks.{limitsOf, placesOf};
 ghost use Rattle.murm_config.specs.Told.{toldConfig, toldWidth, toldMurm};
-use circuit::GateSet;
 use murm_config::Murm;
 use murm_config::MurmConfig;
+use width_table::WidthLimits;
 use width_table::WidthTable;
 
 // The part of width v + 1. The width limit, 0 in the clauses, plays no part in a width's walk.
@@ -32,11 +32,14 @@ fn build_part(
     let e = entries as usize;
     let a = v as usize * e;
     let end = a + e;
+    let limits = WidthLimits {
+        width: v + 1,
+        basis,
+        gates: gates as usize,
+        entries: e,
+    };
     width_table::build_width(
-        v + 1,
-        GateSet(basis),
-        gates as usize,
-        e,
+        limits,
         &mut fingerprints[a..end],
         &mut parents[a..end],
         &mut codes[a..end],

@@ -32,6 +32,14 @@ pub enum Candidate {
     DoesNotFit,
 }
 
+// The limits of a width: its number, the basis as a set, the gate limit, the entry limit.
+pub struct WidthLimits {
+    pub width: u32,
+    pub basis: u32,
+    pub gates: usize,
+    pub entries: usize,
+}
+
 // How many nodes there are now, and whether one more was wanted than there may be.
 pub struct Tried {
     pub count: usize,
@@ -170,7 +178,7 @@ fn append(
 fn try_candidate(
     m: &[Coefficient],
     exponent: u16,
-    width: u32,
+    limits: WidthLimits,
     gate: u32,
     scratch: &mut [Coefficient; 4096],
     fingerprints: &mut [u64],
@@ -178,14 +186,13 @@ fn try_candidate(
     codes: &mut [u32],
     count: usize,
     node: usize,
-    entries: usize,
 ) -> Tried
-    requires { ⌜ width ≤ 5 ⌝ }
-    requires { ⌜ valid width gate ≡ true ⌝ }
-    requires { ⌜ Ready width exponent (now m) ⌝ }
+    requires { ⌜ (limits .width) ≤ 5 ⌝ }
+    requires { ⌜ valid (limits .width) gate ≡ true ⌝ }
+    requires { ⌜ Ready (limits .width) exponent (now m) ⌝ }
     requires { ⌜ length (now scratch) ≡ places ⌝ }
-    requires { ⌜ Room entries count node (now fingerprints) (now parents) (now codes) ⌝ }
-    ensures { λ r. ⌜ ((basis : ℕ) (h : Live width basis entries (now (fingerprints .entry)) (now (parents .entry)) (now (codes .entry)) count node (suc node)) → Equal width (held width exponent (now (m .entry))) (prod (atWidth width basis) (listAt (h .ns) node)) → After width basis (h .f0) (h .u0) (h .c0) (try (atWidth width basis) entries (unsaturated (h .ns)) node gate) (now (fingerprints .exit)) (now (parents .exit)) (now (codes .exit)) (r .count) (r .saturated)) ⌝ }
+    requires { ⌜ Room (limits .entries) count node (now fingerprints) (now parents) (now codes) ⌝ }
+    ensures { λ r. ⌜ ((h : Live (limits .width) (limits .basis) (limits .entries) (now (fingerprints .entry)) (now (parents .entry)) (now (codes .entry)) count node (suc node)) → Equal (limits .width) (held (limits .width) exponent (now (m .entry))) (prod (atWidth (limits .width) (limits .basis)) (listAt (h .ns) node)) → After (limits .width) (limits .basis) (h .f0) (h .u0) (h .c0) (try (atWidth (limits .width) (limits .basis)) (limits .entries) (unsaturated (h .ns)) node gate) (now (fingerprints .exit)) (now (parents .exit)) (now (codes .exit)) (r .count) (r .saturated)) ⌝ }
     ensures { λ _. ⌜ length (now (scratch .exit)) ≡ places ⌝ }
 {
     if is_pruned(codes, node, gate) {
@@ -194,7 +201,8 @@ fn try_candidate(
             saturated: false,
         };
     }
-    let Candidate::Print(print) = candidate_print(m, exponent, width as usize, gate, scratch) else {
+    let Candidate::Print(print) = candidate_print(m, exponent, limits.width as usize, gate, scratch)
+    else {
         return Tried {
             count,
             saturated: false, // "It saturates nothing."
@@ -208,30 +216,29 @@ fn try_candidate(
         codes,
         count,
         node,
-        entries,
+        limits.entries,
     )
 }
 
 // One node: each generator, in order.
 fn try_node(
-    width: u32,
-    basis: u32,
+    limits: WidthLimits,
     gates: &[u32],
     fingerprints: &mut [u64],
     parents: &mut [u32],
     codes: &mut [u32],
     count: usize,
     node: usize,
-    entries: usize,
 ) -> Tried
-    requires { ⌜ (width ≤ 5) × (node < count) × (entries ≤ 1000000) ⌝ }
-    requires { ⌜ now gates ≡ generators width basis ⌝ }
-    requires { ⌜ Live width basis entries (now fingerprints) (now parents) (now codes) count node (suc node) ⌝ }
-    ensures { λ r. ⌜ ((h : Live width basis entries (now (fingerprints .entry)) (now (parents .entry)) (now (codes .entry)) count node (suc node)) → After width basis (h .f0) (h .u0) (h .c0) (tryAll (atWidth width basis) entries (unsaturated (h .ns)) node (generators width basis)) (now (fingerprints .exit)) (now (parents .exit)) (now (codes .exit)) (r .count) (r .saturated)) ⌝ }
+    requires { ⌜ ((limits .width) ≤ 5) × (node < count) × ((limits .entries) ≤ 1000000) ⌝ }
+    requires { ⌜ now gates ≡ generators (limits .width) (limits .basis) ⌝ }
+    requires { ⌜ Live (limits .width) (limits .basis) (limits .entries) (now fingerprints) (now parents) (now codes) count node (suc node) ⌝ }
+    ensures { λ r. ⌜ ((h : Live (limits .width) (limits .basis) (limits .entries) (now (fingerprints .entry)) (now (parents .entry)) (now (codes .entry)) count node (suc node)) → After (limits .width) (limits .basis) (h .f0) (h .u0) (h .c0) (tryAll (atWidth (limits .width) (limits .basis)) (limits .entries) (unsaturated (h .ns)) node (generators (limits .width) (limits .basis))) (now (fingerprints .exit)) (now (parents .exit)) (now (codes .exit)) (r .count) (r .saturated)) ⌝ }
 {
-    let one = UnitaryMatrix::identity(width as usize);
+    let l = limits;
+    let one = UnitaryMatrix::identity(l.width as usize);
     let mut data = one.data;
-    let k = form_node(&mut data, width, basis, parents, codes, node);
+    let k = form_node(&mut data, l.width, l.basis, parents, codes, node);
     let mut scratch = one.data;
     let mut n = count;
     let mut j = 0;
@@ -239,7 +246,7 @@ fn try_node(
         let t = try_candidate(
             &data,
             k,
-            width,
+            l,
             gates[j],
             &mut scratch,
             fingerprints,
@@ -247,7 +254,6 @@ fn try_node(
             codes,
             n,
             node,
-            entries,
         );
         n = t.count;
         if t.saturated {
@@ -266,35 +272,24 @@ fn try_node(
 
 // One depth: "each node of the last layer in order", from number `first` up to the count.
 fn deepen(
-    width: u32,
-    basis: u32,
+    limits: WidthLimits,
     gates: &[u32],
     fingerprints: &mut [u64],
     parents: &mut [u32],
     codes: &mut [u32],
     first: usize,
     count: usize,
-    entries: usize,
 ) -> Tried
-    requires { ⌜ (width ≤ 5) × (first ≤ count) × (entries ≤ 1000000) ⌝ }
-    requires { ⌜ now gates ≡ generators width basis ⌝ }
-    requires { ⌜ Live width basis entries (now fingerprints) (now parents) (now codes) count first count ⌝ }
-    ensures { λ r. ⌜ ((h : Live width basis entries (now (fingerprints .entry)) (now (parents .entry)) (now (codes .entry)) count first count) → After width basis (h .f0) (h .u0) (h .c0) (layer (atWidth width basis) entries (unsaturated (h .ns)) first (count - first)) (now (fingerprints .exit)) (now (parents .exit)) (now (codes .exit)) (r .count) (r .saturated)) ⌝ }
+    requires { ⌜ ((limits .width) ≤ 5) × (first ≤ count) × ((limits .entries) ≤ 1000000) ⌝ }
+    requires { ⌜ now gates ≡ generators (limits .width) (limits .basis) ⌝ }
+    requires { ⌜ Live (limits .width) (limits .basis) (limits .entries) (now fingerprints) (now parents) (now codes) count first count ⌝ }
+    ensures { λ r. ⌜ ((h : Live (limits .width) (limits .basis) (limits .entries) (now (fingerprints .entry)) (now (parents .entry)) (now (codes .entry)) count first count) → After (limits .width) (limits .basis) (h .f0) (h .u0) (h .c0) (layer (atWidth (limits .width) (limits .basis)) (limits .entries) (unsaturated (h .ns)) first (count - first)) (now (fingerprints .exit)) (now (parents .exit)) (now (codes .exit)) (r .count) (r .saturated)) ⌝ }
 {
+    let l = limits;
     let mut n = count;
     let mut node = first;
     while node < count {
-        let t = try_node(
-            width,
-            basis,
-            gates,
-            fingerprints,
-            parents,
-            codes,
-            n,
-            node,
-            entries,
-        );
+        let t = try_node(l, gates, fingerprints, parents, codes, n, node);
         n = t.count;
         if t.saturated {
             return Tried {
@@ -312,36 +307,25 @@ fn deepen(
 
 // "For depth 1 to G": a depth walked to its end is completed, "one that added nothing is the last".
 fn deepen_all(
-    width: u32,
-    basis: u32,
+    limits: WidthLimits,
     gates: &[u32],
     fingerprints: &mut [u64],
     parents: &mut [u32],
     codes: &mut [u32],
-    limit: usize,
-    entries: usize,
 ) -> WidthTable
-    requires { ⌜ (width ≤ 5) × (limit ≤ 64) × (entries ≤ 1000000) ⌝ }
-    requires { ⌜ now gates ≡ generators width basis ⌝ }
-    requires { ⌜ Start width basis entries (now fingerprints) (now parents) (now codes) ⌝ }
-    ensures { λ r. ⌜ ((h : Start width basis entries (now (fingerprints .entry)) (now (parents .entry)) (now (codes .entry))) → Whole width basis (h .f0) (h .u0) (h .c0) (depths (atWidth width basis) entries begin limit) (now (fingerprints .exit)) (now (parents .exit)) (now (codes .exit)) (r .count) (r .depth) (r .saturated)) ⌝ }
+    requires { ⌜ ((limits .width) ≤ 5) × ((limits .gates) ≤ 64) × ((limits .entries) ≤ 1000000) ⌝ }
+    requires { ⌜ now gates ≡ generators (limits .width) (limits .basis) ⌝ }
+    requires { ⌜ Start (limits .width) (limits .basis) (limits .entries) (now fingerprints) (now parents) (now codes) ⌝ }
+    ensures { λ r. ⌜ ((h : Start (limits .width) (limits .basis) (limits .entries) (now (fingerprints .entry)) (now (parents .entry)) (now (codes .entry))) → Whole (limits .width) (limits .basis) (h .f0) (h .u0) (h .c0) (depths (atWidth (limits .width) (limits .basis)) (limits .entries) begin (limits .gates)) (now (fingerprints .exit)) (now (parents .exit)) (now (codes .exit)) (r .count) (r .depth) (r .saturated)) ⌝ }
 {
+    let l = limits;
+    let limit = limits.gates;
     let mut n = 1;
     let mut first = 0;
     let mut d = 0;
     while d < limit {
         let next = d + 1;
-        let t = deepen(
-            width,
-            basis,
-            gates,
-            fingerprints,
-            parents,
-            codes,
-            first,
-            n,
-            entries,
-        );
+        let t = deepen(l, gates, fingerprints, parents, codes, first, n);
         if t.saturated {
             return WidthTable {
                 count: t.count,
@@ -369,21 +353,18 @@ fn deepen_all(
 
 // "For each width": node 0, then depth by depth. Unfilled places keep what they held.
 pub fn build_width(
-    width: u32,
-    basis: GateSet,
-    limit: usize,
-    entries: usize,
+    limits: WidthLimits,
     fingerprints: &mut [u64],
     parents: &mut [u32],
     codes: &mut [u32],
 ) -> WidthTable
-    requires { ⌜ (width ≤ 5) × (limit ≤ 64) × (0 < entries) × (entries ≤ 1000000) ⌝ }
-    requires { ⌜ (entries ≤ length (now fingerprints)) × (entries ≤ length (now parents)) × (entries ≤ length (now codes)) ⌝ }
-    ensures { λ r. ⌜ Whole width (basis .0) (now (fingerprints .entry)) (now (parents .entry)) (now (codes .entry)) (built width (basis .0) limit entries) (now (fingerprints .exit)) (now (parents .exit)) (now (codes .exit)) (r .count) (r .depth) (r .saturated) ⌝ }
+    requires { ⌜ ((limits .width) ≤ 5) × ((limits .gates) ≤ 64) × (0 < (limits .entries)) × ((limits .entries) ≤ 1000000) ⌝ }
+    requires { ⌜ ((limits .entries) ≤ length (now fingerprints)) × ((limits .entries) ≤ length (now parents)) × ((limits .entries) ≤ length (now codes)) ⌝ }
+    ensures { λ r. ⌜ Whole (limits .width) (limits .basis) (now (fingerprints .entry)) (now (parents .entry)) (now (codes .entry)) (built (limits .width) (limits .basis) (limits .gates) (limits .entries)) (now (fingerprints .exit)) (now (parents .exit)) (now (codes .exit)) (r .count) (r .depth) (r .saturated) ⌝ }
 {
     let mut gates: [u32; 105] = [0; 105];
-    let size = generators::library_gates(width, basis, &mut gates);
-    let n = width as usize;
+    let size = generators::library_gates(limits.width, GateSet(limits.basis), &mut gates);
+    let n = limits.width as usize;
     let one = UnitaryMatrix::identity(n);
     let data = one.data;
     fingerprints[0] = prints::unitary_fingerprint(&data, n, 0);
@@ -396,14 +377,5 @@ pub fn build_width(
             saturated: false,
         };
     }
-    deepen_all(
-        width,
-        basis.bits(),
-        &gates[0..size],
-        fingerprints,
-        parents,
-        codes,
-        limit,
-        entries,
-    )
+    deepen_all(limits, &gates[0..size], fingerprints, parents, codes)
 }

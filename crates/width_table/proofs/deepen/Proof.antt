@@ -12,13 +12,13 @@ use Rattle.width_table.proofs.deepen.Statement.{statement}
 use Rattle.width_table.proofs.deepen.Tie as tie
 
 abbrev Inv-loop : tie.InvT-loop
-Inv-loop width basis gates fingerprints₀ parents₀ codes₀ first count entries n₀ node₀ fingerprints parents codes n node =
+Inv-loop gates fingerprints₀ parents₀ codes₀ first count l n₀ node₀ fingerprints parents codes n node =
     (node ≤ count)
-    × ((h : Live width basis entries fingerprints₀ parents₀ codes₀ count first count) → Run₂ width basis entries count (h .d) (h .f0) (h .u0) (h .c0) (layer (atWidth width basis) entries (unsaturated (h .ns)) first (count - first)) node fingerprints parents codes n)
+    × ((h : Live (l .width) (l .basis) (l .entries) fingerprints₀ parents₀ codes₀ count first count) → Run₂ (l .width) (l .basis) (l .entries) count (h .d) (h .f0) (h .u0) (h .c0) (layer (atWidth (l .width) (l .basis)) (l .entries) (unsaturated (h .ns)) first (count - first)) node fingerprints parents codes n)
     × (length fingerprints ≡ length fingerprints₀) × (length parents ≡ length parents₀) × (length codes ≡ length codes₀)
 
 abbrev μ-loop : tie.MeasureT-loop
-μ-loop width basis gates fingerprints₀ parents₀ codes₀ first count entries n₀ node₀ fingerprints parents codes n node = count - node
+μ-loop gates fingerprints₀ parents₀ codes₀ first count l n₀ node₀ fingerprints parents codes n node = count - node
 
 loop-holds : tie.Need-loop-holds Inv-loop μ-loop
 loop-holds c = (omega (arith, c .before .before .before .before .pre .0 .1), λ h. run₂-start h, refl, refl, refl)
@@ -31,13 +31,13 @@ try-node-requires c κs =
     ((p .0 .0, run₂-lt _ _ _ _ _ _ _ _ _ r (c .before .before .before .loop-test .taken), p .0 .2), (p .1 .0, run₂-live _ _ _ _ _ _ _ _ _ r (c .before .before .before .loop-test .taken) (h .deep) (h .room-f) (h .room-u) (h .room-c)))
 
 same-length : tie.Need-same-length Inv-loop μ-loop
-same-length c = c .before .before .before .before .before .before .before .try-node .kept .1 .1 .1 .0 ∙ c .before .before .before .before .before .before .before .before .before .before .before .before .loop .inv .2
+same-length c = c .before .before .before .before .before .before .before .try-node .kept .1 .1 .0 ∙ c .before .before .before .before .before .before .before .before .before .before .before .before .loop .inv .2
 
 same-length-2 : tie.Need-same-length-2 Inv-loop μ-loop
-same-length-2 c = c .before .before .before .before .before .before .before .try-node .kept .1 .1 .1 .1 .0 ∙ c .before .before .before .before .before .before .before .before .before .before .before .before .loop .inv .3
+same-length-2 c = c .before .before .before .before .before .before .before .try-node .kept .1 .1 .1 .0 ∙ c .before .before .before .before .before .before .before .before .before .before .before .before .loop .inv .3
 
 same-length-3 : tie.Need-same-length-3 Inv-loop μ-loop
-same-length-3 c = c .before .before .before .before .before .before .before .try-node .kept .1 .1 .1 .1 .1 .0 ∙ c .before .before .before .before .before .before .before .before .before .before .before .before .loop .inv .4
+same-length-3 c = c .before .before .before .before .before .before .before .try-node .kept .1 .1 .1 .1 .0 ∙ c .before .before .before .before .before .before .before .before .before .before .before .before .loop .inv .4
 
 returns : tie.Need-returns Inv-loop μ-loop
 returns c h =
@@ -57,9 +57,9 @@ loop-again c =
       omega (arith, c .before .before .before .before .before .before .before .before .before .before .before .loop-test .taken),
       λ h. let r = l .inv .1 h in
           run₂-next _ _ _ _ _ _ _ _ _ r (c .before .before .before .before .before .before .before .before .before .before .before .loop-test .taken) (t .ensures (run₂-live _ _ _ _ _ _ _ _ _ r (c .before .before .before .before .before .before .before .before .before .before .before .loop-test .taken) (h .deep) (h .room-f) (h .room-u) (h .room-c))) (c .if1 .left),
-      t .kept .1 .1 .1 .0 ∙ l .inv .2,
-      t .kept .1 .1 .1 .1 .0 ∙ l .inv .3,
-      t .kept .1 .1 .1 .1 .1 .0 ∙ l .inv .4,
+      t .kept .1 .1 .0 ∙ l .inv .2,
+      t .kept .1 .1 .1 .0 ∙ l .inv .3,
+      t .kept .1 .1 .1 .1 .0 ∙ l .inv .4,
     )
 
 same-length-4 : tie.Need-same-length-4 Inv-loop μ-loop

@@ -12,19 +12,19 @@ use Rattle.width_table.proofs.deepen_all.Statement.{statement}
 use Rattle.width_table.proofs.deepen_all.Tie as tie
 
 abbrev Inv-loop : tie.InvT-loop
-Inv-loop width basis gates fingerprints₀ parents₀ codes₀ limit entries n₀ first₀ d₀ fingerprints parents codes n first d =
+Inv-loop gates fingerprints₀ parents₀ codes₀ l limit n₀ first₀ d₀ fingerprints parents codes n first d =
     (d ≤ limit)
-    × ((h : Start width basis entries fingerprints₀ parents₀ codes₀) → Run₃ width basis entries limit (h .f0) (h .u0) (h .c0) (depths (atWidth width basis) entries begin limit) first d fingerprints parents codes n)
+    × ((h : Start (l .width) (l .basis) (l .entries) fingerprints₀ parents₀ codes₀) → Run₃ (l .width) (l .basis) (l .entries) limit (h .f0) (h .u0) (h .c0) (depths (atWidth (l .width) (l .basis)) (l .entries) begin limit) first d fingerprints parents codes n)
     × (length fingerprints ≡ length fingerprints₀) × (length parents ≡ length parents₀) × (length codes ≡ length codes₀)
 
 abbrev μ-loop : tie.MeasureT-loop
-μ-loop width basis gates fingerprints₀ parents₀ codes₀ limit entries n₀ first₀ d₀ fingerprints parents codes n first d = limit - d
+μ-loop gates fingerprints₀ parents₀ codes₀ l limit n₀ first₀ d₀ fingerprints parents codes n first d = limit - d
 
 loop-holds : tie.Need-loop-holds Inv-loop μ-loop
-loop-holds c = (omega arith, λ h. run₃-start (c .before .before .before .before .args .limit) h, refl, refl, refl)
+loop-holds c = (omega arith, λ h. run₃-start (c .before .before .before .before .args .limits .gates) h, refl, refl, refl)
 
 add-next : tie.Need-add-next Inv-loop μ-loop
-add-next c = omega (arith, c .loop-test .taken, c .before .before .before .before .before .before .fits)
+add-next c = omega (arith, c .loop-test .taken, c .before .before .before .before .before .before .pre .0 .1)
 
 deepen-requires : tie.Need-deepen-requires Inv-loop μ-loop
 deepen-requires c κs =
@@ -34,13 +34,13 @@ deepen-requires c κs =
     ((p .0 .0, omega (arith, r .order), p .0 .2), (p .1 .0, run₃-live _ _ _ _ _ _ _ _ r (omega (arith, c .before .before .before .loop-test .taken, c .before .before .before .before .before .before .before .before .before .pre .0 .1)) (h .room-f) (h .room-u) (h .room-c)))
 
 same-length : tie.Need-same-length Inv-loop μ-loop
-same-length c = c .before .before .before .before .before .before .before .deepen .kept .1 .1 .1 .0 ∙ c .before .before .before .before .before .before .before .before .before .before .before .before .loop .inv .2
+same-length c = c .before .before .before .before .before .before .before .deepen .kept .1 .1 .0 ∙ c .before .before .before .before .before .before .before .before .before .before .before .before .loop .inv .2
 
 same-length-2 : tie.Need-same-length-2 Inv-loop μ-loop
-same-length-2 c = c .before .before .before .before .before .before .before .deepen .kept .1 .1 .1 .1 .0 ∙ c .before .before .before .before .before .before .before .before .before .before .before .before .loop .inv .3
+same-length-2 c = c .before .before .before .before .before .before .before .deepen .kept .1 .1 .1 .0 ∙ c .before .before .before .before .before .before .before .before .before .before .before .before .loop .inv .3
 
 same-length-3 : tie.Need-same-length-3 Inv-loop μ-loop
-same-length-3 c = c .before .before .before .before .before .before .before .deepen .kept .1 .1 .1 .1 .1 .0 ∙ c .before .before .before .before .before .before .before .before .before .before .before .before .loop .inv .4
+same-length-3 c = c .before .before .before .before .before .before .before .deepen .kept .1 .1 .1 .1 .0 ∙ c .before .before .before .before .before .before .before .before .before .before .before .before .loop .inv .4
 
 returns : tie.Need-returns Inv-loop μ-loop
 returns c h =
@@ -48,13 +48,13 @@ returns c h =
     run₃-full _ _ _ _ _ _ _ _ r (c .before .before .before .before .before .before .before .before .before .before .before .loop-test .taken) (c .before .before .before .before .before .before .before .deepen .ensures (run₃-live _ _ _ _ _ _ _ _ r (omega (arith, c .before .before .before .before .before .before .before .before .before .before .before .loop-test .taken, c .before .before .before .before .before .before .before .before .before .before .before .before .before .before .before .before .before .pre .0 .1)) (h .room-f) (h .room-u) (h .room-c))) (c .if1 .taken)
 
 same-length-4 : tie.Need-same-length-4 Inv-loop μ-loop
-same-length-4 c = c .before .before .before .before .before .before .before .before .before .deepen .kept .1 .1 .1 .0 ∙ c .before .before .before .before .before .before .before .before .before .before .before .before .before .before .loop .inv .2
+same-length-4 c = c .before .before .before .before .before .before .before .before .before .deepen .kept .1 .1 .0 ∙ c .before .before .before .before .before .before .before .before .before .before .before .before .before .before .loop .inv .2
 
 same-length-5 : tie.Need-same-length-5 Inv-loop μ-loop
-same-length-5 c = c .before .before .before .before .before .before .before .before .before .deepen .kept .1 .1 .1 .1 .0 ∙ c .before .before .before .before .before .before .before .before .before .before .before .before .before .before .loop .inv .3
+same-length-5 c = c .before .before .before .before .before .before .before .before .before .deepen .kept .1 .1 .1 .0 ∙ c .before .before .before .before .before .before .before .before .before .before .before .before .before .before .loop .inv .3
 
 same-length-6 : tie.Need-same-length-6 Inv-loop μ-loop
-same-length-6 c = c .before .before .before .before .before .before .before .before .before .deepen .kept .1 .1 .1 .1 .1 .0 ∙ c .before .before .before .before .before .before .before .before .before .before .before .before .before .before .loop .inv .4
+same-length-6 c = c .before .before .before .before .before .before .before .before .before .deepen .kept .1 .1 .1 .1 .0 ∙ c .before .before .before .before .before .before .before .before .before .before .before .before .before .before .loop .inv .4
 
 returns-2 : tie.Need-returns-2 Inv-loop μ-loop
 returns-2 c h =
@@ -71,9 +71,9 @@ loop-again c =
       omega (arith, c .before .before .before .before .before .before .before .before .before .before .before .before .before .loop-test .taken),
       λ h. let r = l .inv .1 h in
           run₃-next _ _ _ _ _ _ _ _ r (c .before .before .before .before .before .before .before .before .before .before .before .before .before .loop-test .taken) (t .ensures (run₃-live _ _ _ _ _ _ _ _ r (omega (arith, c .before .before .before .before .before .before .before .before .before .before .before .before .before .loop-test .taken, c .before .before .before .before .before .before .before .before .before .before .before .before .before .before .before .before .before .before .before .pre .0 .1)) (h .room-f) (h .room-u) (h .room-c))) (c .before .before .if1 .left) (c .if2 .left),
-      t .kept .1 .1 .1 .0 ∙ l .inv .2,
-      t .kept .1 .1 .1 .1 .0 ∙ l .inv .3,
-      t .kept .1 .1 .1 .1 .1 .0 ∙ l .inv .4,
+      t .kept .1 .1 .0 ∙ l .inv .2,
+      t .kept .1 .1 .1 .0 ∙ l .inv .3,
+      t .kept .1 .1 .1 .1 .0 ∙ l .inv .4,
     )
 
 same-length-7 : tie.Need-same-length-7 Inv-loop μ-loop

@@ -9,16 +9,16 @@ use Rattle.width_table.proofs.try_candidate.Tie as tie
 returns : tie.Need-returns
 returns c =
     let s = c .before .before .before .before .before .before in (
-      λ basis h e. keep h _ (skip-pruned h _ (sym (pruned-is h _ _ (s .pre .1 .1 .1 .1 .there)) ∙ sym (c .before .is-pruned .ensures) ∙ c .if1 .taken)),
+      λ h e. keep h _ (skip-pruned h _ (sym (pruned-is h _ _ (s .pre .1 .1 .1 .1 .there)) ∙ sym (c .before .is-pruned .ensures) ∙ c .if1 .taken)),
       s .pre .1 .1 .1 .0,
     )
 
 returns-2 : tie.Need-returns-2
 returns-2 c =
     let a = c .before .before in
-    let i = a .before .before in
+    let i = a .before .before .before in
     let s = i .before .before .before .before .before .before in (
-      λ basis h e.
+      λ h e.
           let t = sym (ap toldCandidate (c .enum-told .given .1)) ∙ a .candidate-print .ensures .0 in
           keep h _
           (skip-unfit h _ (sym (pruned-is h _ _ (s .pre .1 .1 .1 .1 .there)) ∙ sym (i .before .is-pruned .ensures) ∙ i .if1 .left)
@@ -31,12 +31,12 @@ returns-3 c =
     let a = c .before .before .before .before .before .before in
     let p = a .before .before .before .before .before in
     let q = p .before .before in
-    let i = q .before .before in
+    let i = q .before .before .before in
     let s = i .before .before .before .before .before .before in (
-      λ basis h e.
+      λ h e.
           let t = sym (ap toldCandidate (p .print .given .1)) ∙ q .candidate-print .ensures .0 in
           let g = print-given _ _ _ t in
-          a .append .ensures _ basis h (sym (pruned-is h _ _ (s .pre .1 .1 .1 .1 .there)) ∙ sym (i .before .is-pruned .ensures) ∙ i .if1 .left)
+          a .append .ensures _ _ h (sym (pruned-is h _ _ (s .pre .1 .1 .1 .1 .there)) ∙ sym (i .before .is-pruned .ensures) ∙ i .if1 .left)
           (sym (fits-alike _ _ e) ∙ g .0) (g .1 ∙ prints-alike _ _ e),
       q .candidate-print .ensures .1,
     )
@@ -48,6 +48,7 @@ try-candidate-spec =
     (λ c κs. search needs)
     (λ c. search needs)
     returns
+    (λ c. search needs)
     (λ c κs. search needs)
     (λ c. search needs)
     (λ c. search needs)

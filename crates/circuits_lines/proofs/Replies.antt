@@ -5,7 +5,7 @@ use Prim.Native.Nat.{ℕ}
 use lib.IntN.{ℤ}
 use Rattle.tables.specs.Checks.{Arrays}
 use Rattle.tables.specs.Tables.{Table, query, synthesized}
-use Rattle.width_answer.specs.Answers as a
+use Rattle.walk.specs.Answers as a
 use Rattle.murm.specs.declared.Listed.{Listed}
 use Rattle.murm.specs.declared.Synthesized.{Synthesized}
 use Rattle.murm.specs.Entries.{Outcome, outcome, toldListed, toldSynthesized}

@@ -8,8 +8,8 @@ use lib.ListN.{length, getD, take, drop, replicate}
 use Rattle.ints.specs.Lists.{pick, range, each}
 use Rattle.exact.specs.Answers.{Answer}
 use Rattle.exact.specs.Answers as e
-use Rattle.width_answer.specs.Answers.{Reply}
-use Rattle.width_answer.specs.Answers as a
+use Rattle.walk.specs.Answers.{Reply}
+use Rattle.walk.specs.Answers as a
 use Rattle.tables.specs.Checks.{Arrays, byteCount}
 use Rattle.tables.specs.Tables.{Width, Table, widthAt, query, partOf, synthesized}
 use Rattle.murm.specs.Entries.{Outcome, listed}

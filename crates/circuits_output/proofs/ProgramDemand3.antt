@@ -27,9 +27,8 @@ use Rattle.exact.proofs.Papers.{paper-value}
 use Rattle.exact.proofs.Coded.{valid-below}
 use Rattle.exact.specs.Places.{held}
 use Rattle.walk.specs.Walk.{gate}
-use Rattle.walk.specs.AtWidth.{atWidth, ListOf}
-use Rattle.width_table.specs.Table.{parentOf}
-use Rattle.width_table.proofs.Columns.{map-at}
+use Rattle.walk.specs.AtWidth.{atWidth, ListOf, parentOf}
+use Rattle.walk.proofs.Held.{map-at}
 use Rattle.walk.proofs.Prefixes.{completed-unsaturated}
 use Rattle.tables.specs.Checks.{Limits, Arrays, byteCount, queryRows}
 use Rattle.tables.specs.Tables.{Table, walkOf, widthAt, widthOf, parentsOf, codesOf, partOf, table, Query, query, listRow, synthesized}

@@ -10,7 +10,8 @@ use lib.Dec.{eqb, ltb}
 use lib.ListN.{length}
 use Rattle.ints.proofs.Bools.{neither, clash}
 use Rattle.walk.specs.Walk.{any}
-use Rattle.width_answer.specs.Answers.{Outcome, outcome, answerOf, toldAnswered}
+use Rattle.width_answer.specs.Answers.{toldAnswered}
+use Rattle.walk.specs.Answers.{Outcome, outcome, answerOf}
 use Rattle.width_answer.specs.declared.Answered.{Answered}
 use Rattle.tables.specs.Checks.{firstRow, limitRows, Arrays, roomRow}
 use Rattle.tables.specs.Tables.{Width, Table, allWidths, widthAt, badCount, recordRow, Query, matrixOf, partOf, partAsked}

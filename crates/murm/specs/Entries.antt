@@ -14,8 +14,8 @@ use Rattle.exact.specs.Answers.{Answer, given, refused, listAnswer}
 use Rattle.exact.specs.Phase.{flat}
 use Rattle.exact.specs.Fingerprint.{fingerprint}
 use Rattle.exact.specs.Places.{held}
-use Rattle.width_answer.specs.Answers.{Reply}
-use Rattle.width_answer.specs.Answers as a
+use Rattle.walk.specs.Answers.{Reply}
+use Rattle.walk.specs.Answers as a
 use Rattle.tables.specs.Checks.{byteCount, firstRow, queryRows, Arrays}
 use Rattle.tables.specs.Tables.{Table, BuildReply, table, refusal, Query, listRow, repliedBy}
 use Rattle.refusal.specs.Told.{numberOf, positionOf}

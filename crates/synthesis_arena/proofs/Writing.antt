@@ -6,10 +6,12 @@ use native.Mathlib.Omega.{arith}
 use lib.ListN.{length, getD, take, drop, set, length-append, length-set, take-append-drop}
 use lib.Seq.{take-suc, set-at, length-take-le}
 use Rattle.exact.specs.Answers.{given, refused}
-use Rattle.synthesis_arena.specs.Chains.{Chain, good, chainOf, depthOf, toldDepth, outcome, circuitOf}
+use Rattle.synthesis_arena.specs.Chains.{depthOf, toldDepth, circuitOf, written}
+use Rattle.walk.specs.Chains.{Chain, good, chainOf}
 use Rattle.synthesis_arena.specs.declared.NodeDepth.{NodeDepth}
 use Rattle.synthesis_arena.specs.declared.NodeDepth.the-variants.{At, Bad}
-use Rattle.synthesis_arena.proofs.Chaining.{Link, link, deep, not-deep}
+use Rattle.walk.proofs.Chaining.{Link, link}
+use Rattle.synthesis_arena.proofs.Depths.{deep, not-deep}
 
 empty : (l : List ℕ) → length l ≡ 0 → l ≡ []
 empty [] e = refl
@@ -75,13 +77,13 @@ module _ (n basis : ℕ) (parents codes : List ℕ) (limit node : ℕ) (old : Li
               ∙ set-at (take m old) (getD old m 0) behind g m (length-take-le m old (omega (arith, w .sum, w .room)));
         }
 
-    pub writing-end : size ≤ i → outcome (given size) out ≡ circuitOf (chainOf n basis parents codes limit node) old
+    pub writing-end : size ≤ i → written (given size) out ≡ circuitOf (chainOf n basis parents codes limit node) old
     writing-end h =
         let none : w .rest ≡ [] = empty (w .rest) (omega (arith, w .sum)) in
         let e : size ≡ length (w .done) = omega (arith, w .sum, w .count) in
-        ap (outcome (given size)) (w .is ∙ ap (λ (l : List ℕ). take (length l) old ++ (w .done ++ drop size old)) none)
-        ∙ ap (λ (m : ℕ). outcome (given m) (w .done ++ drop m old)) e
+        ap (written (given size)) (w .is ∙ ap (λ (l : List ℕ). take (length l) old ++ (w .done ++ drop size old)) none)
+        ∙ ap (λ (m : ℕ). written (given m) (w .done ++ drop m old)) e
         ∙ sym (ap (λ (k : Chain). circuitOf k old) (w .whole ∙ ap (λ (l : List ℕ). good (l ++ w .done)) none))
 
-  pub written-not : {r : NodeDepth} → r ≡ Bad → toldDepth r ≡ depthOf (chainOf n basis parents codes limit node) → outcome (refused 13 0) old ≡ circuitOf (chainOf n basis parents codes limit node) old
+  pub written-not : {r : NodeDepth} → r ≡ Bad → toldDepth r ≡ depthOf (chainOf n basis parents codes limit node) → written (refused 13 0) old ≡ circuitOf (chainOf n basis parents codes limit node) old
   written-not e h = sym (ap (λ (k : Chain). circuitOf k old) (not-deep n basis parents codes limit node e h))

@@ -5,8 +5,10 @@ ghost use mathlib.Core.Path.{_≡_};
 ghost use mathlib.Core.Bool.{false};
 ghost use Prim.Native.Nat.{ℕ, _%_, _<_, _≤_};
 ghost use lib.ListN.{length};
-ghost use Rattle.synthesis_arena.specs.Lookup.{lowestFrom, toldFound};
-ghost use Rattle.synthesis_arena.specs.Chains.{marked, chainOf, depthOf, toldDepth, outcome, circuitOf, toldCircuit};
+ghost use Rattle.synthesis_arena.specs.Lookup.{toldFound};
+ghost use Rattle.walk.specs.Lookup.{lowestFrom};
+ghost use Rattle.synthesis_arena.specs.Chains.{depthOf, toldDepth, circuitOf, toldCircuit, written};
+ghost use Rattle.walk.specs.Chains.{marked, chainOf};
 use circuit::GateSet;
 use circuit::LibraryGate;
 
@@ -146,7 +148,7 @@ pub fn circuit(
     out: &mut [u32],
 ) -> NodeCircuit
     requires { ⌜ (node < length (now parents)) × (node < length (now codes)) × (limit ≤ length (now out)) ⌝ }
-    ensures { λ r. ⌜ outcome (toldCircuit r) (now (out .exit)) ≡ circuitOf (chainOf width (basis .0) (now (parents .entry)) (now (codes .entry)) limit node) (now (out .entry)) ⌝ }
+    ensures { λ r. ⌜ written (toldCircuit r) (now (out .exit)) ≡ circuitOf (chainOf width (basis .0) (now (parents .entry)) (now (codes .entry)) limit node) (now (out .entry)) ⌝ }
 {
     let NodeDepth::At(size) = depth(parents, codes, width, basis, limit, node) else {
         return NodeCircuit::Bad;

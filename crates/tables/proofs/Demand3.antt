@@ -9,13 +9,14 @@ use native.Mathlib.Omega.{arith}
 use borrow.Author.Tests.{le-ltb, ne-eqb}
 use Rattle.exact.specs.Matrix.{Lowest}
 use Rattle.exact.specs.Unitary.{Unitary}
-use Rattle.walk.specs.AtWidth.{atWidth, answered}
+use Rattle.walk.specs.AtWidth.{atWidth}
+use Rattle.walk.proofs.Nodewise.{answered}
 use Rattle.walk.proofs.Nodes.{link, parents-rise, depth-parent, depths-rise, depths-step}
 use Rattle.walk.proofs.Layers.{walk-shape}
 use Rattle.walk.proofs.Exactly.{prints-distinct}
-use Rattle.walk.specs.Demand3.{Answers}
+use Rattle.walk.proofs.WidthDemand.{WidthComplete}
 use Rattle.walk.proofs.Demand3 as at-width
-use Rattle.width_answer.proofs.Meaning.{kind-of}
+use Rattle.walk.proofs.Meaning.{kind-of}
 use Rattle.tables.specs.Checks.{firstRow, Limits, Arrays, queryRows}
 use Rattle.tables.specs.Tables.{Table, Query, matrixOf, listRow, notAWidth}
 use Rattle.tables.specs.Built.{Built}
@@ -79,7 +80,7 @@ module _ (t t′ : Table) (a a′ : Arrays) (b : Built t a) (b′ : Built t′ a
 
 module _ (t : Table) (a : Arrays) (b : Built t a) where
   -- (c), from the walk's answers
-  answers-complete : (q : Query) → (q .width ≤ 5 → Answers (q .width) (t .limits .basis) (t .limits .gates) (t .limits .entries)) → Complete t a q
+  answers-complete : (q : Query) → (q .width ≤ 5 → WidthComplete (q .width) (t .limits .basis) (t .limits .gates) (t .limits .entries)) → Complete t a q
   answers-complete q w = record {
     shortest = λ out l g m r.
         w (small (a-width t q (gives-asked t a q out l g .1) .1)) .shortest (matrixOf q) (low out (gives-asked t a q out l g .0)) l

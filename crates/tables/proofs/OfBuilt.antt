@@ -14,10 +14,10 @@ use Rattle.ints.proofs.Bools.{neither}
 use Rattle.exact.specs.Matrix.{Exact, Lowest, allDivisible}
 use Rattle.exact.proofs.Values.{pick-ind}
 use Rattle.exact.specs.Places.{read, held}
-use Rattle.walk.specs.AtWidth.{answered}
-use Rattle.width_answer.specs.Answers.{given, refused, outcome, answerOf}
-use Rattle.width_answer.specs.Answers as a
-use Rattle.width_answer.proofs.Meaning.{kind-of}
+use Rattle.walk.proofs.Nodewise.{answered}
+use Rattle.walk.specs.Answers.{given, refused, outcome, answerOf}
+use Rattle.walk.specs.Answers as a
+use Rattle.walk.proofs.Meaning.{kind-of}
 use Rattle.tables.specs.Checks.{Row, row, firstRow, Arrays, placesOf, roomRow, byteCount, anyBelow, queryRows}
 use Rattle.tables.specs.Tables.{Table, Width, widthAt, walkOf, Query, matrixOf, recordRow, listRow, partOf, notAWidth, synthesized}
 use Rattle.tables.specs.Built.{Built}
@@ -144,7 +144,7 @@ module _ (t : Table) (a : Arrays) (b : Built t a) where
     part-answers x out =
         ap (λ (v : Width). answerOf (partOf w E (a .prints)) (partOf w E (a .parents)) (partOf w E (a .codes)) (v .count) w B G x out)
         (width-is t a b w p h)
-        ∙ joined w B G E (widths-small w h) (accepted (t .limits) (b .accepted) .gates) (partOf w E (a .prints)) (partOf w E (a .parents))
+        ∙ joined w B G E (widths-small w h) (partOf w E (a .prints)) (partOf w E (a .parents))
         (partOf w E (a .codes)) holding x out
 
   -- ---- a query

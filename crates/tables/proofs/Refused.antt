@@ -6,8 +6,9 @@ use mathlib.Core.List.{List, [], _∷_, _++_}
 use Prim.Native.Nat.{ℕ, _<_}
 use native.Mathlib.Omega.{arith}
 use lib.ListN.{length, drop}
-use Rattle.width_answer.specs.Answers.{refused, outcome, Answers, NoList, BadFound}
-use Rattle.width_answer.proofs.Meaning.{kind-of}
+use Rattle.walk.specs.Answers.{refused, outcome}
+use Rattle.walk.specs.Meaning.{AnsweredBy, NoList, BadFound}
+use Rattle.walk.proofs.Meaning.{kind-of}
 use Rattle.tables.specs.Checks.{Row, firstRow, Arrays, queryRows}
 use Rattle.tables.specs.Tables.{Table, widthAt, Query, matrixOf, listRow, answerRows, partOf, notAWidth}
 use Rattle.tables.specs.Built.{Built}
@@ -115,7 +116,7 @@ module _ (t : Table) (a : Arrays) (q : Query) (out : List ℕ) where
   -- a list is given exactly where no row holds, the table has the width, and the part of the width has the list
   pub gives-exactly : (l : List ℕ) → Gives t a q out l
       ↔ ((rowOfAnswer t a q out ≡ 0) × (notAWidth t q ≡ false)
-      × Answers f u c (widthAt t (q .width) .count) (q .width) (t .limits .basis) (t .limits .gates) (matrixOf q) l)
+      × AnsweredBy f u c (widthAt t (q .width) .count) (q .width) (t .limits .basis) (t .limits .gates) (matrixOf q) l)
   gives-exactly l = (
     (λ g. let (e, w, p) = gives-asked t a q out l g in (e, w, gives-answers t a q out l g)),
     (λ x. width-asked t a q out (x .0) (x .1) ∙ asked-means t a q out .is-list (length l) (l ++ drop (length l) out) .1 (l, x .2, refl, refl)),

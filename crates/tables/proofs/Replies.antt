@@ -8,9 +8,9 @@ use native.Mathlib.Omega.{arith}
 use borrow.Author.Tests.{ne-eqb}
 use lib.ListN.{length, take, drop}
 use lib.Seq.{take-at}
-use Rattle.width_answer.specs.Answers.{Reply, given, none, refused, Outcome, outcome, Answers, Means, Right}
-use Rattle.width_answer.proofs.Meaning.{kind, size, kind-of, means}
-use Rattle.width_answer.proofs.Told.{answers-right}
+use Rattle.walk.specs.Answers.{Reply, given, none, refused, Outcome, outcome}
+use Rattle.walk.specs.Meaning.{AnsweredBy, Means, Right}
+use Rattle.walk.proofs.Meaning.{kind, size, kind-of, means, answers-right}
 use Rattle.tables.specs.Checks.{firstRow, Arrays}
 use Rattle.tables.specs.Tables.{Table, widthAt, Query, matrixOf, answerRows, partOf, partAsked, notAWidth, repliedBy, synthesized}
 use Rattle.tables.specs.Demand3.{Gives, GivesNone, Refuses, NotRefused, Decided, a-list, no-list, a-refusal}
@@ -126,12 +126,12 @@ module _ (t : Table) (a : Arrays) (q : Query) (out : List ℕ) where
 
   -- the list given is the part's
   pub gives-answers : (l : List ℕ) → Gives t a q out l
-      → Answers (partOf (q .width) (t .limits .entries) (a .prints)) (partOf (q .width) (t .limits .entries) (a .parents))
+      → AnsweredBy (partOf (q .width) (t .limits .entries) (a .prints)) (partOf (q .width) (t .limits .entries) (a .parents))
       (partOf (q .width) (t .limits .entries) (a .codes)) (widthAt t (q .width) .count) (q .width) (t .limits .basis) (t .limits .gates) (matrixOf q) l
   gives-answers l g =
       let (m, w, z, h) = asked-means .is-list (length l) (l ++ drop (length l) out) .0 (gives-asked l g .2) in
       let e : l ≡ m = one-list l m out ((λ k. outcome (given (z k)) (h k)) ∙ ap (λ (j : ℕ). outcome (given (length m)) (m ++ drop j out)) z) in
-      subst (Answers _ _ _ _ _ _ _ _) (sym e) w
+      subst (AnsweredBy _ _ _ _ _ _ _ _) (sym e) w
 
   -- (a), and that the matrix asked is unitary
   pub gives-right : (l : List ℕ) → Gives t a q out l → Right (q .width) (t .limits .basis) (t .limits .gates) (matrixOf q) l

@@ -29,19 +29,19 @@ use Rattle.exact.specs.Fits.{stepFits, steps}
 use Rattle.exact.specs.Phase.{pivot, phaseOf, upToPhase}
 use Rattle.exact.specs.Fingerprint.{mix, fold, fingerprint}
 use Rattle.exact.specs.Places.{entry}
-use Rattle.synthesis_arena.specs.Lookup.{lowestFrom}
-use Rattle.synthesis_arena.specs.Chains.{marked, chainOf}
+use Rattle.walk.specs.Lookup.{lowestFrom}
+use Rattle.walk.specs.Chains.{marked, chainOf}
 use Rattle.walk.specs.Walk.{skipped, try, tryAll, layer, deeper, depths, walk}
-use Rattle.walk.specs.Answer.{recheck, answerBy}
-use Rattle.walk.specs.AtWidth.{samePrint, atWidth, built, ListOf, NoSharedPrint, SkippedRightly, answered}
+use Rattle.exact.proofs.Listed.{product-nil}
+use Rattle.walk.proofs.Nodewise.{recheck, answerBy, answered}
+use Rattle.walk.specs.AtWidth.{samePrint, atWidth, built, ListOf, NoSharedPrint, SkippedRightly, printOf}
 use Rattle.walk.proofs.Nodes.{first}
 use Rattle.walk.proofs.Layers.{walk-shape}
 use Rattle.walk.proofs.Known.{present-no-clash}
 use Rattle.walk.proofs.Exactly.{no-clash}
 use Rattle.walk.proofs.NotEmpty.{no-shared, unsaturated}
-use Rattle.width_table.specs.Table.{printOf}
-use Rattle.width_answer.specs.Answers.{rechecked, answerOf}
-use Rattle.width_answer.proofs.Meaning.{kind-of}
+use Rattle.walk.specs.Answers.{rechecked, answerOf}
+use Rattle.walk.proofs.Meaning.{kind-of}
 use Rattle.tables.specs.Checks.{firstRow, Limits, limitRows, Arrays, placesOf, roomRow, anyBelow, queryRows}
 use Rattle.tables.specs.Tables.{recordOf, builtTo, buildRows, Query, matrixOf, listRow, synthesized}
 use Rattle.tables.specs.Built.{Built}
@@ -231,7 +231,7 @@ unfolding recordOf
 not-a-table b =
     let f = first (atWidth 1 2) (walk-shape (atWidth 1 2) 8 2 .layered .grown) in
     let e = b .nodes 1 (omega arith) (omega arith) 0 (f .0) .print in
-    clash (eq-eqb 7 (fingerprint 1 identity) (e ∙ ap (printOf 1 2) (f .1))) (computed .root-print)
+    clash (eq-eqb 7 (fingerprint 1 identity) (e ∙ ap (printOf 1) (f .1) ∙ ap (fingerprint 1) (product-nil 1))) (computed .root-print)
 
 damaged-right : PowerOf 1 (matrixOf askX) (product 1 (4096 ∷ [])) × Unitary 1 (matrixOf askX)
 damaged-right = (

@@ -4,13 +4,13 @@ use mathlib.Core.Bool.{false}
 use Prim.Native.Nat.{ℕ, _+_, _*_, _-_, _≤_, _<_}
 use lib.ListN.{length, getD}
 use Rattle.walk.specs.Walk.{root, gate}
-use Rattle.width_table.specs.Table.{printOf, parentOf}
+use Rattle.walk.specs.AtWidth.{printOf, parentOf}
 use Rattle.tables.specs.Checks.{firstRow, Limits, limitRows, Arrays, roomRow}
 use Rattle.tables.specs.Tables.{Table, recordOf, walkOf}
 
 -- the place of node j of width w holds the node: its fingerprint, its parent and its gate
 pub record HoldsNode (l : Limits) (a : Arrays) (w j : ℕ) : Type 0 where
-  pub print : getD (a .prints) ((w - 1) * l .entries + j) 0 ≡ printOf w (l .basis) (getD (walkOf l w .nodes) j root)
+  pub print : getD (a .prints) ((w - 1) * l .entries + j) 0 ≡ printOf w (getD (walkOf l w .nodes) j root)
   pub parent : getD (a .parents) ((w - 1) * l .entries + j) 0 ≡ parentOf (getD (walkOf l w .nodes) j root)
   pub code : getD (a .codes) ((w - 1) * l .entries + j) 0 ≡ gate (getD (walkOf l w .nodes) j root)
 

@@ -10,9 +10,8 @@ use Rattle.exact.specs.Matrix.{PowerOf}
 use Rattle.exact.specs.Lists.{product}
 use Rattle.exact.specs.Unitary.{Unitary}
 use Rattle.walk.specs.Walk.{root, listAt, parentAt}
-use Rattle.walk.specs.AtWidth.{ListOf, NoSharedPrint, SkippedRightly}
-use Rattle.width_table.specs.Table.{printOf}
-use Rattle.width_answer.specs.Answers.{given, none, refused, outcome}
+use Rattle.walk.specs.AtWidth.{ListOf, NoSharedPrint, SkippedRightly, printOf}
+use Rattle.walk.specs.Answers.{given, none, refused, outcome}
 use Rattle.tables.specs.Checks.{Limits, Arrays}
 use Rattle.tables.specs.Tables.{Table, walkOf, table, refusal, left, buildOf, widthAt, Query, matrixOf, synthesized}
 use Rattle.tables.specs.Built.{Built}
@@ -79,7 +78,7 @@ pub record Ordered (l : Limits) (w : ℕ) : Type 0 where
   pub depths-step : (j : ℕ) → suc j < length (walkOf l w .nodes) → length (listAt (walkOf l w .nodes) (suc j)) ≤ suc (length (listAt (walkOf l w .nodes) j))
   pub short : (j : ℕ) → j < length (walkOf l w .nodes) → length (listAt (walkOf l w .nodes) j) ≤ l .gates
   pub prints-differ : (i j : ℕ) → i < j → j < length (walkOf l w .nodes)
-      → printOf w (l .basis) (getD (walkOf l w .nodes) i root) ≡ printOf w (l .basis) (getD (walkOf l w .nodes) j root) → ⊥
+      → printOf w (getD (walkOf l w .nodes) i root) ≡ printOf w (getD (walkOf l w .nodes) j root) → ⊥
 
 -- ---- the demand
 

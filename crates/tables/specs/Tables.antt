@@ -9,9 +9,8 @@ use Rattle.ints.specs.Lists.{pick, over}
 use Rattle.exact.specs.Matrix.{Exact}
 use Rattle.exact.specs.Places.{held}
 use Rattle.walk.specs.Walk.{Build, gate, any}
-use Rattle.walk.specs.AtWidth.{built}
-use Rattle.width_table.specs.Table.{printOf, parentOf}
-use Rattle.width_answer.specs.Answers.{none, refused, Outcome, outcome, answerOf}
+use Rattle.walk.specs.AtWidth.{built, printOf, parentOf}
+use Rattle.walk.specs.Answers.{none, refused, Outcome, outcome, answerOf}
 use Rattle.tables.specs.Checks.{Row, row, firstRow, Limits, limitRows, Arrays, roomRow, queryRows}
 
 -- ---- the record
@@ -59,7 +58,7 @@ recordOf l = record { limits = l; widths = map (rowOf l) allWidths }
 
 -- what is said of the nodes of a width, in their order: fingerprints, parents, gates
 unfoldable pub printsOf : Limits → ℕ → List ℕ
-printsOf l w = map (printOf w (l .basis)) (walkOf l w .nodes)
+printsOf l w = map (printOf w) (walkOf l w .nodes)
 
 unfoldable pub parentsOf : Limits → ℕ → List ℕ
 parentsOf l w = map parentOf (walkOf l w .nodes)

@@ -13,7 +13,7 @@ use lib.ListN.{length}
 use lib.Seq.{getD-append-seam}
 use Rattle.exact.proofs.Values.{pick-ind}
 use Rattle.walk.specs.Walk.{Rules, Node, State, any, root, listAt, prod, pruned, knows, candidate, skipped, child, try, tryAll, layer}
-use Rattle.walk.specs.Grown.{Prefix}
+use Rattle.walk.proofs.Grown.{Prefix}
 use Rattle.walk.proofs.Sequences.{or-false, or-cases, lt-or, any-true, any-at, length-snoc, prefix-refl, prefix-snoc, prefix-trans, prefix-at, prefix-length}
 
 -- t is what s has become: nodes were appended, and a saturated state is saturated still

@@ -11,11 +11,11 @@ use Rattle.exact.specs.Matrix.{Exact, Lowest, PowerOf}
 use Rattle.exact.specs.Lists.{product}
 use Rattle.exact.proofs.Acts.{power-sym}
 use Rattle.walk.specs.Walk.{Rules, Node, prod}
-use Rattle.walk.specs.Words.{Laws, Over}
-use Rattle.walk.specs.Answer.{answerBy, answersTo, answer}
-use Rattle.walk.specs.Grown.{Shape}
-use Rattle.walk.specs.AtWidth.{atWidth, built, oldestFirst, answeredBy, answered, ListOf, NoSharedPrint, SkippedRightly}
-use Rattle.walk.specs.Demand3.{Shortest, NoneExactly, Answers, WidthDemand3}
+use Rattle.walk.proofs.Laws.{Laws, Over}
+use Rattle.walk.proofs.Nodewise.{answerBy, answersTo, answer, oldestFirst, answeredBy, answered}
+use Rattle.walk.proofs.Grown.{Shape}
+use Rattle.walk.specs.AtWidth.{atWidth, built, ListOf, NoSharedPrint, SkippedRightly}
+use Rattle.walk.proofs.WidthDemand.{Shortest, NoneExactly, WidthComplete, WidthDemand3}
 use Rattle.walk.proofs.Nodes.{over}
 use Rattle.walk.proofs.Layers.{walk-shape}
 use Rattle.walk.proofs.Prefixes.{walk-prefix}
@@ -78,7 +78,7 @@ module _ (n basis : ℕ) (small : n ≤ 5) where
 
   module _ (G E : ℕ) (le : G ≤ 13) where
     -- where what was skipped as known was skipped rightly
-    rightly : SkippedRightly n basis G E → Answers n basis G E
+    rightly : SkippedRightly n basis G E → WidthComplete n basis G E
     rightly K = record { shortest = short; none-exactly = empty }
       where
         w : Shape R G E (built n basis G E)
@@ -111,7 +111,7 @@ module _ (n basis : ℕ) (small : n ≤ 5) where
             )
 
     -- and so under the demand's condition
-    unclashed : NoSharedPrint n basis G → Answers n basis G E
+    unclashed : NoSharedPrint n basis G → WidthComplete n basis G E
     unclashed nc =
         let w = walk-shape R G E in
         rightly (present-no-clash R (PowerOf n) G (no-clash n basis small G nc) (built n basis G E .nodes) (w .layered .grown) (w .limit)

@@ -8,9 +8,10 @@ use native.Mathlib.Omega.{arith}
 use lib.ListN.{length}
 use Rattle.ints.proofs.Bools.{and-right, and-both}
 use Rattle.walk.specs.Walk.{Rules, Node, root, listAt, prod, knows, candidate}
-use Rattle.walk.specs.Grown.{Grown}
-use Rattle.walk.specs.Words.{Laws, NoClash, KnownIsPresent}
-use Rattle.walk.specs.Modes.{exactly}
+use Rattle.walk.proofs.Grown.{Grown}
+use Rattle.walk.proofs.Laws.{Laws, NoClash}
+use Rattle.walk.specs.Known.{KnownIsPresent}
+use Rattle.walk.proofs.Modes.{exactly}
 use Rattle.walk.proofs.Sequences.{any-true}
 use Rattle.walk.proofs.Nodes.{over}
 

@@ -13,7 +13,7 @@ use lib.ListN.{length}
 use Rattle.ints.proofs.Bools.{clash}
 use Rattle.exact.proofs.Values.{pick-ind}
 use Rattle.walk.specs.Walk.{Rules, Node, State, Build, root, listAt, child, try, opened, walked, settled, deeper, ended, depths, begin, isNil, walk}
-use Rattle.walk.specs.Grown.{Prefix, ParentsTo, Grown, alone, more, Layered, Shape}
+use Rattle.walk.proofs.Grown.{Prefix, ParentsTo, Grown, alone, more, Layered, Shape}
 use Rattle.walk.proofs.Sequences.{or-false, or-cases, bool, lt-or, length-snoc, all-snoc, prefix-refl, prefix-snoc, prefix-trans, prefix-at, prefix-length}
 use Rattle.walk.proofs.Candidates.{try-cases, layer-keeps}
 

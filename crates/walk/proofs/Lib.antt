@@ -1,3 +1,8 @@
+pub mod Grown
+pub mod Laws
+pub mod Nodewise
+pub mod Modes
+pub mod WidthDemand
 pub mod Sequences
 pub mod Candidates
 pub mod Nodes
@@ -11,3 +16,8 @@ pub mod Demand3
 pub mod Samples
 pub mod NotEmpty
 pub mod Rechecks
+pub mod Lookups
+pub mod Chaining
+pub mod Rechecked
+pub mod Meaning
+pub mod Held

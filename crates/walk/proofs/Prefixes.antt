@@ -13,7 +13,7 @@ use Rattle.ints.specs.Lists.{pick}
 use Rattle.ints.proofs.Bools.{clash}
 use Rattle.exact.proofs.Values.{pick-ind}
 use Rattle.walk.specs.Walk.{Rules, State, Build, skipped, child, try, tryAll, layer, opened, walked, settled, deeper, ended, depths, begin, isNil, walk}
-use Rattle.walk.specs.Grown.{Prefix}
+use Rattle.walk.proofs.Grown.{Prefix}
 use Rattle.walk.proofs.Sequences.{prefix-refl, prefix-snoc, prefix-trans}
 use Rattle.walk.proofs.Candidates.{grownBy, filled, try-later, layer-later, try-saturated}
 use Rattle.walk.proofs.Layers.{settled-nodes, deeper-nodes, deeper-depth}

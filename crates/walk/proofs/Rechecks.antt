@@ -13,7 +13,7 @@ use Rattle.exact.specs.Lists.{after, product}
 use Rattle.exact.specs.Fits.{stepFits, Steps, allFit, unfitAt, next, stepsFrom, steps}
 use Rattle.exact.specs.Phase.{upToPhase}
 use Rattle.walk.specs.Walk.{prod}
-use Rattle.walk.specs.Answer.{stepsFit, recheck}
+use Rattle.walk.proofs.Nodewise.{stepsFit, recheck}
 use Rattle.walk.specs.AtWidth.{atWidth}
 use Rattle.walk.proofs.Exactly.{product-is, product-of}
 

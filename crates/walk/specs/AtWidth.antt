@@ -3,7 +3,6 @@
 use mathlib.Core.Path.{_≡_}
 use mathlib.Core.Bool.{Bool, true}
 use mathlib.Core.List.{List, reverse}
-use mathlib.Core.Option.{Option, none, some}
 use Prim.Native.Nat.{ℕ, _≤_}
 use lib.Dec.{eqb}
 use lib.ListN.{length}
@@ -18,8 +17,7 @@ use Rattle.exact.specs.Fits.{stepFits}
 use Rattle.exact.specs.Phase.{upToPhase}
 use Rattle.exact.specs.Fingerprint.{fingerprint}
 use Rattle.walk.specs.Walk.{Rules, Node, Build, walk}
-use Rattle.walk.specs.Answer.{answerBy, answer}
-use Rattle.walk.specs.Words.{KnownIsPresent}
+use Rattle.walk.specs.Known.{KnownIsPresent}
 
 -- a gate by its code
 abbrev pub actBy : ℕ → ℕ → Exact → Exact
@@ -31,6 +29,17 @@ fitsBy n g x = stepFits n (gateOf n g) x
 -- one fingerprint
 unfoldable pub samePrint : ℕ → Exact → Exact → Bool
 samePrint n x y = eqb (fingerprint n x) (fingerprint n y)
+
+-- ---- what the arrays hold of a node
+
+-- the fingerprint of its list's product
+abbrev pub printOf : ℕ → Node → ℕ
+printOf n v = fingerprint n (product n (reverse (v .list)))
+
+abbrev pub parentOf : Node → ℕ
+parentOf v = v .parent
+
+-- ---- the walk
 
 -- what the walk is handed at width n with a basis
 abbrev pub atWidth : ℕ → ℕ → Rules
@@ -50,19 +59,6 @@ atWidth n basis = record {
 -- the width as a build with gate limit G and entry limit E leaves it
 abbrev pub built : ℕ → ℕ → ℕ → ℕ → Build
 built n basis G E = walk (atWidth n basis) G E
-
--- "Its list is read by walking parents, oldest gate first."
-abbrev pub oldestFirst : Option (List ℕ) → Option (List ℕ)
-oldestFirst none = none
-oldestFirst (some l) = some (reverse l)
-
--- what nodes answer, whichever test finds the node
-abbrev pub answeredBy : ℕ → ℕ → (Node → Bool) → List Node → Exact → Option (List ℕ)
-answeredBy n basis test ns x = oldestFirst (answerBy (atWidth n basis) test ns x)
-
--- what the width of a build answers
-abbrev pub answered : ℕ → ℕ → ℕ → ℕ → Exact → Option (List ℕ)
-answered n basis G E x = oldestFirst (answer (atWidth n basis) (built n basis G E .nodes) x)
 
 -- "A list of a basis at a width: any number of gates, none included, each code valid at that width and of a kind in B."
 abbrev pub ListOf : ℕ → ℕ → List ℕ → Type 0

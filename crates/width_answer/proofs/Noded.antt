@@ -8,12 +8,13 @@ use lib.ListN.{length, take, drop, length-take}
 use Rattle.ints.specs.Lists.{all}
 use Rattle.circuit.specs.Codes.{valid}
 use Rattle.exact.specs.Matrix.{Exact}
-use Rattle.synthesis_arena.specs.Chains.{good, chainOf, circuitOf, toldCircuit}
+use Rattle.synthesis_arena.specs.Chains.{circuitOf, toldCircuit}
+use Rattle.walk.specs.Chains.{good, chainOf}
 use Rattle.synthesis_arena.specs.Chains as arena
 use Rattle.synthesis_arena.specs.declared.NodeCircuit.{NodeCircuit}
 use Rattle.synthesis_arena.specs.declared.NodeCircuit.the-variants.{Length, Bad}
 use Rattle.synthesis_arena.proofs.Told.{circuit-read, circuit-refused}
-use Rattle.width_answer.specs.Answers.{rechecked, given, none, refused, outcome, ofChain}
+use Rattle.walk.specs.Answers.{rechecked, given, none, refused, outcome, ofChain}
 use Rattle.circuit.proofs.Coded.{basis-valid}
 
 -- the part of an array from 0 up to m, as the code takes it
@@ -29,7 +30,7 @@ module _ (n basis : ℕ) (parents codes : List ℕ) (limit node : ℕ) where
     pub within : m ≤ length new
     pub all-valid : all (valid n) (part m new) ≡ true
 
-  module _ (old : List ℕ) {new : List ℕ} {r : NodeCircuit} (told : arena.outcome (toldCircuit r) new ≡ circuitOf (chainOf n basis parents codes limit node) old) where
+  module _ (old : List ℕ) {new : List ℕ} {r : NodeCircuit} (told : arena.written (toldCircuit r) new ≡ circuitOf (chainOf n basis parents codes limit node) old) where
     pub listed : {m : ℕ} → r ≡ Length m → Listed new m
     listed {m} e =
         let w = circuit-read n basis parents codes limit node old new told e in

@@ -10,22 +10,19 @@ use Rattle.exact.specs.Matrix.{Exact}
 use Rattle.exact.specs.Lists.{product}
 use Rattle.exact.proofs.Phases.{up-sym, power-of-test}
 use Rattle.exact.proofs.Unitaries.{unitary-asked}
-use Rattle.width_answer.specs.Answers.{Reply, given, none, refused, Outcome, outcome, answerOf, toldAnswered, Answers, NoList, BadFound, Right}
+use Rattle.width_answer.specs.Answers.{toldAnswered}
+use Rattle.walk.specs.Answers.{Reply, given, none, refused, Outcome, outcome, answerOf}
+use Rattle.walk.specs.Meaning.{AnsweredBy, NoList, BadFound, Right}
 use Rattle.width_answer.specs.declared.Answered.{Answered}
 use Rattle.width_answer.specs.declared.Answered.the-variants as a
-use Rattle.width_answer.proofs.Meaning.{kind, size, means}
+use Rattle.walk.proofs.Meaning.{kind, size, means, answers-right}
 
 module _ (fps parents codes : List ℕ) (count n basis limit : ℕ) (x : Exact) where
-  pub answers-right : {l : List ℕ} → Answers fps parents codes count n basis limit x l → Right n basis limit x l
-  answers-right {l} w =
-      let p = power-of-test n x (product n l) (up-sym n (product n l) x (w .equal)) in
-      record { power = p; valid = w .gates .valid; short = w .gates .short; unitary = unitary-asked n l p }
-
   module _ (out after : List ℕ) where
     -- a list was answered: it fills the first places, and the later ones are as they were
     pub record Listed (m : ℕ) : Type 0 where
       pub list : List ℕ
-      pub answers : Answers fps parents codes count n basis limit x list
+      pub answers : AnsweredBy fps parents codes count n basis limit x list
       pub right : Right n basis limit x list
       pub size : m ≡ length list
       pub first : take m after ≡ list
@@ -51,7 +48,7 @@ module _ (fps parents codes : List ℕ) (count n basis limit : ℕ) (x : Exact) 
           record {
             list = l;
             answers = w;
-            right = answers-right w;
+            right = answers-right fps parents codes count n basis limit x w;
             size = z;
             first = ap (take m) h ∙ take-at l (drop m out) m (sym z);
             later = ap (drop m) h ∙ drop-at l (drop m out) m (sym z);
@@ -87,7 +84,7 @@ module _ (fps parents codes : List ℕ) (count n basis limit : ℕ) (x : Exact) 
           by a.BadChain e f = e
 
       -- the list that answers is answered
-      pub answers-listed : {l : List ℕ} → Answers fps parents codes count n basis limit x l → r ≡ a.List (length l)
+      pub answers-listed : {l : List ℕ} → AnsweredBy fps parents codes count n basis limit x l → r ≡ a.List (length l)
       answers-listed {l} w = by r refl (means fps parents codes count n basis limit x out .is-list (length l) (l ++ drop (length l) out) .1 (l, w, refl, refl))
         where
           by : (s : Answered) → r ≡ s → answerOf fps parents codes count n basis limit x out ≡ outcome (given (length l)) (l ++ drop (length l) out) → r ≡ a.List (length l)

@@ -4,11 +4,12 @@ use mathlib.Core.List.{List}
 use Prim.Native.Nat.{ℕ}
 use Rattle.exact.specs.Matrix.{Exact}
 use Rattle.exact.specs.Fingerprint.{fingerprint}
-use Rattle.synthesis_arena.specs.Lookup.{lowestFrom, toldFound}
-use Rattle.synthesis_arena.specs.Chains.{chainOf}
+use Rattle.synthesis_arena.specs.Lookup.{toldFound}
+use Rattle.walk.specs.Lookup.{lowestFrom}
+use Rattle.walk.specs.Chains.{chainOf}
 use Rattle.synthesis_arena.specs.declared.Found.{Found}
 use Rattle.synthesis_arena.specs.declared.Found.the-variants.{At, NotFound}
-use Rattle.width_answer.specs.Answers.{none, Outcome, outcome, ofChain, ofLookup, answerOf}
+use Rattle.walk.specs.Answers.{none, Outcome, outcome, ofChain, ofLookup, answerOf}
 
 module _ (fps parents codes : List ℕ) (count n basis limit : ℕ) (x : Exact) (out : List ℕ) {print : ℕ} (e : print ≡ fingerprint n x) {r : Found}
     (told : toldFound r ≡ lowestFrom fps count 0 print) where

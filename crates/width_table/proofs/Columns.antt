@@ -2,19 +2,13 @@
 use mathlib.Core.Path.{_≡_, refl, sym, ap, _∙_}
 use mathlib.Core.List.{List, [], _∷_, _++_, map, append-assoc}
 use Prim.Native.Nat.{ℕ, zero, suc, _+_, _≤_, _<_}
-use native.Mathlib.Nat.{not-suc-le-zero, le-of-suc-le-suc}
 use native.Mathlib.Numerals.{add-one}
 use native.Mathlib.Omega.{arith}
 use lib.ListN.{length, getD, drop, set, length-append, length-drop, length-map, List·getD-append}
 use lib.Seq.{set-at, drop-cons}
 use Rattle.walk.specs.Walk.{Node, root}
+use Rattle.walk.proofs.Held.{map-at}
 use Rattle.width_table.specs.Table.{Column}
-
--- what p says of the nodes, at one of them
-pub map-at : (p : Node → ℕ) (ns : List Node) (j : ℕ) → j < length ns → getD (map p ns) j 0 ≡ p (getD ns j root)
-map-at p [] j h = absurd (not-suc-le-zero h)
-map-at p (n ∷ ns) zero h = refl
-map-at p (n ∷ ns) (suc j) h = map-at p ns j (le-of-suc-le-suc h)
 
 map-snoc : (p : Node → ℕ) (ns : List Node) (m : Node) → map p (ns ++ (m ∷ [])) ≡ map p ns ++ (p m ∷ [])
 map-snoc p [] m = refl

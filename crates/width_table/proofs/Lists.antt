@@ -27,16 +27,16 @@ use Rattle.exact.proofs.Phases.{test-of-power}
 use Rattle.exact.proofs.Listed.{product-lowest}
 use Rattle.exact.proofs.Values.{equal-sym}
 use Rattle.exact.proofs.Keeps.{equal-lowest}
-use Rattle.synthesis_arena.specs.Chains.{Chain, good, bad, then, marked, chainOf}
-use Rattle.synthesis_arena.proofs.Chaining.{chain-more}
+use Rattle.walk.specs.Chains.{Chain, good, bad, then, marked, chainOf}
 use Rattle.exact.specs.Places.{held}
 use Rattle.matrix.specs.Step.{Holds, Ready}
 use Rattle.walk.specs.Walk.{Node, root, listAt, parentAt, prod}
-use Rattle.walk.specs.Answer.{stepsFit, recheck}
+use Rattle.walk.proofs.Nodewise.{stepsFit, recheck}
 use Rattle.walk.specs.AtWidth.{atWidth}
-use Rattle.walk.specs.Grown.{Link}
+use Rattle.walk.proofs.Grown.{Link}
 use Rattle.walk.proofs.Nodes.{first, link, fit}
 use Rattle.walk.proofs.Exactly.{product-is}
+use Rattle.walk.proofs.Held.{HoldsChains, chain-is}
 use Rattle.walk.proofs.Rechecks.{recheck-exactly}
 use Rattle.width_table.specs.Table.{Live, Readable}
 use Rattle.width_table.proofs.Tries.{live-count, live-lengths, gate-at, parent-at}
@@ -58,55 +58,21 @@ module _ (n basis : ℕ) (small : n ≤ 5) where
 
 module _ {n basis E : ℕ} (small : n ≤ 5) where
   module _ {f u c : List ℕ} {count k top : ℕ} (h : Live n basis E f u c count k top) where
-    marks : 0 < count → marked u c ≡ true
-    unfolding marked
-    marks l =
-        let e = first (atWidth n basis) (h .grown) .1 in
-        and-both (eqb (getD u 0 0) mark) (eqb (getD c 0 0) mark)
-        (eq-eqb (getD u 0 0) mark (parent-at h 0 l ∙ ap (λ (v : Node). v .parent) e))
-        (eq-eqb (getD c 0 0) mark (gate-at h 0 l ∙ ap (λ (v : Node). getD (v .list) 0 mark) e))
-
-    chain-root : (limit : ℕ) → 0 < count → chainOf n basis u c limit 0 ≡ good []
-    unfolding chainOf
-    chain-root zero l = rw (marks l)
-    chain-root (suc limit) l = rw (marks l)
-
-    abbrev Is : ℕ → ℕ → Type 0
-    Is limit j = j < count → length (listAt (h .ns) j) ≤ limit → chainOf n basis u c limit j ≡ good (reverse (listAt (h .ns) j))
-
-    chain-none : (j : ℕ) → Is 0 j
-    chain-none zero l s = chain-root 0 l ∙ ap (λ (v : Node). good (reverse (v .list))) (sym (first (atWidth n basis) (h .grown) .1))
-    chain-none (suc j) l s =
-        let i : Link (atWidth n basis) (h .ns) (suc j) (getD (h .ns) (suc j) root) = link (atWidth n basis) (h .grown) (suc j) (omega (arith, h .columns .count-is)) (omega arith) in
-        absurd (omega (arith, ap length (i .is)))
-
-    chain-next : (limit j : ℕ) → ((i : ℕ) → Is limit i) → Is (suc limit) j
-    chain-next limit zero before l s = chain-root (suc limit) l ∙ ap (λ (v : Node). good (reverse (v .list))) (sym (first (atWidth n basis) (h .grown) .1))
-    chain-next limit (suc j) before l s =
-        let i : Link (atWidth n basis) (h .ns) (suc j) (getD (h .ns) (suc j) root) = link (atWidth n basis) (h .grown) (suc j) (omega (arith, h .columns .count-is)) (omega arith) in
-        let up : getD u (suc j) 0 ≡ parentAt (h .ns) (suc j) = parent-at h (suc j) l in
-        let e : getD c (suc j) 0 ≡ i .code = gate-at h (suc j) l ∙ ap (λ (z : List ℕ). getD z 0 mark) (i .is) in
-        let below : getD u (suc j) 0 < suc j = omega (arith, i .below) in
-        let ok : validFor n basis (getD c (suc j) 0) ≡ true = ap (validFor n basis) e ∙ lists n basis (omega arith) .sound (i .code) (i .generator) in
-        let one : suc limit - 1 ≡ limit = omega arith in
-        let rest : chainOf n basis u c (suc limit - 1) (getD u (suc j) 0) ≡ good (reverse (listAt (h .ns) (parentAt (h .ns) (suc j))))
-        = ap (λ (z : ℕ). chainOf n basis u c z (getD u (suc j) 0)) one ∙ ap (chainOf n basis u c limit) up
-        ∙ before (parentAt (h .ns) (suc j)) (omega (arith, i .below)) (omega (arith, ap length (i .is))) in
-        chain-more n basis u c (suc limit) (suc j) (omega arith) (omega arith) below ok
-        ∙ ap (λ (z : Chain). then z (getD c (suc j) 0)) rest
-        ∙ ap (λ (z : ℕ). good (reverse (listAt (h .ns) (parentAt (h .ns) (suc j))) ++ (z ∷ []))) e
-        ∙ ap good (sym (reverse-cons (i .code) (listAt (h .ns) (parentAt (h .ns) (suc j)))))
-        ∙ ap (λ (z : List ℕ). good (reverse z)) (sym (i .is))
+    -- the arrays hold the parents and the gates of the nodes
+    holds : HoldsChains (h .ns) u c
+    holds = record {
+      parents = λ j l. parent-at h j (omega (arith, h .columns .count-is));
+      codes = λ j l. gate-at h j (omega (arith, h .columns .count-is));
+    }
 
     -- the chain of a node, by the arrays, is its list, oldest gate first
-    pub chain-is : (limit j : ℕ) → Is limit j
-    chain-is zero j = chain-none j
-    chain-is (suc limit) j = chain-next limit j (λ i. chain-is limit i)
+    pub chain-of : (limit j : ℕ) → j < count → length (listAt (h .ns) j) ≤ limit → chainOf n basis u c limit j ≡ good (reverse (listAt (h .ns) j))
+    chain-of limit j l s = chain-is n basis small (h .grown) holds limit j (omega (arith, h .columns .count-is)) s
 
     abbrev pub live-readable : k < count → k < top → Readable n basis u c k
     live-readable l t = record {
       list = reverse (listAt (h .ns) k);
-      chain = chain-is 64 k l (omega (arith, h .flat k t, h .deep));
+      chain = chain-of 64 k l (omega (arith, h .flat k t, h .deep));
       all-fit = steps-all-fit n basis small (listAt (h .ns) k) (fit (atWidth n basis) (h .grown) k (omega (arith, h .columns .count-is)));
       in-u = omega (arith, live-lengths h .1, live-count h);
       in-c = omega (arith, live-lengths h .2, live-count h);

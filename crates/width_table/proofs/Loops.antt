@@ -16,12 +16,15 @@ use Rattle.circuit.specs.Sets.{member}
 use Rattle.circuit.specs.Codes.{kindNumber, valid, validFor, mark}
 use Rattle.generators.specs.Generators.{generators}
 use Rattle.generators.proofs.Generated.{lists}
+use Rattle.exact.specs.Matrix.{identity}
+use Rattle.exact.specs.Fingerprint.{fingerprint}
+use Rattle.exact.proofs.Listed.{product-nil}
 use Rattle.walk.specs.Walk.{Rules, Node, State, Build, root, listAt, child, try, tryAll, layer, settled, deeper, ended, depths, begin, isNil, walk}
-use Rattle.walk.specs.AtWidth.{atWidth}
-use Rattle.walk.specs.Grown.{Grown, alone, more, ParentsTo}
+use Rattle.walk.specs.AtWidth.{atWidth, printOf, parentOf}
+use Rattle.walk.proofs.Grown.{Grown, alone, more, ParentsTo}
 use Rattle.walk.proofs.Sequences.{length-snoc, all-snoc, prefix-snoc, prefix-at}
 use Rattle.walk.proofs.Candidates.{try-cases, try-later, layer-keeps, tryAll-saturated, layer-saturated}
-use Rattle.width_table.specs.Table.{printOf, parentOf, unsaturated, Column, Columns, Live, Start, After, Whole}
+use Rattle.width_table.specs.Table.{unsaturated, Column, Columns, Live, Start, After, Whole}
 use Rattle.width_table.proofs.Columns.{column-root}
 
 mem-at : (gs : List ℕ) (j : ℕ) → j < length gs → List·Memᴰ (getD gs j 0) gs
@@ -359,11 +362,11 @@ run₃-start {n} {basis} {E} G h =
 
 -- ---- node 0
 
-module _ (n basis E G : ℕ) (f0 u0 c0 : List ℕ) (e : 0 < E) (a : E ≤ length f0) (b : E ≤ length u0) (d : E ≤ length c0) (y : ℕ) (q : y ≡ printOf n basis root) where
+module _ (n basis E G : ℕ) (f0 u0 c0 : List ℕ) (e : 0 < E) (a : E ≤ length f0) (b : E ≤ length u0) (d : E ≤ length c0) (y : ℕ) (q : y ≡ fingerprint n identity) where
   pub root-columns : Columns n basis f0 u0 c0 (root ∷ []) (set f0 0 y) (set u0 0 mark) (set c0 0 mark) 1
   root-columns = record {
     count-is = refl;
-    prints = subst (λ (v : ℕ). Column (printOf n basis) f0 (root ∷ []) (set f0 0 v) 1) (sym q) (column-root (printOf n basis) f0 (omega arith));
+    prints = subst (λ (v : ℕ). Column (printOf n) f0 (root ∷ []) (set f0 0 v) 1) (ap (fingerprint n) (product-nil n) ∙ sym q) (column-root (printOf n) f0 (omega arith));
     parents = column-root parentOf u0 (omega arith);
     gates = column-root (λ (v : Node). getD (v .list) 0 mark) c0 (omega arith);
   }

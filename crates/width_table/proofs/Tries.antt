@@ -22,14 +22,15 @@ use Rattle.exact.proofs.Prints.{fingerprint-equal}
 use Rattle.ints.specs.Lists.{pick}
 use Rattle.cyclotomic.specs.Told.{doesNotFit}
 use Rattle.ints.proofs.Bools.{clash}
-use Rattle.synthesis_arena.specs.Lookup.{LowestNode, Nowhere}
+use Rattle.walk.specs.Meaning.{LowestNode, Nowhere}
 use Rattle.walk.specs.Walk.{Node, State, any, root, gate, listAt, parentAt, prod, pruned, knows, candidate, skipped, child, try}
-use Rattle.walk.specs.AtWidth.{samePrint, fitsBy, atWidth}
-use Rattle.walk.specs.Grown.{Link}
+use Rattle.walk.specs.AtWidth.{samePrint, fitsBy, atWidth, printOf}
+use Rattle.walk.proofs.Grown.{Link}
 use Rattle.walk.proofs.Nodes.{first, link}
 use Rattle.walk.proofs.Candidates.{filled, grownBy}
+use Rattle.walk.proofs.Exactly.{print-is}
 use Rattle.walk.proofs.Sequences.{bool, any-true, any-at, length-snoc}
-use Rattle.width_table.specs.Table.{prunedAt, printAfter, printOf, unsaturated, Column, Room, Live, After}
+use Rattle.width_table.specs.Table.{prunedAt, printAfter, unsaturated, Column, Room, Live, After}
 use Rattle.width_table.proofs.Columns.{column-at, column-length, column-snoc}
 
 -- ---- a candidate by its last two gates
@@ -145,12 +146,12 @@ module _ {n basis E : ℕ} {f u c : List ℕ} {count k top : ℕ} (h : Live n ba
       known-at : (j : ℕ) → j < count → getD f j 0 ≡ y → knows (atWidth n basis) (candidate (atWidth n basis) (h .ns) k g) (getD (h .ns) j root) ≡ true
       unfolding samePrint
       known-at j l e =
-          eq-eqb _ _ (sym (column-at (h .columns .prints) (h .columns .count-is) j (omega (arith, h .columns .count-is))) ∙ e ∙ ey)
+          eq-eqb _ _ (sym (column-at (h .columns .prints) (h .columns .count-is) j (omega (arith, h .columns .count-is)) ∙ print-is n basis (getD (h .ns) j root)) ∙ e ∙ ey)
 
       at-known : (j : ℕ) → j < count → knows (atWidth n basis) (candidate (atWidth n basis) (h .ns) k g) (getD (h .ns) j root) ≡ true → getD f j 0 ≡ y
       unfolding samePrint
       at-known j l e =
-          column-at (h .columns .prints) (h .columns .count-is) j (omega (arith, h .columns .count-is)) ∙ eqb-true _ _ e ∙ sym ey
+          column-at (h .columns .prints) (h .columns .count-is) j (omega (arith, h .columns .count-is)) ∙ print-is n basis (getD (h .ns) j root) ∙ eqb-true _ _ e ∙ sym ey
 
       pub skip-found : R-pruned ≡ false → R-fits ≡ true → (j : ℕ) → LowestNode f count 0 y j → skipped (atWidth n basis) (h .ns) k g ≡ true
       skip-found e q j w =
@@ -180,7 +181,7 @@ module _ {n basis E : ℕ} {f u c : List ℕ} {count k top : ℕ} (h : Live n ba
           (record {
             columns = record {
               count-is = omega (arith, length-snoc (h .ns) m);
-              prints = subst (λ (v : ℕ). Column (printOf n basis) (h .f0) (h .ns ++ (m ∷ [])) (set f count v) (count + 1)) (sym ey) (column-snoc (h .columns .prints) q (omega (arith, h .room-f)) m);
+              prints = subst (λ (v : ℕ). Column (printOf n) (h .f0) (h .ns ++ (m ∷ [])) (set f count v) (count + 1)) (print-is n basis m ∙ sym ey) (column-snoc (h .columns .prints) q (omega (arith, h .room-f)) m);
               parents = column-snoc (h .columns .parents) q (omega (arith, h .room-u)) m;
               gates = column-snoc (h .columns .gates) q (omega (arith, h .room-c)) m;
             };

@@ -14,10 +14,10 @@ use Rattle.exact.specs.Rows.{act, gateOf}
 use Rattle.exact.specs.Fits.{stepFits, allFit, steps}
 use Rattle.exact.specs.Fingerprint.{fingerprint}
 use Rattle.exact.specs.Answers.{Answer, given, refused}
-use Rattle.synthesis_arena.specs.Chains.{good, chainOf}
-use Rattle.walk.specs.Walk.{Node, State, Build, root, listAt, gate, prod}
-use Rattle.walk.specs.AtWidth.{atWidth}
-use Rattle.walk.specs.Grown.{Grown, ParentsTo}
+use Rattle.walk.specs.Chains.{good, chainOf}
+use Rattle.walk.specs.Walk.{Node, State, Build, root, listAt, gate}
+use Rattle.walk.specs.AtWidth.{printOf, parentOf, atWidth}
+use Rattle.walk.proofs.Grown.{Grown, ParentsTo}
 use Rattle.width_table.specs.declared.Candidate.{Candidate}
 use Rattle.width_table.specs.declared.Candidate.the-variants.{Print, DoesNotFit}
 
@@ -45,13 +45,6 @@ pub record Copied (from old new : List ℤ) (i : ℕ) : Type 0 where
 
 -- ---- the arrays
 
--- a node's fingerprint
-abbrev pub printOf : ℕ → ℕ → Node → ℕ
-printOf n basis v = fingerprint n (prod (atWidth n basis) (v .list))
-
-abbrev pub parentOf : Node → ℕ
-parentOf v = v .parent
-
 -- the first places of an array hold what p says of the nodes; "Unfilled places keep what they held"
 pub record Column (p : Node → ℕ) (old : List ℕ) (ns : List Node) (new : List ℕ) (n : ℕ) : Type 0 where
   pub is : new ≡ map p ns ++ drop n old
@@ -59,7 +52,7 @@ pub record Column (p : Node → ℕ) (old : List ℕ) (ns : List Node) (new : Li
 -- the three arrays hold the nodes, which are count: fingerprints, parents, gates, node 0's parent and gate the mark
 pub record Columns (n basis : ℕ) (f0 u0 c0 : List ℕ) (ns : List Node) (f u c : List ℕ) (count : ℕ) : Type 0 where
   pub count-is : count ≡ length ns
-  pub prints : Column (printOf n basis) f0 ns f count
+  pub prints : Column (printOf n) f0 ns f count
   pub parents : Column parentOf u0 ns u count
   pub gates : Column gate c0 ns c count
 

@@ -8,7 +8,7 @@ use lib.ListN.{length, take, drop, length-drop}
 use lib.Seq.{length-take-le}
 use Rattle.exact.specs.Matrix.{Exact}
 use Rattle.exact.specs.Places.{held}
-use Rattle.width_answer.specs.Answers.{answerOf}
+use Rattle.walk.specs.Answers.{answerOf}
 use Rattle.murm.proofs.ask_from.Statement.{statement}
 use Rattle.murm.proofs.ask_from.Tie as tie
 

@@ -4,8 +4,8 @@ use mathlib.Core.Path.{_≡_, sym, _∙_}
 use Prim.Native.Nat.{_-_}
 use native.Mathlib.Omega.{arith}
 use borrow.Author.Needs.{needs}
-use Rattle.synthesis_arena.specs.Lookup.{lowestFrom}
-use Rattle.synthesis_arena.proofs.Lookups.{lookup-here, lookup-on, lookup-end}
+use Rattle.walk.specs.Lookup.{lowestFrom}
+use Rattle.walk.proofs.Lookups.{lookup-here, lookup-on, lookup-end}
 use Rattle.synthesis_arena.proofs.node_for.Statement.{statement}
 use Rattle.synthesis_arena.proofs.node_for.Tie as tie
 

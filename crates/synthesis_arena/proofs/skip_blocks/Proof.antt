@@ -4,7 +4,7 @@ use mathlib.Core.Path.{_≡_, refl, _∙_}
 use Prim.Native.Nat.{_-_, _≤_}
 use native.Mathlib.Omega.{arith}
 use borrow.Author.Needs.{needs}
-use Rattle.synthesis_arena.specs.Lookup.{lowestFrom}
+use Rattle.walk.specs.Lookup.{lowestFrom}
 use Rattle.synthesis_arena.proofs.skip_blocks.Statement.{statement}
 use Rattle.synthesis_arena.proofs.skip_blocks.Tie as tie
 

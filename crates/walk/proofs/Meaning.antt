@@ -10,12 +10,15 @@ use Rattle.exact.specs.Lists.{product}
 use Rattle.exact.specs.Fits.{Steps, allFit, unfitAt, steps}
 use Rattle.exact.specs.Phase.{upToPhase}
 use Rattle.exact.specs.Fingerprint.{fingerprint}
-use Rattle.synthesis_arena.specs.Lookup.{Lookup, found, lowestFrom, LowestNode}
-use Rattle.synthesis_arena.specs.Lookup as lookup
-use Rattle.synthesis_arena.specs.Chains.{Chain, good, bad, chainOf, Gates}
-use Rattle.synthesis_arena.proofs.Lookups.{looks-up}
-use Rattle.synthesis_arena.proofs.Chaining.{gates-of, good-by, fault-of, bad-by}
-use Rattle.width_answer.specs.Answers.{fitsAll, rechecked, Reply, given, none, refused, Outcome, outcome, ofChain, answerOf, Answers, NoList, not-found, does-not-fit, not-equal, BadFound, Means}
+use Rattle.exact.proofs.Phases.{up-sym, power-of-test}
+use Rattle.exact.proofs.Unitaries.{unitary-asked}
+use Rattle.walk.specs.Lookup.{Lookup, found, lowestFrom}
+use Rattle.walk.specs.Meaning.{LowestNode, Gates, AnsweredBy, NoList, not-found, does-not-fit, not-equal, BadFound, Means, Right}
+use Rattle.walk.specs.Lookup as lookup
+use Rattle.walk.specs.Chains.{Chain, good, bad, chainOf}
+use Rattle.walk.proofs.Lookups.{looks-up}
+use Rattle.walk.proofs.Chaining.{gates-of, good-by, fault-of, bad-by}
+use Rattle.walk.specs.Answers.{fitsAll, rechecked, Reply, given, none, refused, Outcome, outcome, ofChain, answerOf}
 
 -- ---- a reply is one case alone
 
@@ -49,7 +52,7 @@ test-fails (unfitAt i) t e = refl
 
 module _ (fps parents codes : List ℕ) (count n basis limit : ℕ) (x : Exact) where
   abbrev Ans : List ℕ → Type 0
-  Ans l = Answers fps parents codes count n basis limit x l
+  Ans l = AnsweredBy fps parents codes count n basis limit x l
 
   abbrev No : Type 0
   No = NoList fps parents codes count n basis limit x
@@ -143,3 +146,10 @@ module _ (fps parents codes : List ℕ) (count n basis limit : ℕ) (x : Exact) 
 
         from-bad : {a i : ℕ} {after : List ℕ} → Bad × (a ≡ 13) × (i ≡ 0) × (after ≡ out) → answer ≡ outcome (refused a i) after
         from-bad (w, p, q, h) = bad-answer w ∙ (λ k. outcome (refused (sym p k) (sym q k)) (sym h k))
+
+  -- ---- what then holds, whatever the arrays hold
+
+  pub answers-right : {l : List ℕ} → AnsweredBy fps parents codes count n basis limit x l → Right n basis limit x l
+  answers-right {l} w =
+      let p = power-of-test n x (product n l) (up-sym n (product n l) x (w .equal)) in
+      record { power = p; valid = w .gates .valid; short = w .gates .short; unitary = unitary-asked n l p }

@@ -1,12 +1,15 @@
--- What a width answers: the lowest node that answers, its list, the recheck. Assumes nothing.
+-- What nodes answer, said of the parts that the walk is handed: the lowest node that answers, its list, the recheck. tables/proofs/Joined has that
+-- arrays which hold the nodes answer the same. Assumes nothing.
 use mathlib.Core.Bool.{Bool, true, _&&_}
-use mathlib.Core.List.{List, [], _∷_}
+use mathlib.Core.List.{List, [], _∷_, reverse}
 use mathlib.Core.Option.{Option, none, some}
 use Prim.Native.Nat.{ℕ, zero, suc}
 use lib.Dec.{ltb}
 use lib.ListN.{length}
 use Rattle.ints.specs.Lists.{pick}
+use Rattle.exact.specs.Matrix.{Exact}
 use Rattle.walk.specs.Walk.{Rules, Node, listAt, prod}
+use Rattle.walk.specs.AtWidth.{atWidth, built}
 
 -- the number of the first that passes the test, or how many there are
 abbrev pub lowest : {A : Type 0} → (A → Bool) → List A → ℕ
@@ -35,3 +38,16 @@ module _ (R : Rules) where
   -- "The lowest node of that width with its fingerprint is found." The list is newest gate first
   abbrev pub answer : List Node → R .Mat → Option (List ℕ)
   answer ns x = answerBy (answersTo x) ns x
+
+-- "Its list is read by walking parents, oldest gate first."
+abbrev pub oldestFirst : Option (List ℕ) → Option (List ℕ)
+oldestFirst none = none
+oldestFirst (some l) = some (reverse l)
+
+-- what nodes answer, whichever test finds the node
+abbrev pub answeredBy : ℕ → ℕ → (Node → Bool) → List Node → Exact → Option (List ℕ)
+answeredBy n basis test ns x = oldestFirst (answerBy (atWidth n basis) test ns x)
+
+-- what the width of a build answers
+abbrev pub answered : ℕ → ℕ → ℕ → ℕ → Exact → Option (List ℕ)
+answered n basis G E x = oldestFirst (answer (atWidth n basis) (built n basis G E .nodes) x)

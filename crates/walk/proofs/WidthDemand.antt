@@ -10,7 +10,8 @@ use lib.ListN.{length}
 use Rattle.exact.specs.Matrix.{Exact, Lowest, PowerOf}
 use Rattle.exact.specs.Lists.{product}
 use Rattle.walk.specs.Walk.{Node}
-use Rattle.walk.specs.AtWidth.{built, answeredBy, answered, ListOf, NoSharedPrint, SkippedRightly}
+use Rattle.walk.specs.AtWidth.{built, ListOf, NoSharedPrint, SkippedRightly}
+use Rattle.walk.proofs.Nodewise.{answeredBy, answered}
 
 module _ (n basis : ℕ) where
   -- "a list answered is shortest: every list of that basis and width, of any length, whose product is a power of omega times the matrix has
@@ -26,7 +27,7 @@ module _ (n basis : ℕ) where
 
   -- "Then a list answered is shortest .. Then also, at a built width that is not saturated, a matrix that is not refused gets 'none' exactly
   -- when ..". A matrix that is not refused is in lowest denominator
-  pub record Answers (G E : ℕ) : Type 0 where
+  pub record WidthComplete (G E : ℕ) : Type 0 where
     pub shortest : (x : Exact) → Lowest n x → Shortest G E x
     pub none-exactly : built n basis G E .saturated ≡ false → (x : Exact) → Lowest n x → NoneExactly G E x
 
@@ -39,8 +40,8 @@ module _ (n basis : ℕ) where
         → answered n basis G E x ≡ some l → answered n basis G′ E′ x ≡ some l
     -- "Suppose that a built table's gate limit is up to 13, and that no two lists of its basis at the matrix's width within that limit share a
     -- fingerprint, unless .."
-    pub complete : (G E : ℕ) → G ≤ 13 → NoSharedPrint n basis G → Answers G E
+    pub complete : (G E : ℕ) → G ≤ 13 → NoSharedPrint n basis G → WidthComplete G E
     -- the same, where the table at hand was looked through and every candidate that was skipped as known was skipped rightly
-    pub complete-rightly : (G E : ℕ) → G ≤ 13 → SkippedRightly n basis G E → Answers G E
+    pub complete-rightly : (G E : ℕ) → G ≤ 13 → SkippedRightly n basis G E → WidthComplete G E
     -- besides: an answered list is a list of the basis within the limit
     pub within : (G E : ℕ) (x : Exact) (l : List ℕ) → answered n basis G E x ≡ some l → ListOf n basis l × (length l ≤ G)

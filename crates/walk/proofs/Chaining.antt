@@ -1,4 +1,4 @@
--- Laws of chains: node by node as the code goes, and what a chain says of the walk along the parents. Assumes nothing.
+-- Laws of chains: node by node, and what a chain says of the way along the parents. Assumes nothing.
 use mathlib.Core.Path.{_≡_, refl, sym, ap, _∙_, subst}
 use mathlib.Core.Bool.{Bool, true, false, _&&_}
 use mathlib.Core.List.{List, [], _∷_, _++_}
@@ -11,14 +11,8 @@ use borrow.Author.Tests.{lt-ltb, ltb-true, ltb-false}
 use Rattle.ints.specs.Lists.{pick, all}
 use Rattle.ints.proofs.Bools.{clash, and-left, and-right, all-at}
 use Rattle.circuit.specs.Codes.{validFor}
-use Rattle.exact.specs.Answers.{Answer, given, refused}
-use Rattle.synthesis_arena.specs.Chains.{marked, Chain, good, bad, then, linked, chainOf, depthOf, Walk, Fault, not-below, not-valid, too-many, unmarked, Gates, oneMore, Chained, toldDepth}
-use Rattle.synthesis_arena.specs.declared.NodeDepth.{NodeDepth}
-use Rattle.synthesis_arena.specs.declared.NodeDepth.the-variants.{At, Bad}
-
--- an answer that is known by an equation
-told-at : {r s : NodeDepth} {a : Answer} → r ≡ s → toldDepth r ≡ a → toldDepth s ≡ a
-told-at e h = sym (ap toldDepth e) ∙ h
+use Rattle.walk.specs.Chains.{marked, Chain, good, bad, then, linked, chainOf}
+use Rattle.walk.specs.Meaning.{Trail, Fault, not-below, not-valid, too-many, unmarked, Gates, Chained}
 
 -- ---- tests over a list
 
@@ -31,12 +25,12 @@ all-snoc f (x ∷ l) g h k = rw (and-left (f x) (all f l) h) (all-snoc f l g (an
 
 module _ (parents : List ℕ) where
   -- no walk goes on past node 0
-  pub walk-within : (node i j m : ℕ) → Walk parents node i m → Walk parents node j 0 → i ≤ j
+  pub walk-within : (node i j m : ℕ) → Trail parents node i m → Trail parents node j 0 → i ≤ j
   walk-within node zero j m u v = omega arith
   walk-within node (suc i) zero m u v = absurd (omega (arith, u .0, v))
   walk-within node (suc i) (suc j) m u v = let h = walk-within (getD parents node 0) i j m (u .1) (v .1) in omega arith
 
-  walk-before : (node i j m : ℕ) → Walk parents node i m → 0 < m → Walk parents node j 0 → i < j
+  walk-before : (node i j m : ℕ) → Trail parents node i m → 0 < m → Trail parents node j 0 → i < j
   walk-before node zero zero m u p v = absurd (omega (arith, u, v))
   walk-before node zero (suc j) m u p v = omega arith
   walk-before node (suc i) zero m u p v = absurd (omega (arith, u .0, v))
@@ -47,7 +41,7 @@ module _ (parents : List ℕ) where
   ancestor node zero = node
   ancestor node (suc i) = ancestor (getD parents node 0) i
 
-  walk-to : (node i j m : ℕ) → Walk parents node j m → i ≤ j → Walk parents node i (ancestor node i)
+  walk-to : (node i j m : ℕ) → Trail parents node j m → i ≤ j → Trail parents node i (ancestor node i)
   walk-to node zero j m w h = refl
   walk-to node (suc i) zero m w h = absurd (omega arith)
   walk-to node (suc i) (suc j) m w h = (w .0, walk-to (getD parents node 0) i j m (w .1) (omega arith))
@@ -84,7 +78,7 @@ module _ (n basis : ℕ) (parents codes : List ℕ) where
   Says limit node (good l) = Gates n basis limit parents codes node l
   Says limit node bad = Fault n basis limit parents codes node
 
-  says-root : (limit : ℕ) (b : Bool) → marked parents codes ≡ b → Says limit 0 (pick b (good []) bad)
+  pub says-root : (limit : ℕ) (b : Bool) → marked parents codes ≡ b → Says limit 0 (pick b (good []) bad)
   unfolding all
   says-root limit true e = record {
     valid = refl;
@@ -95,7 +89,7 @@ module _ (n basis : ℕ) (parents codes : List ℕ) where
     gate = λ i m h. absurd (omega arith);
   }
     where
-      none-above : (i m : ℕ) → Walk parents 0 i m → 0 < m → getD parents m 0 < m
+      none-above : (i m : ℕ) → Trail parents 0 i m → 0 < m → getD parents m 0 < m
       none-above zero m w p = absurd (omega (arith, w))
       none-above (suc i) m w p = absurd (omega (arith, w .0))
   says-root limit false e = unmarked 0 refl e
@@ -115,17 +109,17 @@ module _ (n basis : ℕ) (parents codes : List ℕ) where
         record {
           valid = all-snoc (validFor n basis) l g (w .valid) ok;
           short = omega (arith, w .short);
-          ends = subst (λ (k : ℕ). Walk parents node k 0) (sym size) (p, w .ends);
+          ends = subst (λ (k : ℕ). Trail parents node k 0) (sym size) (p, w .ends);
           marks = w .marks;
           falls = falls-on;
           gate = λ i m h v. ap (λ (k : ℕ). getD (l ++ (g ∷ [])) (k - suc i) 0) size ∙ gate-on i m (omega arith) v;
         }
       where
-        falls-on : (i m : ℕ) → Walk parents node i m → 0 < m → getD parents m 0 < m
+        falls-on : (i m : ℕ) → Trail parents node i m → 0 < m → getD parents m 0 < m
         falls-on zero m v q = subst (λ (k : ℕ). getD parents k 0 < k) v below
         falls-on (suc i) m v q = w .falls i m (v .1) q
 
-        gate-on : (i m : ℕ) → i < suc (length l) → Walk parents node i m → getD (l ++ (getD codes node 0 ∷ [])) (suc (length l) - suc i) 0 ≡ getD codes m 0
+        gate-on : (i m : ℕ) → i < suc (length l) → Trail parents node i m → getD (l ++ (getD codes node 0 ∷ [])) (suc (length l) - suc i) 0 ≡ getD codes m 0
         gate-on zero m h v = getD-at l (getD codes node 0) [] 0 (suc (length l) - 1) (omega arith) ∙ ap (λ (k : ℕ). getD codes k 0) v
         gate-on (suc i) m h v =
             let e : suc (length l) - suc (suc i) ≡ length l - suc i = omega arith in
@@ -210,11 +204,11 @@ module _ (n basis : ℕ) (parents codes : List ℕ) where
     pub before : chainOf n basis parents codes (limit - 1) (getD parents node 0) ≡ good rest
 
   module _ (limit node : ℕ) {l : List ℕ} (e : chainOf n basis parents codes limit node ≡ good l) where
-    longer : 0 < node → 0 < length l
+    pub longer : 0 < node → 0 < length l
     longer p = by (length l) refl
       where
         by : (m : ℕ) → length l ≡ m → 0 < m
-        by zero z = absurd (omega (arith, subst (λ (k : ℕ). Walk parents node k 0) z (gates-of limit node e .ends)))
+        by zero z = absurd (omega (arith, subst (λ (k : ℕ). Trail parents node k 0) z (gates-of limit node e .ends)))
         by (suc m) z = omega arith
 
     above-root : 0 < length l → 0 < node
@@ -222,7 +216,7 @@ module _ (n basis : ℕ) (parents codes : List ℕ) where
       where
         by : (m : ℕ) → length l ≡ m → 0 < node
         by zero z = absurd (omega arith)
-        by (suc m) z = subst (λ (k : ℕ). Walk parents node k 0) z (gates-of limit node e .ends) .0
+        by (suc m) z = subst (λ (k : ℕ). Trail parents node k 0) z (gates-of limit node e .ends) .0
 
     pub link : 0 < length l → Link limit node l
     link h =
@@ -237,86 +231,13 @@ module _ (n basis : ℕ) (parents codes : List ℕ) where
         by below bad f g = let z : _≡_ {A = ℕ} 0 1 = cc in absurd (omega arith)
 
     -- the parent's chain is good within the same limit
-    parent-good : 0 < length l → (k : Link limit node l) → chain limit (getD parents node 0) ≡ good (k .rest)
+    pub parent-good : 0 < length l → (k : Link limit node l) → chain limit (getD parents node 0) ≡ good (k .rest)
     parent-good h k =
         let w = gates-of (limit - 1) (getD parents node 0) (k .before) in
         good-by limit (getD parents node 0) (record { valid = w .valid; short = omega (arith, w .short); ends = w .ends; marks = w .marks; falls = w .falls; gate = w .gate })
-
-    root-depth : node ≡ 0 → depthOf (chain limit node) ≡ given 0
-    root-depth z =
-        let h = walk-within parents node (length l) 0 0 (gates-of limit node e .ends) z in
-        ap depthOf e ∙ ap given (omega arith)
-
-    one-more : 0 < node → depthOf (chain limit node) ≡ oneMore (depthOf (chain limit (getD parents node 0)))
-    one-more p =
-        let k = link (longer p) in
-        ap depthOf e ∙ ap given (ap length (k .split) ∙ length-append (k .rest) (getD codes node 0 ∷ []) ∙ omega arith)
-        ∙ sym (ap (λ (x : Chain). oneMore (depthOf x)) (parent-good (longer p) k))
 
   pub chained : (limit node : ℕ) → Chained n basis limit parents codes node
   chained limit node = record {
     is-bad = (fault-of limit node, bad-by limit node);
     is-good = λ l. (gates-of limit node, good-by limit node);
-    root-depth = λ l e. root-depth limit node e;
-    one-more = λ l e. one-more limit node e;
   }
-
-  -- ---- the depth, as the code goes
-
-  module _ (limit node : ℕ) where
-    refused-by : Fault n basis limit parents codes node → refused 13 0 ≡ depthOf (chain limit node)
-    refused-by f = sym (ap depthOf (bad-by limit node f))
-
-    pub depth-unmarked : node ≡ 0 → marked parents codes ≡ false → refused 13 0 ≡ depthOf (chainOf n basis parents codes limit node)
-    depth-unmarked z t = refused-by (unmarked 0 z t)
-
-    pub depth-root : node ≡ 0 → marked parents codes ≡ true → given 0 ≡ depthOf (chainOf n basis parents codes limit node)
-    depth-root z t = sym (ap depthOf (ap (λ (k : ℕ). chain limit k) z ∙ good-by limit 0 (says-root limit true t)))
-
-    module _ (p : 0 < node) where
-      pub depth-spent : limit ≡ 0 → refused 13 0 ≡ depthOf (chainOf n basis parents codes limit node)
-      depth-spent z = refused-by (too-many 1 (getD parents node 0) (p, refl) (omega arith))
-
-      pub depth-not-below : node ≤ getD parents node 0 → refused 13 0 ≡ depthOf (chainOf n basis parents codes limit node)
-      depth-not-below h = refused-by (not-below 0 node refl p h)
-
-      pub depth-not-valid : validFor n basis (getD codes node 0) ≡ false → refused 13 0 ≡ depthOf (chainOf n basis parents codes limit node)
-      depth-not-valid t = refused-by (not-valid 0 node refl p t)
-
-      module _ (q : 0 < limit) (below : getD parents node 0 < node) (ok : validFor n basis (getD codes node 0) ≡ true) where
-        pub depth-more : {r : NodeDepth} {m : ℕ} → r ≡ At m → toldDepth r ≡ depthOf (chainOf n basis parents codes (limit - 1) (getD parents node 0)) → given (m + 1) ≡ depthOf (chainOf n basis parents codes limit node)
-        depth-more {m = m} e h = by (chain (limit - 1) (getD parents node 0)) (told-at e h) ∙ sym (ap depthOf (chain-more limit node q p below ok))
-          where
-            by : (k : Chain) → given m ≡ depthOf k → given (m + 1) ≡ depthOf (then k (getD codes node 0))
-            by (good l) f = let z : m ≡ length l = cc in ap given (omega (arith, z, length-append l (getD codes node 0 ∷ [])))
-            by bad f = let z : _≡_ {A = ℕ} 0 1 = cc in absurd (omega arith)
-
-        pub depth-bad : {r : NodeDepth} → r ≡ Bad → toldDepth r ≡ depthOf (chainOf n basis parents codes (limit - 1) (getD parents node 0)) → refused 13 0 ≡ depthOf (chainOf n basis parents codes limit node)
-        depth-bad e h = by (chain (limit - 1) (getD parents node 0)) (told-at e h) ∙ sym (ap depthOf (chain-more limit node q p below ok))
-          where
-            by : (k : Chain) → refused 13 0 ≡ depthOf k → refused 13 0 ≡ depthOf (then k (getD codes node 0))
-            by (good l) f = let z : _≡_ {A = ℕ} 0 1 = cc in absurd (omega arith)
-            by bad f = refl
-
-    -- a depth is that of a good chain, within the limit
-    pub record Deep (m : ℕ) : Type 0 where
-      pub list : List ℕ
-      pub is : chainOf n basis parents codes limit node ≡ good list
-      pub size : m ≡ length list
-      pub within : m ≤ limit
-
-    deep-given : {m : ℕ} (k : Chain) → chain limit node ≡ k → given m ≡ depthOf k → Deep m
-    deep-given {m} (good l) e f =
-        let z : m ≡ length l = cc in
-        record { list = l; is = e; size = z; within = omega (arith, gates-of limit node e .short) }
-    deep-given bad e f = let z : _≡_ {A = ℕ} 0 1 = cc in absurd (omega arith)
-
-    pub deep : {r : NodeDepth} {m : ℕ} → r ≡ At m → toldDepth r ≡ depthOf (chainOf n basis parents codes limit node) → Deep m
-    deep e h = deep-given (chain limit node) refl (told-at e h)
-
-    pub not-deep : {r : NodeDepth} → r ≡ Bad → toldDepth r ≡ depthOf (chainOf n basis parents codes limit node) → chainOf n basis parents codes limit node ≡ bad
-    not-deep e h = by (chain limit node) refl (told-at e h)
-      where
-        by : (k : Chain) → chain limit node ≡ k → refused 13 0 ≡ depthOf k → k ≡ bad
-        by (good l) f g = let z : _≡_ {A = ℕ} 0 1 = cc in absurd (omega arith)
-        by bad f g = refl

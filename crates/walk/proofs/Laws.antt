@@ -44,21 +44,10 @@ module _ (R : Rules) where
     NoClash G =
         (l m : List ℕ) → Over l → Over m → length l ≤ G → length m ≤ G → R .known (prod R l) (prod R m) ≡ true → Same (prod R l) (prod R m)
 
-    -- some node has the matrix up to a power of omega
-    abbrev pub Present : List Node → R .Mat → Type 0
-    Present ns x = (k : ℕ) × (k < length ns) × Same (prod R (listAt ns k)) x
-
-    -- Hypothesis K, of the nodes at hand: a candidate within d gates that fits and is skipped as known has a product that is a power of
-    -- omega times the product of some node present. (One that was appended is such a node itself.)
-    abbrev pub KnownIsPresent : ℕ → List Node → Type 0
-    KnownIsPresent d ns =
-        (k g : ℕ) → k < length ns → List·Memᴰ g (R .generators) → length (listAt ns k) < d → pruned R g (listAt ns k) ≡ false
-        → R .fits g (prod R (listAt ns k)) ≡ true → any (knows R (candidate R ns k g)) ns ≡ true → Present ns (candidate R ns k g)
-
     -- some node, no deeper than the list is long, has its product up to a power of omega
     abbrev pub Has : List Node → List ℕ → Type 0
     Has ns l = (k : ℕ) × (k < length ns) × (length (listAt ns k) ≤ length l) × Same (prod R (listAt ns k)) (prod R l)
 
     -- every list of the basis of at most d gates has such a node
-    abbrev pub Complete : ℕ → List Node → Type 0
-    Complete d ns = (l : List ℕ) → Over l → length l ≤ d → Has ns l
+    abbrev pub HasAll : ℕ → List Node → Type 0
+    HasAll d ns = (l : List ℕ) → Over l → length l ≤ d → Has ns l

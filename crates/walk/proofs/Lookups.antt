@@ -11,7 +11,8 @@ use lib.ListN.{getD}
 use borrow.Author.Tests.{eq-eqb, ne-eqb, eqb-true, eqb-false}
 use Rattle.ints.specs.Lists.{pick}
 use Rattle.ints.proofs.Bools.{neither}
-use Rattle.synthesis_arena.specs.Lookup.{Lookup, found, none, lowestOf, lowestFrom, LowestNode, Nowhere, LooksUp}
+use Rattle.walk.specs.Lookup.{Lookup, found, none, lowestOf, lowestFrom}
+use Rattle.walk.specs.Meaning.{LowestNode, Nowhere, LooksUp}
 
 -- ---- one node of the scan
 

@@ -1,0 +1,103 @@
+-- What look-ups, chains and answers come to, said of nodes, of the way along the parents and of lists: the words in which the definitions of
+-- Lookup, Chains and Answers are told a second time. Assumes nothing.
+use mathlib.Core.Path.{_≡_}
+use mathlib.Core.Bool.{true, false}
+use mathlib.Core.List.{List, _++_}
+use mathlib.Core.Logic.{_↔_}
+use Prim.Native.Nat.{ℕ, zero, suc, _-_, _≤_, _<_}
+use lib.ListN.{length, getD, drop}
+use Rattle.ints.specs.Lists.{all}
+use Rattle.circuit.specs.Codes.{validFor}
+use Rattle.exact.specs.Matrix.{Exact, PowerOf}
+use Rattle.exact.specs.Lists.{product}
+use Rattle.exact.specs.Fits.{allFit, unfitAt, steps}
+use Rattle.exact.specs.Phase.{upToPhase}
+use Rattle.exact.specs.Unitary.{Unitary}
+use Rattle.exact.specs.Fingerprint.{fingerprint}
+use Rattle.walk.specs.Lookup.{found, lowestFrom}
+use Rattle.walk.specs.Lookup as lookup
+use Rattle.walk.specs.Chains.{good, bad, marked, chainOf}
+use Rattle.walk.specs.Answers.{given, none, refused, outcome, answerOf}
+
+-- ---- the look-up
+
+-- a node has the fingerprint, is below the count and not below the start, and none before it has
+pub record LowestNode (fingerprints : List ℕ) (count from fingerprint node : ℕ) : Type 0 where
+  pub has : getD fingerprints node 0 ≡ fingerprint
+  pub below : node < count
+  pub not-before : from ≤ node
+  pub none-before : (m : ℕ) → from ≤ m → m < node → getD fingerprints m 0 ≡ fingerprint → ⊥
+
+-- none has it
+pub record Nowhere (fingerprints : List ℕ) (count from fingerprint : ℕ) : Type 0 where
+  pub none-has : (m : ℕ) → from ≤ m → m < count → getD fingerprints m 0 ≡ fingerprint → ⊥
+
+-- the definition, said of nodes
+pub record LooksUp (fingerprints : List ℕ) (count from fingerprint : ℕ) : Type 0 where
+  pub is-found : (node : ℕ) → (lowestFrom fingerprints count from fingerprint ≡ found node) ↔ LowestNode fingerprints count from fingerprint node
+  pub is-none : (lowestFrom fingerprints count from fingerprint ≡ lookup.none) ↔ Nowhere fingerprints count from fingerprint
+
+-- ---- the chain
+
+-- the walk from a node along the parents, which ends at node 0, comes to the node m after i gates
+abbrev pub Trail : List ℕ → ℕ → ℕ → ℕ → Type 0
+Trail parents node zero m = node ≡ m
+Trail parents node (suc i) m = (0 < node) × Trail parents (getD parents node 0) i m
+
+-- the walk meets a fault: one constructor for each part of the sentence
+pub data Fault (n basis limit : ℕ) (parents codes : List ℕ) (node : ℕ) : Type 0 where
+  not-below : (i m : ℕ) → Trail parents node i m → 0 < m → m ≤ getD parents m 0 → Fault n basis limit parents codes node
+  not-valid : (i m : ℕ) → Trail parents node i m → 0 < m → validFor n basis (getD codes m 0) ≡ false → Fault n basis limit parents codes node
+  too-many : (i m : ℕ) → Trail parents node i m → limit < i → Fault n basis limit parents codes node
+  unmarked : (i : ℕ) → Trail parents node i 0 → marked parents codes ≡ false → Fault n basis limit parents codes node
+
+-- the list of a walk that meets none: the gate passed i-th, counted from 0, is the i-th from the list's end
+pub record Gates (n basis limit : ℕ) (parents codes : List ℕ) (node : ℕ) (l : List ℕ) : Type 0 where
+  pub valid : all (validFor n basis) l ≡ true
+  pub short : length l ≤ limit
+  pub ends : Trail parents node (length l) 0
+  pub marks : marked parents codes ≡ true
+  pub falls : (i m : ℕ) → Trail parents node i m → 0 < m → getD parents m 0 < m
+  pub gate : (i m : ℕ) → i < length l → Trail parents node i m → getD l (length l - suc i) 0 ≡ getD codes m 0
+
+-- the definition, said of the way along the parents
+pub record Chained (n basis limit : ℕ) (parents codes : List ℕ) (node : ℕ) : Type 0 where
+  pub is-bad : (chainOf n basis parents codes limit node ≡ bad) ↔ Fault n basis limit parents codes node
+  pub is-good : (l : List ℕ) → (chainOf n basis parents codes limit node ≡ good l) ↔ Gates n basis limit parents codes node l
+
+-- ---- the answer
+
+module _ (fingerprints parents codes : List ℕ) (count n basis limit : ℕ) (x : Exact) where
+  -- a node is the lowest with the fingerprint of x, its walk gives the list, every step fits, and the product is equal up to phase to x
+  pub record AnsweredBy (l : List ℕ) : Type 0 where
+    pub node : ℕ
+    pub lowest : LowestNode fingerprints count 0 (fingerprint n x) node
+    pub gates : Gates n basis limit parents codes node l
+    pub fits : steps n l ≡ allFit
+    pub equal : upToPhase n (product n l) x ≡ true
+
+  -- no node has the fingerprint, or the list of the lowest that has "doesn't fit or is not equal up to phase"
+  pub data NoList : Type 0 where
+    not-found : Nowhere fingerprints count 0 (fingerprint n x) → NoList
+    does-not-fit : (node i : ℕ) (l : List ℕ) → LowestNode fingerprints count 0 (fingerprint n x) node → Gates n basis limit parents codes node l → steps n l ≡ unfitAt i → NoList
+    not-equal : (node : ℕ) (l : List ℕ) → LowestNode fingerprints count 0 (fingerprint n x) node → Gates n basis limit parents codes node l → upToPhase n (product n l) x ≡ false → NoList
+
+  -- the walk from the lowest node with the fingerprint meets a fault
+  pub record BadFound : Type 0 where
+    pub node : ℕ
+    pub lowest : LowestNode fingerprints count 0 (fingerprint n x) node
+    pub fault : Fault n basis limit parents codes node
+
+  -- the definition, said by these: what is answered, and what the lent list then holds
+  pub record Means (out : List ℕ) : Type 0 where
+    pub is-list : (m : ℕ) (after : List ℕ) → (answerOf fingerprints parents codes count n basis limit x out ≡ outcome (given m) after) ↔ ((l : List ℕ) × AnsweredBy l × (m ≡ length l) × (after ≡ l ++ drop m out))
+    pub is-none : (after : List ℕ) → (answerOf fingerprints parents codes count n basis limit x out ≡ outcome none after) ↔ (NoList × (after ≡ out))
+    pub is-refused : (a i : ℕ) (after : List ℕ) → (answerOf fingerprints parents codes count n basis limit x out ≡ outcome (refused a i) after) ↔ (BadFound × (a ≡ 13) × (i ≡ 0) × (after ≡ out))
+
+-- what then holds of the list and of the matrix asked, whatever the arrays hold: the product is a power of omega times the matrix, the list is
+-- one of the basis at the width and within the limit; "A query need not be unitary; such a one gets none"
+pub record Right (n basis limit : ℕ) (x : Exact) (l : List ℕ) : Type 0 where
+  pub power : PowerOf n x (product n l)
+  pub valid : all (validFor n basis) l ≡ true
+  pub short : length l ≤ limit
+  pub unitary : Unitary n x

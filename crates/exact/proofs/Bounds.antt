@@ -17,8 +17,9 @@ use Rattle.cyclotomic.proofs.Squares.{small-of-squares, small-over}
 use Rattle.exact.specs.Matrix.{Exact, allEntries, allDivisible, lowered, lower, identity}
 use Rattle.exact.specs.Rows.{Gate, raw, act, gateOf}
 use Rattle.exact.specs.Lists.{after, product}
-use Rattle.exact.specs.Fits.{mostK, stepFits, Steps, allFit, unfitAt, next, stepsFrom, steps, AllWithin, AllSmall}
-use Rattle.exact.specs.Unitary.{conj, inner, Unitary, total, RowLaw}
+use Rattle.exact.specs.Fits.{mostK, stepFits, Steps, allFit, unfitAt, next, stepsFrom, steps}
+use Rattle.exact.proofs.Words.{AllWithin, AllSmall, total, RowLaw}
+use Rattle.exact.specs.Unitary.{conj, inner, Unitary}
 use Rattle.exact.proofs.Linear.{raise-most}
 use Rattle.exact.proofs.Values.{pick-ind}
 use Rattle.exact.proofs.Coded.{proper}

@@ -15,7 +15,8 @@ use Rattle.circuit.specs.Kinds.{Kind, H, X, Z, S, Sdg, T, Tdg, Cx, Cz, Ccx, Ccz
 use Rattle.circuit.specs.Codes.{kindNumber, kindOf, first, second, third, placed, ordered, valid}
 use Rattle.circuit.specs.Pairs.{inverse, qubits, disjoint}
 use Rattle.circuit.proofs.ByNumber.{kind-past, kind-number}
-use Rattle.exact.specs.Rows.{Gate, phase, exchange, had, bitOf, gate, gateOf, Lacks, AllBelow, Proper, touches, Apart, Undoes, turns, exchanges, hads}
+use Rattle.exact.specs.Rows.{Gate, phase, exchange, had, bitOf, gate, gateOf}
+use Rattle.exact.proofs.Words.{Lacks, AllBelow, Proper, touches, Apart, Undoes, turns, exchanges, hads}
 use Rattle.exact.proofs.Values.{pick-ind}
 use Rattle.exact.proofs.Linear.{apart-sym}
 

@@ -11,8 +11,9 @@ use Rattle.cyclotomic.specs.Zomega.{Zω, zeroω, addω, subω, turn, sqrt2}
 use Rattle.cyclotomic.proofs.Sums.{add-comm, add-four, add-zero, zero-add}
 use Rattle.cyclotomic.proofs.Turns.{turn-zero, turn-none, turn-add, turn-sum, turn-comm, sub-is}
 use Rattle.cyclotomic.proofs.Division.{sqrt2-add, sqrt2-zero, turn-sqrt2, twice-sum, twice-sub}
-use Rattle.exact.specs.Matrix.{Exact, sqrt2s, SameValue, Equal, turned}
-use Rattle.exact.specs.Rows.{flip, ones, Gate, phase, exchange, had, column, raise, raw, Lacks, Proper, touches, Apart, Undoes, turns, exchanges, hads}
+use Rattle.exact.specs.Matrix.{Exact, sqrt2s, SameValue, turned}
+use Rattle.exact.proofs.Words.{Equal, Lacks, Proper, touches, Apart, Undoes, turns, exchanges, hads}
+use Rattle.exact.specs.Rows.{flip, ones, Gate, phase, exchange, had, column, raise, raw}
 use Rattle.exact.proofs.Flips.{flip-flip, flip-comm, bit-own, bit-other, ones-other, flip-lt, moved-back}
 use Rattle.exact.proofs.Values.{sqrt2s-sqrt2}
 

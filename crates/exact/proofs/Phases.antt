@@ -16,7 +16,8 @@ use Rattle.cyclotomic.proofs.Turns.{turn-sum, turn-back, turn-zero}
 use Rattle.cyclotomic.proofs.Order
 use Rattle.cyclotomic.proofs.Order.{phase-turn}
 use Rattle.cyclotomic.proofs.Answers.{eqZ-true, eqZ-self, zero-yes, zero-no, zero-is, zero-turn}
-use Rattle.exact.specs.Matrix.{Exact, Equal, Lowest, allEntries, turned, PowerOf}
+use Rattle.exact.specs.Matrix.{Exact, Lowest, allEntries, turned, PowerOf}
+use Rattle.exact.proofs.Words.{Equal}
 use Rattle.exact.specs.Phase.{flat, firstNonzero, pivot, phaseOf, phased, upToPhase}
 use Rattle.exact.proofs.Values.{entries-to, entries-from, equal-sym, equal-trans, equal-same, unique, turned-lowest}
 

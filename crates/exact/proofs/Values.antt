@@ -10,7 +10,8 @@ use Rattle.ints.specs.Lists.{pick, range, all}
 use Rattle.ints.proofs.Bools.{clash, all-range, range-all}
 use Rattle.cyclotomic.specs.Zomega.{Zω, turn, sqrt2, divisible, overSqrt2}
 use Rattle.cyclotomic.proofs.Division.{sqrt2-over, sqrt2-divisible, sqrt2-cancel, turn-sqrt2, divisible-turn}
-use Rattle.exact.specs.Matrix.{Exact, sqrt2s, SameValue, Equal, allEntries, allDivisible, Lowest, lowered, lower, turned}
+use Rattle.exact.specs.Matrix.{Exact, sqrt2s, SameValue, allEntries, allDivisible, Lowest, lowered, lower, turned}
+use Rattle.exact.proofs.Words.{Equal}
 
 -- ---- powers of √2
 

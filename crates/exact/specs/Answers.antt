@@ -13,10 +13,6 @@ pub data Answer : Type 0 where
   given : ℕ → Answer
   refused : ℕ → ℕ → Answer
 
--- one gate: the exponent of the exact step where it fits, "does not fit" where it does not
-unfoldable pub stepAnswer : ℕ → Gate → Exact → Answer
-stepAnswer n g x = pick (stepFits n g x) (given (act n g x .k)) (refused doesNotFit 0)
-
 -- by how its steps went, and its product's exponent
 abbrev pub bySteps : ℕ → Steps → Answer
 bySteps k allFit = given k

@@ -19,14 +19,6 @@ mostK = 65535
 unfoldable pub stepFits : ℕ → Gate → Exact → Bool
 stepFits n g x = leb (raw g x .k) mostK && allEntries n (λ r c. fits (raw g x .e r c))
 
--- every coefficient of every entry is within a bound
-pub record AllWithin (n bound : ℕ) (e : ℕ → ℕ → Zω) : Type 0 where
-  pub small : (r c : ℕ) → r < 2 ^ n → c < 2 ^ n → WithinBound bound (e r c)
-
--- every coefficient of every entry is within the limit
-abbrev pub AllSmall : ℕ → (ℕ → ℕ → Zω) → Type 0
-AllSmall n e = AllWithin n limit e
-
 -- whether every step of a list fits, or the position of the first that does not
 pub data Steps : Type 0 where
   allFit : Steps

@@ -21,11 +21,6 @@ sqrt2s (suc k) x = sqrt2 (sqrt2s k x)
 pub record SameValue (n : ℕ) (x y : Exact) : Type 0 where
   pub at : (r c : ℕ) → r < 2 ^ n → c < 2 ^ n → sqrt2s (y .k) (x .e r c) ≡ sqrt2s (x .k) (y .e r c)
 
--- one exponent and the same entries
-pub record Equal (n : ℕ) (x y : Exact) : Type 0 where
-  pub exponent : x .k ≡ y .k
-  pub entries : (r c : ℕ) → r < 2 ^ n → c < 2 ^ n → x .e r c ≡ y .e r c
-
 -- a test of every entry
 abbrev pub allEntries : ℕ → (ℕ → ℕ → Bool) → Bool
 allEntries n f = all (λ r. all (f r) (range 0 (2 ^ n))) (range 0 (2 ^ n))

@@ -22,12 +22,3 @@ natω m = mk (pos m) (pos 0) (pos 0) (pos 0)
 pub record Unitary (n : ℕ) (x : Exact) : Type 0 where
   pub own : (i : ℕ) → i < 2 ^ n → inner n (x .e) i i ≡ natω (2 ^ x .k)
   pub other : (i j : ℕ) → i < 2 ^ n → j < 2 ^ n → (i ≡ j → ⊥) → inner n (x .e) i j ≡ zeroω
-
--- the sum of f over the numbers below m
-abbrev pub total : ℕ → (ℕ → ℕ) → ℕ
-total zero f = 0
-total (suc m) f = total m f + f m
-
--- each row's coefficient squares sum to 2^k
-pub record RowLaw (n : ℕ) (x : Exact) : Type 0 where
-  pub sums : (r : ℕ) → r < 2 ^ n → total (2 ^ n) (λ c. squares (x .e r c)) ≡ 2 ^ x .k

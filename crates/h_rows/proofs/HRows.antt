@@ -17,7 +17,7 @@ use Rattle.ints.proofs.Bits.{digit-lt, ext, and-digit, or-digit}
 use Rattle.ints.proofs.Bools.{clash}
 use Rattle.cyclotomic.specs.Zomega.{Zω, limit, addω, subω, Small, sizesPass}
 use Rattle.cyclotomic.proofs.Sizes.{SizesSmall, sizes-sum, sizes-difference, both-sizes}
-use Rattle.exact.specs.Fits.{AllSmall}
+use Rattle.exact.proofs.Words.{AllSmall}
 use Rattle.exact.specs.Places.{entry, read}
 use Rattle.places.specs.Places.{places, put, Same, Kept}
 use Rattle.rows.specs.Rows.{has, hRows}

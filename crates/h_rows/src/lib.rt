@@ -4,7 +4,7 @@
 ghost use mathlib.Core.Path.{_≡_};
 ghost use Prim.Native.Nat.{_+_, _*_, _^_, _<_, _≤_};
 ghost use lib.ListN.{length};
-ghost use Rattle.exact.specs.Fits.{AllSmall};
+ghost use Rattle.exact.proofs.Words.{AllSmall};
 ghost use Rattle.exact.specs.Places.{read};
 ghost use Rattle.places.specs.Places.{places, Same, Kept};
 ghost use Rattle.rows.specs.Rows.{hRows};

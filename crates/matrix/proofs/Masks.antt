@@ -14,7 +14,8 @@ use Rattle.circuit.specs.Pairs.{maskOf}
 use Rattle.circuit.proofs.ByNumber.{kind-past}
 use Rattle.circuit.proofs.Sets.{mask-apart}
 use Rattle.circuit.specs.Kinds.{kindAt, isKind}
-use Rattle.exact.specs.Rows.{exchange, had, gate, gateOf, Lacks, Proper}
+use Rattle.exact.specs.Rows.{exchange, had, gate, gateOf}
+use Rattle.exact.proofs.Words.{Lacks, Proper}
 use Rattle.exact.proofs.Coded.{proper}
 use lib.IntN.{ℤ}
 use Rattle.matrix.specs.Step.{Stepped, Exchanged}

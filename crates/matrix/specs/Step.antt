@@ -4,12 +4,12 @@ use mathlib.Core.List.{List}
 use Prim.Native.Nat.{ℕ}
 use lib.IntN.{ℤ}
 use lib.ListN.{length}
-use Rattle.exact.specs.Matrix.{Exact, Equal, Lowest}
+use Rattle.exact.specs.Matrix.{Exact, Lowest}
+use Rattle.exact.proofs.Words.{Equal, Proper, AllSmall, stepAnswer}
 use Rattle.cyclotomic.specs.Told.{doesNotFit}
 use Rattle.circuit.specs.Pairs.{maskOf}
-use Rattle.exact.specs.Rows.{Gate, phase, exchange, act, Proper}
-use Rattle.exact.specs.Fits.{AllSmall}
-use Rattle.exact.specs.Answers.{Answer, given, refused, stepAnswer}
+use Rattle.exact.specs.Rows.{Gate, phase, exchange, act}
+use Rattle.exact.specs.Answers.{Answer, given, refused}
 use Rattle.exact.specs.Places.{read, held}
 use Rattle.places.specs.Places.{places, Kept}
 use Rattle.matrix.specs.declared.UnitaryMatrix.{UnitaryMatrix}

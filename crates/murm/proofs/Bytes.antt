@@ -11,8 +11,8 @@ use lib.ListN.{length, getD, take, set}
 use lib.Seq.{take-suc, take-suc-set}
 use Rattle.cyclotomic.specs.Zomega.{Zω, limit}
 use Rattle.cyclotomic.proofs.Number.{each}
-use Rattle.exact.specs.Matrix.{Exact, Equal}
-use Rattle.exact.specs.Fits.{AllSmall}
+use Rattle.exact.specs.Matrix.{Exact}
+use Rattle.exact.proofs.Words.{Equal, AllSmall}
 use Rattle.exact.specs.Phase.{flat}
 use Rattle.exact.proofs.Phases.{row-lt, col-lt, flat-lt, at-flat}
 use Rattle.exact.specs.Places.{entry, read, held}

@@ -11,7 +11,8 @@ use lib.ListN.{length}
 use Rattle.ints.specs.Lists.{pick, all}
 use Rattle.ints.proofs.Bools.{clash}
 use Rattle.circuit.specs.Codes.{valid}
-use Rattle.exact.specs.Matrix.{Equal, SameValue, Lowest}
+use Rattle.exact.specs.Matrix.{SameValue, Lowest}
+use Rattle.exact.proofs.Words.{Equal}
 use Rattle.exact.specs.Paper.{paperProduct}
 use Rattle.exact.specs.Lists.{product}
 use Rattle.exact.specs.Fits.{Steps, allFit, unfitAt, steps, FirstPast}

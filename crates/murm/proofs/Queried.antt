@@ -13,7 +13,8 @@ use Rattle.ints.proofs.Bools.{clash}
 use Rattle.cyclotomic.specs.Zomega.{Zω, limit, eqZ, WithinBound}
 use Rattle.exact.specs.Matrix.{Exact, allDivisible, Lowest}
 use Rattle.exact.specs.Lists.{product}
-use Rattle.exact.specs.Fits.{AllSmall, Steps, allFit, unfitAt, steps}
+use Rattle.exact.specs.Fits.{Steps, allFit, unfitAt, steps}
+use Rattle.exact.proofs.Words.{AllSmall}
 use Rattle.exact.specs.Answers.{given, refused, bySteps, listAnswer}
 use Rattle.exact.specs.Phase.{flat}
 use Rattle.exact.proofs.Phases.{row-lt, col-lt}

@@ -6,7 +6,7 @@ use Prim.Native.Nat.{ℕ, _≤_, _<_}
 use lib.IntN.{ℤ, pos, negsuc, natAbs}
 use lib.ListN.{length, getD}
 use Rattle.cyclotomic.specs.Zomega.{limit, eqZ}
-use Rattle.exact.specs.Fits.{AllSmall}
+use Rattle.exact.proofs.Words.{AllSmall}
 use Rattle.exact.specs.Places.{read}
 use Rattle.refusal.specs.Told.{Reason, byRow}
 use Rattle.tables.specs.Checks.{anyBelow, firstRow, queryRows}

@@ -6,7 +6,7 @@ ghost use Prim.Native.Nat.{_+_, _*_, _^_, _≤_, _<_};
 ghost use lib.Dec.{ltb};
 ghost use lib.ListN.{length, take, drop};
 ghost use Rattle.exact.specs.Matrix.{allDivisible};
-ghost use Rattle.exact.specs.Fits.{AllSmall};
+ghost use Rattle.exact.proofs.Words.{AllSmall};
 ghost use Rattle.exact.specs.Places.{read, held};
 ghost use Rattle.width_answer.specs.Answers.{toldAnswered};
 ghost use Rattle.walk.specs.Answers.{answerOf, outcome as replied};

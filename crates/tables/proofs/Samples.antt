@@ -21,7 +21,8 @@ use Rattle.circuit.specs.Kinds.{kindAt, number, arity, sorted, isKind, dual}
 use Rattle.circuit.specs.Codes.{placed, rises, valid, validFor}
 use Rattle.circuit.specs.Pairs.{inverse, qubits, disjoint}
 use Rattle.generators.specs.Generators.{kept, generators}
-use Rattle.exact.specs.Matrix.{Exact, identity, lower, Equal, PowerOf}
+use Rattle.exact.specs.Matrix.{Exact, identity, lower, PowerOf}
+use Rattle.exact.proofs.Words.{Equal}
 use Rattle.exact.specs.Unitary.{conj, inner, Unitary}
 use Rattle.exact.specs.Rows.{flip, column, gateOf}
 use Rattle.exact.specs.Lists.{product}

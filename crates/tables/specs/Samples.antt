@@ -6,7 +6,8 @@ use Prim.Native.Nat.{ℕ, _≤_, _<_}
 use lib.IntN.{pos}
 use lib.ListN.{length}
 use Rattle.circuit.specs.Codes.{mark}
-use Rattle.exact.specs.Matrix.{Equal, PowerOf}
+use Rattle.exact.specs.Matrix.{PowerOf}
+use Rattle.exact.proofs.Words.{Equal}
 use Rattle.exact.specs.Lists.{product}
 use Rattle.exact.specs.Unitary.{Unitary}
 use Rattle.exact.specs.Fingerprint.{fingerprint}

@@ -7,7 +7,7 @@ ghost use Prim.Native.Nat.{_*_, _^_, _≤_, _<_};
 ghost use lib.ListN.{length, drop};
 ghost use Rattle.ints.specs.Lists.{all};
 ghost use Rattle.circuit.specs.Codes.{valid};
-ghost use Rattle.exact.specs.Fits.{AllSmall};
+ghost use Rattle.exact.proofs.Words.{AllSmall};
 ghost use Rattle.exact.specs.Places.{read, held};
 ghost use Rattle.walk.specs.Chains.{chainOf};
 ghost use Rattle.width_answer.specs.Answers.{toldAnswered};

@@ -11,9 +11,9 @@ use lib.Seq.{getD-set-same, getD-set-other}
 use Rattle.cyclotomic.specs.Zomega.{Small}
 use Rattle.cyclotomic.specs.Told.{doesNotFit}
 use Rattle.cyclotomic.proofs.Number.{each}
-use Rattle.exact.specs.Matrix.{Equal}
+use Rattle.exact.proofs.Words.{Equal, AllSmall}
 use Rattle.exact.specs.Rows.{act, gateOf}
-use Rattle.exact.specs.Fits.{AllSmall, stepFits}
+use Rattle.exact.specs.Fits.{stepFits}
 use Rattle.exact.specs.Fingerprint.{fingerprint}
 use Rattle.exact.specs.Answers.{given, refused}
 use Rattle.exact.proofs.Keeps.{equal-lowest}

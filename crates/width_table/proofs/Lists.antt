@@ -13,7 +13,8 @@ use Rattle.ints.proofs.Bools.{and-both, clash}
 use Rattle.circuit.specs.Codes.{valid, validFor, mark}
 use Rattle.circuit.proofs.Coded.{basis-valid}
 use Rattle.generators.proofs.Generated.{lists}
-use Rattle.exact.specs.Matrix.{Exact, Equal, Lowest}
+use Rattle.exact.specs.Matrix.{Exact, Lowest}
+use Rattle.exact.proofs.Words.{Equal}
 use Rattle.exact.specs.Lists.{product}
 use Rattle.exact.specs.Fits.{Steps, allFit, unfitAt, steps}
 use Rattle.exact.specs.Answers.{given, bySteps, listAnswer}

@@ -10,7 +10,8 @@ use lib.Dec.{ltb}
 use lib.ListN.{length, getD, set}
 use Rattle.circuit.specs.Codes.{mark}
 use Rattle.circuit.specs.Pairs.{inverse, disjoint}
-use Rattle.exact.specs.Matrix.{Exact, Equal}
+use Rattle.exact.specs.Matrix.{Exact}
+use Rattle.exact.proofs.Words.{Equal}
 use Rattle.exact.specs.Rows.{act, gateOf}
 use Rattle.exact.specs.Fits.{stepFits}
 use Rattle.exact.specs.Answers.{given, refused}

@@ -9,7 +9,7 @@ ghost use Rattle.tables.specs.Checks.{limitsOf, placesOf};
 ghost use Rattle.murm_config.specs.Told.{toldConfig, toldWidth, toldMurm};
 use murm_config::Murm;
 use murm_config::MurmConfig;
-use width_table::WidthLimits;
+use synthesis_arena::WidthLimits;
 use width_table::WidthTable;
 
 // The part of width v + 1. The width limit, 0 in the clauses, plays no part in a width's walk.

@@ -15,6 +15,14 @@ use circuit::LibraryGate;
 // "Its parent and gate both read 4294967295."
 pub const MARK: u32 = 4294967295;
 
+// The limits of a width: its number, the basis as a set, the gate limit, the entry limit.
+pub struct WidthLimits {
+    pub width: u32,
+    pub basis: u32,
+    pub gates: usize,
+    pub entries: usize,
+}
+
 // A node with a fingerprint, or that there is none.
 pub enum Found {
     At(usize),

@@ -26,19 +26,12 @@ use matrix::UnitaryMatrix;
 use synthesis_arena::Found;
 use synthesis_arena::MARK;
 use synthesis_arena::NodeCircuit;
+use synthesis_arena::WidthLimits;
 
 // The fingerprint of a candidate, or that it does not fit.
 pub enum Candidate {
     Print(u64),
     DoesNotFit,
-}
-
-// The limits of a width: its number, the basis as a set, the gate limit, the entry limit.
-pub struct WidthLimits {
-    pub width: u32,
-    pub basis: u32,
-    pub gates: usize,
-    pub entries: usize,
 }
 
 // How many nodes there are now, and whether one more was wanted than there may be.

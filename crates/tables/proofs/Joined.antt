@@ -23,7 +23,7 @@ use Rattle.walk.proofs.Layers.{walk-shape}
 use Rattle.walk.proofs.Rechecks.{recheck-exactly}
 use Rattle.walk.proofs.Held.{chain-is}
 use Rattle.walk.proofs.Exactly.{print-is}
-use Rattle.walk.specs.Answers.{rechecked, given, Outcome, outcome, ofChain, ofLookup, answerOf}
+use Rattle.walk.specs.Answers.{WidthLimits, partWith, rechecked, given, Outcome, outcome, ofChain, ofLookup, answerOf}
 use Rattle.walk.specs.Answers as a
 use Rattle.walk.proofs.Rechecked.{rechecked-exactly}
 
@@ -90,6 +90,9 @@ module _ (n basis : ℕ) (small : n ≤ 5) where
   -- ---- the nodes of a build
 
   module _ (G E : ℕ) {f u c : List ℕ} (h : Holding n basis (built n basis G E .nodes) f u c) where
+    abbrev at : WidthLimits
+    at = record { width = n; basis = basis; gates = G; entries = E }
+
     abbrev ns : List Node
     ns = built n basis G E .nodes
 
@@ -132,20 +135,20 @@ module _ (n basis : ℕ) (small : n ≤ 5) where
       at-node j l =
           ap (ofChain n x out) (chain j l) ∙ rw (recheck-same (listAt ns j) x) (by-test (listAt ns j) (recheck (atWidth n basis) (listAt ns j) x))
 
-      told : answerOf f u c (length ns) n basis G x out ≡ toldOption (answered n basis G E x) out
+      told : answerOf at (partWith f u c (length ns)) x out ≡ toldOption (answered n basis G E x) out
       unfolding answerOf answerBy
-      told = ap (ofLookup u c n basis G x out) (looked-up x) ∙ by (ltb k (length ns)) refl
+      told = ap (ofLookup at (partWith f u c (length ns)) x out) (looked-up x) ∙ by (ltb k (length ns)) refl
         where
           k : ℕ
           k = lowest (answersTo (atWidth n basis) x) ns
 
           by : (t : Bool) → ltb k (length ns) ≡ t
-              → ofLookup u c n basis G x out (pick t (found k) lookup.none)
+              → ofLookup at (partWith f u c (length ns)) x out (pick t (found k) lookup.none)
               ≡ toldOption (oldestFirst (pick t (pick (recheck (atWidth n basis) (listAt ns k) x) (some (listAt ns k)) none) none)) out
           by true e = at-node k (ltb-true k (length ns) e)
           by false e = refl
 
 -- whatever the other places hold, the arrays answer what the width of the build answers
 pub joined : (n basis G E : ℕ) → n ≤ 5 → (f u c : List ℕ) → Holding n basis (built n basis G E .nodes) f u c → (x : Exact) (out : List ℕ)
-    → answerOf f u c (length (built n basis G E .nodes)) n basis G x out ≡ toldOption (answered n basis G E x) out
+    → answerOf (record { width = n; basis = basis; gates = G; entries = E }) (partWith f u c (length (built n basis G E .nodes))) x out ≡ toldOption (answered n basis G E x) out
 joined n basis G E small f u c h x out = told n basis small G E h x out

@@ -15,11 +15,11 @@ use Rattle.exact.specs.Matrix.{Exact, Lowest, allDivisible}
 use Rattle.exact.proofs.Values.{pick-ind}
 use Rattle.exact.specs.Places.{read, held}
 use Rattle.walk.proofs.Nodewise.{answered}
-use Rattle.walk.specs.Answers.{given, refused, outcome, answerOf}
+use Rattle.walk.specs.Answers.{partWith, given, refused, outcome, answerOf}
 use Rattle.walk.specs.Answers as a
 use Rattle.walk.proofs.Meaning.{kind-of}
 use Rattle.tables.specs.Checks.{Row, row, firstRow, Arrays, placesOf, roomRow, byteCount, anyBelow, queryRows}
-use Rattle.tables.specs.Tables.{Table, Width, widthAt, walkOf, Query, matrixOf, recordRow, listRow, partOf, notAWidth, synthesized}
+use Rattle.tables.specs.Tables.{Table, Width, widthAt, walkOf, Query, matrixOf, recordRow, listRow, partOf, notAWidth, synthesized, limitsAt, partAt}
 use Rattle.tables.specs.Built.{Built}
 use Rattle.tables.specs.Demand3.{Gives}
 use Rattle.tables.proofs.Rows.{numbered-query, first-past, first-none, append-none}
@@ -139,10 +139,10 @@ module _ (t : Table) (a : Arrays) (b : Built t a) where
 
     -- it answers as the walk does
     pub part-answers : (x : Exact) (out : List ℕ)
-        → answerOf (partOf w E (a .prints)) (partOf w E (a .parents)) (partOf w E (a .codes)) (widthAt t w .count) w B G x out
+        → answerOf (limitsAt (t .limits) w) (partAt t a w) x out
         ≡ toldOption (answered w B G E x) out
     part-answers x out =
-        ap (λ (v : Width). answerOf (partOf w E (a .prints)) (partOf w E (a .parents)) (partOf w E (a .codes)) (v .count) w B G x out)
+        ap (λ (v : Width). answerOf (limitsAt (t .limits) w) (partWith (partOf w E (a .prints)) (partOf w E (a .parents)) (partOf w E (a .codes)) (v .count)) x out)
         (width-is t a b w p h)
         ∙ joined w B G E (widths-small w h) (partOf w E (a .prints)) (partOf w E (a .parents))
         (partOf w E (a .codes)) holding x out

@@ -10,7 +10,7 @@ use Rattle.walk.specs.Answers.{refused, outcome}
 use Rattle.walk.specs.Meaning.{AnsweredBy, NoList, BadFound}
 use Rattle.walk.proofs.Meaning.{kind-of}
 use Rattle.tables.specs.Checks.{Row, firstRow, Arrays, queryRows}
-use Rattle.tables.specs.Tables.{Table, widthAt, Query, matrixOf, listRow, answerRows, partOf, notAWidth}
+use Rattle.tables.specs.Tables.{Table, widthAt, Query, matrixOf, listRow, answerRows, partOf, notAWidth, limitsAt, partAt}
 use Rattle.tables.specs.Built.{Built}
 use Rattle.tables.specs.Demand3.{Gives, GivesNone, Refuses, NotRefused}
 use Rattle.tables.proofs.Rows.{first-here, first-past}
@@ -47,20 +47,11 @@ first-exactly (x ∷ rs) r p = one-more x rs r (first-exactly rs r p)
 
 module _ (t : Table) (a : Arrays) (q : Query) (out : List ℕ) where
   -- the part of the query's width
-  abbrev f : List ℕ
-  f = partOf (q .width) (t .limits .entries) (a .prints)
-
-  abbrev u : List ℕ
-  u = partOf (q .width) (t .limits .entries) (a .parents)
-
-  abbrev c : List ℕ
-  c = partOf (q .width) (t .limits .entries) (a .codes)
-
   abbrev BadPart : Type 0
-  BadPart = BadFound f u c (widthAt t (q .width) .count) (q .width) (t .limits .basis) (t .limits .gates) (matrixOf q)
+  BadPart = BadFound (limitsAt (t .limits) (q .width)) (partAt t a (q .width)) (matrixOf q)
 
   abbrev NoPart : Type 0
-  NoPart = NoList f u c (widthAt t (q .width) .count) (q .width) (t .limits .basis) (t .limits .gates) (matrixOf q)
+  NoPart = NoList (limitsAt (t .limits) (q .width)) (partAt t a (q .width)) (matrixOf q)
 
   -- a refusal comes from the first row that holds, or is 13 for the chain found
   data Refusal (r : ℕ) : Type 0 where
@@ -116,7 +107,7 @@ module _ (t : Table) (a : Arrays) (q : Query) (out : List ℕ) where
   -- a list is given exactly where no row holds, the table has the width, and the part of the width has the list
   pub gives-exactly : (l : List ℕ) → Gives t a q out l
       ↔ ((rowOfAnswer t a q out ≡ 0) × (notAWidth t q ≡ false)
-      × AnsweredBy f u c (widthAt t (q .width) .count) (q .width) (t .limits .basis) (t .limits .gates) (matrixOf q) l)
+      × AnsweredBy (limitsAt (t .limits) (q .width)) (partAt t a (q .width)) (matrixOf q) l)
   gives-exactly l = (
     (λ g. let (e, w, p) = gives-asked t a q out l g in (e, w, gives-answers t a q out l g)),
     (λ x. width-asked t a q out (x .0) (x .1) ∙ asked-means t a q out .is-list (length l) (l ++ drop (length l) out) .1 (l, x .2, refl, refl)),

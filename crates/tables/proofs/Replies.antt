@@ -12,7 +12,7 @@ use Rattle.walk.specs.Answers.{Reply, given, none, refused, Outcome, outcome}
 use Rattle.walk.specs.Meaning.{AnsweredBy, Means, Right}
 use Rattle.walk.proofs.Meaning.{kind, size, kind-of, means, answers-right}
 use Rattle.tables.specs.Checks.{firstRow, Arrays}
-use Rattle.tables.specs.Tables.{Table, widthAt, Query, matrixOf, answerRows, partOf, partAsked, notAWidth, repliedBy, synthesized}
+use Rattle.tables.specs.Tables.{Table, widthAt, Query, matrixOf, answerRows, partOf, partAsked, notAWidth, repliedBy, synthesized, limitsAt, partAt}
 use Rattle.tables.specs.Demand3.{Gives, GivesNone, Refuses, NotRefused, Decided, a-list, no-list, a-refusal}
 
 -- ---- one answer is one case alone
@@ -97,11 +97,8 @@ module _ (t : Table) (a : Arrays) (q : Query) (out : List ℕ) where
 
   -- ---- what the part of the width answers
 
-  abbrev pub asked-means : Means (partOf (q .width) (t .limits .entries) (a .prints)) (partOf (q .width) (t .limits .entries) (a .parents))
-      (partOf (q .width) (t .limits .entries) (a .codes)) (widthAt t (q .width) .count) (q .width) (t .limits .basis) (t .limits .gates) (matrixOf q) out
-  asked-means =
-      means (partOf (q .width) (t .limits .entries) (a .prints)) (partOf (q .width) (t .limits .entries) (a .parents))
-      (partOf (q .width) (t .limits .entries) (a .codes)) (widthAt t (q .width) .count) (q .width) (t .limits .basis) (t .limits .gates) (matrixOf q) out
+  abbrev pub asked-means : Means (limitsAt (t .limits) (q .width)) (partAt t a (q .width)) (matrixOf q) out
+  asked-means = means (limitsAt (t .limits) (q .width)) (partAt t a (q .width)) (matrixOf q) out
 
   pub decided : Decided t a q out
   decided = by cases
@@ -126,13 +123,12 @@ module _ (t : Table) (a : Arrays) (q : Query) (out : List ℕ) where
 
   -- the list given is the part's
   pub gives-answers : (l : List ℕ) → Gives t a q out l
-      → AnsweredBy (partOf (q .width) (t .limits .entries) (a .prints)) (partOf (q .width) (t .limits .entries) (a .parents))
-      (partOf (q .width) (t .limits .entries) (a .codes)) (widthAt t (q .width) .count) (q .width) (t .limits .basis) (t .limits .gates) (matrixOf q) l
+      → AnsweredBy (limitsAt (t .limits) (q .width)) (partAt t a (q .width)) (matrixOf q) l
   gives-answers l g =
       let (m, w, z, h) = asked-means .is-list (length l) (l ++ drop (length l) out) .0 (gives-asked l g .2) in
       let e : l ≡ m = one-list l m out ((λ k. outcome (given (z k)) (h k)) ∙ ap (λ (j : ℕ). outcome (given (length m)) (m ++ drop j out)) z) in
-      subst (AnsweredBy _ _ _ _ _ _ _ _) (sym e) w
+      subst (AnsweredBy _ _ _) (sym e) w
 
   -- (a), and that the matrix asked is unitary
   pub gives-right : (l : List ℕ) → Gives t a q out l → Right (q .width) (t .limits .basis) (t .limits .gates) (matrixOf q) l
-  gives-right l g = answers-right _ _ _ _ _ _ _ _ (gives-answers l g)
+  gives-right l g = answers-right _ _ _ (gives-answers l g)

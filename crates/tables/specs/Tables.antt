@@ -10,7 +10,7 @@ use Rattle.exact.specs.Matrix.{Exact}
 use Rattle.exact.specs.Places.{held}
 use Rattle.walk.specs.Walk.{Build, gate, any}
 use Rattle.walk.specs.AtWidth.{built, printOf, parentOf}
-use Rattle.walk.specs.Answers.{none, refused, Outcome, outcome, answerOf}
+use Rattle.walk.specs.Answers.{WidthLimits, Part, partWith, none, refused, Outcome, outcome, answerOf}
 use Rattle.tables.specs.Checks.{Row, row, firstRow, Limits, limitRows, Arrays, roomRow, queryRows}
 
 -- ---- the record
@@ -147,11 +147,18 @@ answerRows t a q out =
 abbrev pub partOf : ℕ → ℕ → List ℕ → List ℕ
 partOf n E xs = take E (drop ((n - 1) * E) xs)
 
+abbrev pub partAt : Table → Arrays → ℕ → Part
+partAt t a w =
+    partWith (partOf w (t .limits .entries) (a .prints)) (partOf w (t .limits .entries) (a .parents)) (partOf w (t .limits .entries) (a .codes))
+    (widthAt t w .count)
+
+-- the limits of a width of the table
+abbrev pub limitsAt : Limits → ℕ → WidthLimits
+limitsAt l w = record { width = w; basis = l .basis; gates = l .gates; entries = l .entries }
+
 -- what the part of the query's width answers
 abbrev pub partAsked : Table → Arrays → Query → List ℕ → Outcome
-partAsked t a q out =
-    answerOf (partOf (q .width) (t .limits .entries) (a .prints)) (partOf (q .width) (t .limits .entries) (a .parents))
-    (partOf (q .width) (t .limits .entries) (a .codes)) (widthAt t (q .width) .count) (q .width) (t .limits .basis) (t .limits .gates) (matrixOf q) out
+partAsked t a q out = answerOf (limitsAt (t .limits) (q .width)) (partAt t a (q .width)) (matrixOf q) out
 
 -- "Width 0 or above Q, once the checks up to 12 are passed: none."
 abbrev pub notAWidth : Table → Query → Bool

@@ -18,7 +18,7 @@ use Rattle.walk.specs.Lookup as lookup
 use Rattle.walk.specs.Chains.{Chain, good, bad, chainOf}
 use Rattle.walk.proofs.Lookups.{looks-up}
 use Rattle.walk.proofs.Chaining.{gates-of, good-by, fault-of, bad-by}
-use Rattle.walk.specs.Answers.{fitsAll, rechecked, Reply, given, none, refused, Outcome, outcome, ofChain, answerOf}
+use Rattle.walk.specs.Answers.{WidthLimits, Part, fitsAll, rechecked, Reply, given, none, refused, Outcome, outcome, ofChain, answerOf}
 
 -- ---- a reply is one case alone
 
@@ -50,19 +50,40 @@ test-fails : (s : Steps) (t : Bool) → t ≡ false → fitsAll s && t ≡ false
 test-fails allFit t e = e
 test-fails (unfitAt i) t e = refl
 
-module _ (fps parents codes : List ℕ) (count n basis limit : ℕ) (x : Exact) where
+module _ (limits : WidthLimits) (part : Part) (x : Exact) where
+  abbrev fps : List ℕ
+  fps = part .fingerprints
+
+  abbrev parents : List ℕ
+  parents = part .parents
+
+  abbrev codes : List ℕ
+  codes = part .codes
+
+  abbrev count : ℕ
+  count = part .count
+
+  abbrev n : ℕ
+  n = limits .width
+
+  abbrev basis : ℕ
+  basis = limits .basis
+
+  abbrev limit : ℕ
+  limit = limits .gates
+
   abbrev Ans : List ℕ → Type 0
-  Ans l = AnsweredBy fps parents codes count n basis limit x l
+  Ans l = AnsweredBy limits part x l
 
   abbrev No : Type 0
-  No = NoList fps parents codes count n basis limit x
+  No = NoList limits part x
 
   abbrev Bad : Type 0
-  Bad = BadFound fps parents codes count n basis limit x
+  Bad = BadFound limits part x
 
   module _ (out : List ℕ) where
     abbrev answer : Outcome
-    answer = answerOf fps parents codes count n basis limit x out
+    answer = answerOf limits part x out
 
     -- ---- from what holds to the answer
 
@@ -114,7 +135,7 @@ module _ (fps parents codes : List ℕ) (count n basis limit : ℕ) (x : Exact) 
 
     -- ---- both
 
-    pub means : Means fps parents codes count n basis limit x out
+    pub means : Means limits part x out
     means = record {
       is-list = λ m after. (to-list view, from-list);
       is-none = λ after. (to-none view, λ p. none-answer (p .0) ∙ ap (outcome none) (sym (p .1)));
@@ -149,7 +170,7 @@ module _ (fps parents codes : List ℕ) (count n basis limit : ℕ) (x : Exact) 
 
   -- ---- what then holds, whatever the arrays hold
 
-  pub answers-right : {l : List ℕ} → AnsweredBy fps parents codes count n basis limit x l → Right n basis limit x l
+  pub answers-right : {l : List ℕ} → AnsweredBy limits part x l → Right (limits .width) (limits .basis) (limits .gates) x l
   answers-right {l} w =
       let p = power-of-test n x (product n l) (up-sym n (product n l) x (w .equal)) in
       record { power = p; valid = w .gates .valid; short = w .gates .short; unitary = unitary-asked n l p }

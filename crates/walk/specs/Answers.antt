@@ -13,6 +13,25 @@ use Rattle.walk.specs.Lookup.{Lookup, found, lowestFrom}
 use Rattle.walk.specs.Lookup as lookup
 use Rattle.walk.specs.Chains.{Chain, good, bad, chainOf}
 
+-- ---- what is asked of
+
+-- the limits of a width: its number, the basis, the gate limit, the entry limit
+pub record WidthLimits : Type 0 where
+  pub width : ℕ
+  pub basis : ℕ
+  pub gates : ℕ
+  pub entries : ℕ
+
+-- a width's part of the three arrays, and how many nodes it has
+pub record Part : Type 0 where
+  pub fingerprints : List ℕ
+  pub parents : List ℕ
+  pub codes : List ℕ
+  pub count : ℕ
+
+abbrev pub partWith : List ℕ → List ℕ → List ℕ → ℕ → Part
+partWith f u c count = record { fingerprints = f; parents = u; codes = c; count = count }
+
 -- ---- the recheck
 
 -- every step fits
@@ -48,11 +67,11 @@ ofChain n x out (good l) = pick (rechecked n l x) (outcome (given (length l)) (l
 ofChain n x out bad = outcome (refused 13 0) out
 
 -- "Its list is read by walking parents, oldest gate first."
-abbrev pub ofLookup : List ℕ → List ℕ → ℕ → ℕ → ℕ → Exact → List ℕ → Lookup → Outcome
-ofLookup parents codes n basis limit x out (found node) = ofChain n x out (chainOf n basis parents codes limit node)
-ofLookup parents codes n basis limit x out lookup.none = outcome none out
+abbrev pub ofLookup : WidthLimits → Part → Exact → List ℕ → Lookup → Outcome
+ofLookup limits part x out (found node) =
+    ofChain (limits .width) x out (chainOf (limits .width) (limits .basis) (part .parents) (part .codes) (limits .gates) node)
+ofLookup limits part x out lookup.none = outcome none out
 
 -- "The lowest node of that width with its fingerprint is found."
-unfoldable pub answerOf : List ℕ → List ℕ → List ℕ → ℕ → ℕ → ℕ → ℕ → Exact → List ℕ → Outcome
-answerOf fingerprints parents codes count n basis limit x out =
-    ofLookup parents codes n basis limit x out (lowestFrom fingerprints count 0 (fingerprint n x))
+unfoldable pub answerOf : WidthLimits → Part → Exact → List ℕ → Outcome
+answerOf limits part x out = ofLookup limits part x out (lowestFrom (part .fingerprints) (part .count) 0 (fingerprint (limits .width) x))

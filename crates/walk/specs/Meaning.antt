@@ -17,7 +17,7 @@ use Rattle.exact.specs.Fingerprint.{fingerprint}
 use Rattle.walk.specs.Lookup.{found, lowestFrom}
 use Rattle.walk.specs.Lookup as lookup
 use Rattle.walk.specs.Chains.{good, bad, marked, chainOf}
-use Rattle.walk.specs.Answers.{given, none, refused, outcome, answerOf}
+use Rattle.walk.specs.Answers.{WidthLimits, Part, given, none, refused, outcome, answerOf}
 
 -- ---- the look-up
 
@@ -67,32 +67,47 @@ pub record Chained (n basis limit : ℕ) (parents codes : List ℕ) (node : ℕ)
 
 -- ---- the answer
 
-module _ (fingerprints parents codes : List ℕ) (count n basis limit : ℕ) (x : Exact) where
-  -- a node is the lowest with the fingerprint of x, its walk gives the list, every step fits, and the product is equal up to phase to x
+module _ (limits : WidthLimits) (part : Part) (x : Exact) where
+  -- the lowest node with the fingerprint of x; that there is none; the list of the way from a node, or that the way meets a fault
+  abbrev pub FoundNode : ℕ → Type 0
+  FoundNode node = LowestNode (part .fingerprints) (part .count) 0 (fingerprint (limits .width) x) node
+
+  abbrev pub NotFoundAny : Type 0
+  NotFoundAny = Nowhere (part .fingerprints) (part .count) 0 (fingerprint (limits .width) x)
+
+  abbrev pub GatesOf : ℕ → List ℕ → Type 0
+  GatesOf node l = Gates (limits .width) (limits .basis) (limits .gates) (part .parents) (part .codes) node l
+
+  abbrev pub FaultOf : ℕ → Type 0
+  FaultOf node = Fault (limits .width) (limits .basis) (limits .gates) (part .parents) (part .codes) node
+
+  -- the found node's way gives the list, every step fits, and the product is equal up to phase to x
   pub record AnsweredBy (l : List ℕ) : Type 0 where
     pub node : ℕ
-    pub lowest : LowestNode fingerprints count 0 (fingerprint n x) node
-    pub gates : Gates n basis limit parents codes node l
-    pub fits : steps n l ≡ allFit
-    pub equal : upToPhase n (product n l) x ≡ true
+    pub lowest : FoundNode node
+    pub gates : GatesOf node l
+    pub fits : steps (limits .width) l ≡ allFit
+    pub equal : upToPhase (limits .width) (product (limits .width) l) x ≡ true
 
-  -- no node has the fingerprint, or the list of the lowest that has "doesn't fit or is not equal up to phase"
+  -- no node has the fingerprint, or the list of the lowest that has does not fit or is not equal up to phase
   pub data NoList : Type 0 where
-    not-found : Nowhere fingerprints count 0 (fingerprint n x) → NoList
-    does-not-fit : (node i : ℕ) (l : List ℕ) → LowestNode fingerprints count 0 (fingerprint n x) node → Gates n basis limit parents codes node l → steps n l ≡ unfitAt i → NoList
-    not-equal : (node : ℕ) (l : List ℕ) → LowestNode fingerprints count 0 (fingerprint n x) node → Gates n basis limit parents codes node l → upToPhase n (product n l) x ≡ false → NoList
+    not-found : NotFoundAny → NoList
+    does-not-fit : (node i : ℕ) (l : List ℕ) → FoundNode node → GatesOf node l → steps (limits .width) l ≡ unfitAt i → NoList
+    not-equal : (node : ℕ) (l : List ℕ) → FoundNode node → GatesOf node l → upToPhase (limits .width) (product (limits .width) l) x ≡ false → NoList
 
-  -- the walk from the lowest node with the fingerprint meets a fault
+  -- the way from the lowest node with the fingerprint meets a fault
   pub record BadFound : Type 0 where
     pub node : ℕ
-    pub lowest : LowestNode fingerprints count 0 (fingerprint n x) node
-    pub fault : Fault n basis limit parents codes node
+    pub lowest : FoundNode node
+    pub fault : FaultOf node
 
   -- the definition, said by these: what is answered, and what the lent list then holds
   pub record Means (out : List ℕ) : Type 0 where
-    pub is-list : (m : ℕ) (after : List ℕ) → (answerOf fingerprints parents codes count n basis limit x out ≡ outcome (given m) after) ↔ ((l : List ℕ) × AnsweredBy l × (m ≡ length l) × (after ≡ l ++ drop m out))
-    pub is-none : (after : List ℕ) → (answerOf fingerprints parents codes count n basis limit x out ≡ outcome none after) ↔ (NoList × (after ≡ out))
-    pub is-refused : (a i : ℕ) (after : List ℕ) → (answerOf fingerprints parents codes count n basis limit x out ≡ outcome (refused a i) after) ↔ (BadFound × (a ≡ 13) × (i ≡ 0) × (after ≡ out))
+    pub is-list : (m : ℕ) (after : List ℕ)
+        → (answerOf limits part x out ≡ outcome (given m) after) ↔ ((l : List ℕ) × AnsweredBy l × (m ≡ length l) × (after ≡ l ++ drop m out))
+    pub is-none : (after : List ℕ) → (answerOf limits part x out ≡ outcome none after) ↔ (NoList × (after ≡ out))
+    pub is-refused : (a i : ℕ) (after : List ℕ)
+        → (answerOf limits part x out ≡ outcome (refused a i) after) ↔ (BadFound × (a ≡ 13) × (i ≡ 0) × (after ≡ out))
 
 -- what then holds of the list and of the matrix asked, whatever the arrays hold: the product is a power of omega times the matrix, the list is
 -- one of the basis at the width and within the limit; "A query need not be unitary; such a one gets none"

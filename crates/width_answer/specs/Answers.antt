@@ -1,4 +1,10 @@
--- The number and the values of each case of a width's answer. Assumes nothing.
+-- The number and the values of each case of a width's answer, and what is asked of the places of a query. Assumes nothing.
+use Prim.Native.Nat.{ℕ, _*_, _^_, _≤_}
+use mathlib.Core.List.{List}
+use lib.IntN.{ℤ}
+use lib.ListN.{length}
+use Rattle.exact.specs.Places.{read}
+use Rattle.exact.proofs.Words.{AllSmall}
 use Rattle.walk.specs.Answers.{Reply, given, none, refused}
 use Rattle.width_answer.specs.declared.Answered.{Answered}
 use Rattle.width_answer.specs.declared.Answered.the-variants as a
@@ -7,3 +13,7 @@ abbrev pub toldAnswered : Answered → Reply
 toldAnswered (a.List m) = given m
 toldAnswered a.Nothing = none
 toldAnswered a.BadChain = refused 13 0
+
+-- the places lent for the matrix asked: all of them are there, and every coefficient is within the limit
+abbrev pub AskedPlaces : ℕ → List ℤ → Type 0
+AskedPlaces n places = (4 * (2 ^ n * 2 ^ n) ≤ length places) × AllSmall n (read n places)

@@ -4,7 +4,7 @@ use mathlib.Core.List.{List, [], _∷_}
 use Prim.Native.Nat.{ℕ, zero, suc, _*_, _^_}
 use lib.IntN.{ℤ}
 use lib.Dec.{eqb, ltb}
-use lib.ListN.{length}
+use lib.ListN.{length, take, drop}
 use Rattle.ints.specs.Lists.{pick}
 use Rattle.cyclotomic.specs.Zomega.{Zω}
 use Rattle.circuit.specs.Codes.{valid}
@@ -14,7 +14,7 @@ use Rattle.exact.specs.Answers.{Answer, given, refused, listAnswer}
 use Rattle.exact.specs.Phase.{flat}
 use Rattle.exact.specs.Fingerprint.{fingerprint}
 use Rattle.exact.specs.Places.{held}
-use Rattle.walk.specs.Answers.{Reply}
+use Rattle.walk.specs.Answers.{Part, partWith, Reply}
 use Rattle.walk.specs.Answers as a
 use Rattle.tables.specs.Checks.{byteCount, firstRow, queryRows, Arrays}
 use Rattle.tables.specs.Tables.{Table, BuildReply, table, refusal, Query, listRow, repliedBy}
@@ -95,6 +95,10 @@ abbrev pub toldSynthesized : Synthesized → Reply
 toldSynthesized (s.Circuit m) = a.given m
 toldSynthesized s.Nothing = a.none
 toldSynthesized (s.Refused r) = a.refused (numberOf r) (positionOf r)
+
+-- the places from a start on, as many as a width has, of each array
+abbrev pub partFrom : ℕ → ℕ → ℕ → List ℕ → List ℕ → List ℕ → Part
+partFrom start entries count f u c = partWith (take entries (drop start f)) (take entries (drop start u)) (take entries (drop start c)) count
 
 -- what is answered once the checks up to 11 are passed
 abbrev pub askedOf : Table → Arrays → Query → List ℕ → a.Outcome

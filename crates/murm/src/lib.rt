@@ -8,15 +8,15 @@ ghost use lib.ListN.{length, take, drop};
 ghost use Rattle.exact.specs.Matrix.{allDivisible};
 ghost use Rattle.exact.proofs.Words.{AllSmall};
 ghost use Rattle.exact.specs.Places.{read, held};
-ghost use Rattle.width_answer.specs.Answers.{toldAnswered};
+ghost use Rattle.synthesis_arena.specs.Limits.{toldLimits};
+ghost use Rattle.width_answer.specs.Answers.{AskedPlaces, toldAnswered};
 ghost use Rattle.walk.specs.Answers.{answerOf, outcome as replied};
 ghost use Rattle.tables.specs.Checks.{firstRow, queryRows, arrays, roomRow};
 ghost use Rattle.tables.specs.Tables.{left, buildOf, query, recordRow, partAsked, synthesized};
 ghost use Rattle.refusal.specs.Told.{toldCheck};
 ghost use Rattle.murm_config.specs.Told.{toldConfig, toldMurm};
-ghost use Rattle.murm.specs.Entries.{firstInvalid, outcome, listed, toldListed, fingerprinted, toldFingerprinted, toldBuilding, askedOf, toldSynthesized};
+ghost use Rattle.murm.specs.Entries.{partFrom, firstInvalid, outcome, listed, toldListed, fingerprinted, toldFingerprinted, toldBuilding, askedOf, toldSynthesized};
 ghost use Rattle.murm.specs.Work.{PastLimit, InRange, Checked};
-use circuit::GateSet;
 use circuit::LibraryGate;
 use cyclotomic::Coefficient;
 use cyclotomic::LIMIT;
@@ -26,6 +26,7 @@ use murm_config::Murm;
 use murm_config::MurmConfig;
 use refusal::Check;
 use refusal::Refusal;
+use synthesis_arena::WidthLimits;
 use width_answer::Answered;
 
 // What a list became: its exponent, or why it was refused.
@@ -173,7 +174,8 @@ pub fn build(
     parents: &mut [u32],
     codes: &mut [u32],
 ) -> Building
-    ensures { λ r. ⌜ left (toldBuilding r) (arrays (now (fingerprints .exit)) (now (parents .exit)) (now (codes .exit))) ≡ buildOf (toldConfig config) (arrays (now (fingerprints .entry)) (now (parents .entry)) (now (codes .entry))) ⌝ }
+    ensures { λ r. ⌜ left (toldBuilding r) (arrays (now (fingerprints .exit)) (now (parents .exit)) (now (codes .exit)))
+        ≡ buildOf (toldConfig config) (arrays (now (fingerprints .entry)) (now (parents .entry)) (now (codes .entry))) ⌝ }
 {
     match murm_config::limits(config) {
         Check::Passed => {
@@ -195,35 +197,34 @@ pub enum Synthesized {
 
 // The places from `start` on, as many as a width has, are asked.
 fn ask_from(
+    limits: WidthLimits,
+    start: usize,
+    count: usize,
+    exponent: u16,
     fingerprints: &[u64],
     parents: &[u32],
     codes: &[u32],
-    start: usize,
-    entries: usize,
-    count: usize,
-    width: u32,
-    basis: GateSet,
-    limit: usize,
-    exponent: u16,
     matrix: &[Coefficient],
     out: &mut [u32],
 ) -> Answered
-    requires { ⌜ (width ≤ 5) × (limit ≤ 64) × (limit ≤ length (now out)) ⌝ }
-    requires { ⌜ (start ≤ 5000000) × (entries ≤ 1000000) × (count ≤ entries) ⌝ }
-    requires { ⌜ (start + entries ≤ length (now fingerprints)) × (start + entries ≤ length (now parents)) × (start + entries ≤ length (now codes)) ⌝ }
-    requires { ⌜ (4 * (2 ^ width * 2 ^ width) ≤ length (now matrix)) × AllSmall width (read width (now matrix)) ⌝ }
-    ensures { λ r. ⌜ replied (toldAnswered r) (now (out .exit)) ≡ answerOf (take entries (drop start (now (fingerprints .entry)))) (take entries (drop start (now (parents .entry)))) (take entries (drop start (now (codes .entry)))) count width (basis .0) limit (held width exponent (now (matrix .entry))) (now (out .entry)) ⌝ }
+    requires { ⌜ (limits .width ≤ 5) × (limits .gates ≤ 64) × (limits .gates ≤ length (now out)) ⌝ }
+    requires { ⌜ (start ≤ 5000000) × (limits .entries ≤ 1000000) × (count ≤ limits .entries) ⌝ }
+    requires { ⌜ (start + limits .entries ≤ length (now fingerprints)) × (start + limits .entries ≤ length (now parents))
+        × (start + limits .entries ≤ length (now codes)) ⌝ }
+    requires { ⌜ AskedPlaces (limits .width) (now matrix) ⌝ }
+    ensures { λ r. ⌜ replied (toldAnswered r) (now (out .exit))
+        ≡ answerOf (toldLimits limits)
+        (partFrom start (limits .entries) count (now (fingerprints .entry)) (now (parents .entry)) (now (codes .entry)))
+        (held (limits .width) exponent (now (matrix .entry))) (now (out .entry)) ⌝ }
 {
-    let end = start + entries;
+    let end = start + limits.entries;
     width_answer::answer_width(
+        limits,
+        count,
+        exponent,
         &fingerprints[start..end],
         &parents[start..end],
         &codes[start..end],
-        count,
-        width,
-        basis,
-        limit,
-        exponent,
         matrix,
         out,
     )
@@ -244,22 +245,27 @@ fn ask_part(
     requires { ⌜ roomRow (toldConfig (table .config)) (arrays (now fingerprints) (now parents) (now codes)) .holds ≡ false ⌝ }
     requires { ⌜ (firstRow (queryRows width exponent (now matrix)) ≡ 0) × AllSmall width (read width (now matrix)) ⌝ }
     requires { ⌜ table .config .«max_gates» ≤ length (now out) ⌝ }
-    ensures { λ r. ⌜ replied (toldSynthesized r) (now (out .exit)) ≡ partAsked (toldMurm table) (arrays (now (fingerprints .entry)) (now (parents .entry)) (now (codes .entry))) (query width exponent (now (matrix .entry))) (now (out .entry)) ⌝ }
+    ensures { λ r. ⌜ replied (toldSynthesized r) (now (out .exit))
+        ≡ partAsked (toldMurm table) (arrays (now (fingerprints .entry)) (now (parents .entry)) (now (codes .entry))) (query width exponent (now (matrix .entry))) (now (out .entry)) ⌝ }
 {
     let e = table.config.max_entries_per_qubit as usize;
     let start = (width as usize - 1) * e;
     let row = murm_config::width_table(table, width);
+    let basis = table.config.basis;
+    let limits = WidthLimits {
+        width,
+        basis: basis.0,
+        gates: table.config.max_gates as usize,
+        entries: e,
+    };
     match ask_from(
+        limits,
+        start,
+        row.count,
+        exponent,
         fingerprints,
         parents,
         codes,
-        start,
-        e,
-        row.count,
-        width,
-        table.config.basis,
-        table.config.max_gates as usize,
-        exponent,
         matrix,
         out,
     ) {
@@ -283,7 +289,8 @@ fn ask(
     requires { ⌜ recordRow (toldMurm table) .holds ≡ false ⌝ }
     requires { ⌜ roomRow (toldConfig (table .config)) (arrays (now fingerprints) (now parents) (now codes)) .holds ≡ false ⌝ }
     requires { ⌜ (firstRow (queryRows width exponent (now matrix)) ≡ 0) × AllSmall width (read width (now matrix)) ⌝ }
-    ensures { λ r. ⌜ replied (toldSynthesized r) (now (out .exit)) ≡ askedOf (toldMurm table) (arrays (now (fingerprints .entry)) (now (parents .entry)) (now (codes .entry))) (query width exponent (now (matrix .entry))) (now (out .entry)) ⌝ }
+    ensures { λ r. ⌜ replied (toldSynthesized r) (now (out .exit))
+        ≡ askedOf (toldMurm table) (arrays (now (fingerprints .entry)) (now (parents .entry)) (now (codes .entry))) (query width exponent (now (matrix .entry))) (now (out .entry)) ⌝ }
 {
     if out.len() < table.config.max_gates as usize {
         return Synthesized::Refused(Refusal::ListTooShort);
@@ -318,7 +325,8 @@ pub fn synthesize(
     matrix: &[Coefficient],
     out: &mut [u32],
 ) -> Synthesized
-    ensures { λ r. ⌜ replied (toldSynthesized r) (now (out .exit)) ≡ synthesized (toldMurm table) (arrays (now (fingerprints .entry)) (now (parents .entry)) (now (codes .entry))) (query width exponent (now (matrix .entry))) (now (out .entry)) ⌝ }
+    ensures { λ r. ⌜ replied (toldSynthesized r) (now (out .exit))
+        ≡ synthesized (toldMurm table) (arrays (now (fingerprints .entry)) (now (parents .entry)) (now (codes .entry))) (query width exponent (now (matrix .entry))) (now (out .entry)) ⌝ }
 {
     if murm_config::bad_record(table) {
         return Synthesized::Refused(Refusal::BadTable);

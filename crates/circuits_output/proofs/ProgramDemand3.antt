@@ -201,8 +201,8 @@ module _ (t : Table) (m : Arrays) (b : Built t m) (w : ℕ) (asked : List ℕ) w
           (λ c o z. complete t m b w asked k bytes e c .shortest lentList l g o (from t m b w asked k bytes e o z))
       by (d.no-list g) =
           no-list (text t m b w asked k bytes e ∙ ap answerText g)
-          (λ c p u s o z h. complete t m b w asked k bytes e c .none-exactly p u s lentList (not-refused t m b w asked k bytes e) .0 g o
-          (from t m b w asked k bytes e o z) h)
+          (λ c p u s o z h. complete t m b w asked k bytes e c .none-exactly p u (ap (λ (v : Width). v .saturated) (width-is t m b w p u) ∙ s) lentList
+          (not-refused t m b w asked k bytes e) .0 g o (from t m b w asked k bytes e o z) h)
       by (d.a-refusal r n) = absurd (not-refused t m b w asked k bytes e r n)
 
   refused-means : (number position : ℕ) (bytes : List ℤ) → listed w asked (lentBytes w) ≡ outcome (e.refused number position) bytes

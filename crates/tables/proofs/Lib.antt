@@ -9,3 +9,6 @@ pub mod OfBuilt
 pub mod Demand3
 pub mod Refused
 pub mod Samples
+pub mod Coefficients
+pub mod Lists
+pub mod Demand2

@@ -1,13 +1,15 @@
 -- The demands, stated of what the public entries answer, for every input: `library_circuit_matrix` answers `listed`, `build` answers `buildOf`,
 -- `synthesize` answers `synthesized`. Demand 1 is what the proofs of the functions say: every entry ends on every input without an undefined
--- step, and the clauses name each refusal and what the lent places then hold. Assumes nothing.
+-- step, and the clauses name each refusal and what the lent places then hold; where each refusal is told is `Exactly`. Assumes nothing.
 use mathlib.Core.List.{List}
 use Prim.Native.Nat.{ℕ}
 use lib.IntN.{ℤ}
 use Rattle.tables.specs.Demand2.{Demand2}
 use Rattle.tables.specs.Demand3.{Demand3}
+use Rattle.tables.specs.Exactly.{Exactly}
 
 -- Demand 3, "Whatever the lent table holds, ..": the record `Demand3` of tables/specs/Demand3.antt, with `Built` of tables/specs/Built.antt
 pub record Demands : Type 0 where
+  pub refusals : Exactly
   pub second : (n : ℕ) (codes : List ℕ) (bytes : List ℤ) → Demand2 n codes bytes
   pub third : Demand3

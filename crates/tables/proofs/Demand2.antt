@@ -1,6 +1,6 @@
 -- Demand 2, its first half, as specs/Demand2 states it of the entry for lists. Assumes nothing.
 use mathlib.Core.Path.{_≡_, refl, sym, ap, _∙_, subst}
-use mathlib.Core.Bool.{Bool, true, false}
+use mathlib.Core.Bool.{Bool, true, false, not}
 use mathlib.Core.List.{List}
 use mathlib.Core.Logic.{_↔_}
 use Prim.Native.Nat.{ℕ, _≤_, _<_}
@@ -31,18 +31,18 @@ use Rattle.tables.proofs.Lists.{valid-first, list-8, list-formed}
 
 -- an answer that is given comes from the last case
 last-case : (p q r : Bool) (a b c d o : ListOutcome) → isGiven (a .answer) ≡ false → isGiven (b .answer) ≡ false → isGiven (c .answer) ≡ false
-    → isGiven (o .answer) ≡ true → pick p a (pick q (pick r b d) c) ≡ o → d ≡ o
+    → isGiven (o .answer) ≡ true → pick p a (pick q b (pick r c d)) ≡ o → d ≡ o
 last-case true q r a b c d o x y z g e = clash g (sym (ap (λ (t : ListOutcome). isGiven (t .answer)) e) ∙ x)
-last-case false true true a b c d o x y z g e = clash g (sym (ap (λ (t : ListOutcome). isGiven (t .answer)) e) ∙ y)
-last-case false true false a b c d o x y z g e = e
-last-case false false r a b c d o x y z g e = clash g (sym (ap (λ (t : ListOutcome). isGiven (t .answer)) e) ∙ z)
+last-case false true r a b c d o x y z g e = clash g (sym (ap (λ (t : ListOutcome). isGiven (t .answer)) e) ∙ y)
+last-case false false true a b c d o x y z g e = clash g (sym (ap (λ (t : ListOutcome). isGiven (t .answer)) e) ∙ z)
+last-case false false false a b c d o x y z g e = e
 
 module _ (n : ℕ) (codes : List ℕ) (bytes : List ℤ) where
   pub accepted-formed : (k : ℕ) (after : List ℤ) → listed n codes bytes ≡ outcome (given k) after → formed n codes bytes (listAnswer n codes) ≡ outcome (given k) after
   unfolding listed
   accepted-formed k after e =
-      last-case (ltb 5 n) (eqb (length bytes) (byteCount n)) (ltb (firstInvalid n codes) (length codes)) (outcome (refused 6 0) bytes)
-      (outcome (refused 7 (firstInvalid n codes)) bytes) (outcome (refused 9 0) bytes) (formed n codes bytes (listAnswer n codes)) (outcome (given k) after) refl refl refl refl e
+      last-case (ltb 5 n) (not (eqb (length bytes) (byteCount n))) (ltb (firstInvalid n codes) (length codes)) (outcome (refused 6 0) bytes)
+      (outcome (refused 9 0) bytes) (outcome (refused 7 (firstInvalid n codes)) bytes) (formed n codes bytes (listAnswer n codes)) (outcome (given k) after) refl refl refl refl e
 
   pub accepted-is : (k : ℕ) (after : List ℤ) → listed n codes bytes ≡ outcome (given k) after → Equal n (held n k after) (product n codes)
   unfolding listAnswer

@@ -4,4 +4,5 @@ pub mod Built
 pub mod Demand3
 pub mod Lists
 pub mod Demand2
+pub mod Exactly
 pub mod Samples

@@ -1,4 +1,5 @@
 -- What a list becomes, for every input: its matrix, or the refusal's number and position, and what the lent bytes then hold. Assumes nothing.
+use mathlib.Core.Bool.{not}
 use mathlib.Core.List.{List, [], _∷_}
 use Prim.Native.Nat.{ℕ, zero, suc, _*_, _^_}
 use lib.IntN.{ℤ}
@@ -47,6 +48,6 @@ formed n codes bytes (refused a i) = outcome (refused a i) bytes
 unfoldable pub listed : ℕ → List ℕ → List ℤ → ListOutcome
 listed n codes bytes =
     pick (ltb 5 n) (outcome (refused 6 0) bytes)
-    (pick (eqb (length bytes) (byteCount n))
-    (pick (ltb (firstInvalid n codes) (length codes)) (outcome (refused 7 (firstInvalid n codes)) bytes) (formed n codes bytes (listAnswer n codes)))
-    (outcome (refused 9 0) bytes))
+    (pick (not (eqb (length bytes) (byteCount n))) (outcome (refused 9 0) bytes)
+    (pick (ltb (firstInvalid n codes) (length codes)) (outcome (refused 7 (firstInvalid n codes)) bytes)
+    (formed n codes bytes (listAnswer n codes))))

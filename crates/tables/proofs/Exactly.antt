@@ -32,8 +32,7 @@ use Rattle.tables.proofs.OfBuilt.{a-width}
 use Rattle.tables.proofs.Demand3.{has-width}
 use Rattle.tables.proofs.Lists.{list-6, list-9, list-7, list-8, list-formed}
 use Rattle.tables.proofs.Causes.{first-to, first-from, none-to, none-from, none-first, OneEach, one-first, first-more, first-later, first-split}
-use Rattle.tables.proofs.InWords.{build-in-words}
-use Rattle.tables.proofs.RecordInWords.{rowCauses, answer-in-words}
+use Rattle.tables.proofs.InWords.{build-in-words, rowCauses, answer-in-words}
 
 -- ---- a build
 

@@ -2,7 +2,6 @@ pub mod Rows
 pub mod Causes
 pub mod InWords
 pub mod Accepted
-pub mod RecordInWords
 pub mod Coefficients
 pub mod Lists
 pub mod Filled

@@ -8,7 +8,8 @@ use Rattle.tables.specs.Tables.{Table, query, synthesized}
 use Rattle.walk.specs.Answers as a
 use Rattle.murm.specs.declared.Listed.{Listed}
 use Rattle.murm.specs.declared.Synthesized.{Synthesized}
-use Rattle.murm.specs.Entries.{Outcome, outcome, toldListed, toldSynthesized}
+use Rattle.tables.specs.Lists.{ListOutcome, outcome}
+use Rattle.murm.specs.Entries.{toldListed, toldSynthesized}
 use Rattle.circuits_text.specs.Writing.{Put}
 use Rattle.circuits_text.proofs.Placing.{put-as}
 use Rattle.circuits_lines.specs.Program.{replyText, answerText, lentList, matrixText, listedText, outcomeText}
@@ -30,7 +31,7 @@ matrix-as t m width exponent bytes r old after e h d =
 
 -- the answer to a list is the case s
 pub listed-as :
-    (t : Table) (m : Arrays) (width : ℕ) (after : List ℤ) {at p : ℕ} {xs ys : List ℕ} {o : Outcome} {r s : Listed} →
+    (t : Table) (m : Arrays) (width : ℕ) (after : List ℤ) {at p : ℕ} {xs ys : List ℕ} {o : ListOutcome} {r s : Listed} →
     r ≡ s → outcome (toldListed r) after ≡ o →
     Put at (listedText t m width (toldListed s) after) p xs ys → Put at (outcomeText t m width o) p xs ys
 listed-as t m width after e h d =

@@ -12,7 +12,7 @@ use Rattle.walk.specs.Answers.{Reply}
 use Rattle.walk.specs.Answers as a
 use Rattle.tables.specs.Checks.{Arrays, byteCount}
 use Rattle.tables.specs.Tables.{Width, Table, widthAt, query, partOf, synthesized}
-use Rattle.murm.specs.Entries.{Outcome, listed}
+use Rattle.tables.specs.Lists.{ListOutcome, listed}
 use Rattle.circuits_text.specs.Reading.{newline, words, allNumbers, numbers}
 use Rattle.circuits_lines.specs.Lines.{refusedLine, noneLine, tableLine, nodeLines, answerLine}
 
@@ -84,7 +84,7 @@ abbrev pub listedText : Table → Arrays → ℕ → Answer → List ℤ → Lis
 listedText t m width (e.given k) bytes = matrixText t m width k bytes
 listedText t m width (e.refused number position) bytes = refusedLine number position
 
-abbrev pub outcomeText : Table → Arrays → ℕ → Outcome → List ℕ
+abbrev pub outcomeText : Table → Arrays → ℕ → ListOutcome → List ℕ
 outcomeText t m width o = listedText t m width (o .answer) (o .bytes)
 
 -- the bytes that are lent for a list's matrix: "exactly 4 × 4^n"; none for a width that is refused

@@ -31,7 +31,7 @@ use Rattle.walk.specs.AtWidth.{atWidth, ListOf, parentOf}
 use Rattle.walk.proofs.Held.{map-at}
 use Rattle.walk.proofs.Prefixes.{completed-unsaturated}
 use Rattle.tables.specs.Checks.{Limits, Arrays, byteCount, queryRows}
-use Rattle.tables.specs.Tables.{Table, walkOf, widthAt, widthOf, parentsOf, codesOf, partOf, table, Query, query, listRow, synthesized}
+use Rattle.tables.specs.Tables.{Table, Width, walkOf, widthAt, widthOf, parentsOf, codesOf, partOf, table, Query, query, listRow, synthesized}
 use Rattle.tables.specs.Built.{Built}
 use Rattle.tables.specs.Demand3 as d
 use Rattle.tables.specs.Demand3.{Gives, Refuses, NotRefused, NoSmaller, Complete, Decided}
@@ -42,9 +42,9 @@ use Rattle.tables.proofs.FromBuild.{walk-count}
 use Rattle.tables.proofs.Rows.{first-past, firstRow-append, numbered-query}
 use Rattle.tables.proofs.Refused.{never-refused}
 use Rattle.tables.specs.Checks.{firstRow}
-use Rattle.murm.specs.Entries.{Outcome, outcome, firstInvalid, formed, listed}
-use Rattle.murm.proofs.Checks.{all-valid}
-use Rattle.murm.proofs.Demand2.{demand-2}
+use Rattle.tables.specs.Lists.{ListOutcome, outcome, firstInvalid, formed, listed}
+use Rattle.tables.proofs.Lists.{all-valid}
+use Rattle.tables.proofs.Demand2.{demand-2}
 use Rattle.murm.proofs.Queried.{accepted-allowed}
 use Rattle.circuits_text.specs.Reading.{space}
 use Rattle.circuits_text.specs.Writing.{decimal}
@@ -170,7 +170,7 @@ module _ (t : Table) (m : Arrays) (b : Built t m) (w : ℕ) (asked : List ℕ) (
   -- its text
   text : listText t m w asked ≡ answerText (synthesized t m q lentList)
   unfolding listText matrixText
-  text = ap (λ (o : Outcome). listedText t m w (o .answer) (o .bytes)) e
+  text = ap (λ (o : ListOutcome). listedText t m w (o .answer) (o .bytes)) e
 
   given-text : (l : List ℕ) → Gives t m q lentList l → listText t m w asked ≡ answerLine l
   given-text l g = text ∙ (ap answerText g ∙ ap answerLine (take-at l (drop (length l) lentList) (length l) refl))
@@ -200,16 +200,16 @@ module _ (t : Table) (m : Arrays) (b : Built t m) (w : ℕ) (asked : List ℕ) w
           (λ c o z. complete t m b w asked k bytes e c .shortest lentList l g o (from t m b w asked k bytes e o z))
       by (d.no-list g) =
           no-list (text t m b w asked k bytes e ∙ ap answerText g)
-          (λ c p u s o z h. complete t m b w asked k bytes e c .none-exactly p u s lentList (not-refused t m b w asked k bytes e) .0 g o
-          (from t m b w asked k bytes e o z) h)
+          (λ c p u s o z h. complete t m b w asked k bytes e c .none-exactly p u (ap (λ (v : Width). v .saturated) (width-is t m b w p u) ∙ s) lentList
+          (not-refused t m b w asked k bytes e) .0 g o (from t m b w asked k bytes e o z) h)
       by (d.a-refusal r n) = absurd (not-refused t m b w asked k bytes e r n)
 
   refused-means : (number position : ℕ) (bytes : List ℤ) → listed w asked (lentBytes w) ≡ outcome (e.refused number position) bytes
       → LineMeans (t .limits) w asked (listText t m w asked)
   unfolding listText
   refused-means number position bytes x =
-      refused number position (ap (λ (o : Outcome). listedText t m w (o .answer) (o .bytes)) x)
-      (subst (Own w asked) (ap (λ (o : Outcome). o .answer) x) (own w asked))
+      refused number position (ap (λ (o : ListOutcome). listedText t m w (o .answer) (o .bytes)) x)
+      (subst (Own w asked) (ap (λ (o : ListOutcome). o .answer) x) (own w asked))
 
   line-means : LineMeans (t .limits) w asked (listText t m w asked)
   line-means = by (listed w asked (lentBytes w) .answer) (listed w asked (lentBytes w) .bytes) refl

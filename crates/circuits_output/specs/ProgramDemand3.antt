@@ -16,7 +16,7 @@ use Rattle.walk.specs.AtWidth.{ListOf, NoSharedPrint, SkippedRightly}
 use Rattle.tables.specs.Checks.{Limits, limitsOf, Arrays}
 use Rattle.tables.specs.Tables.{Table, walkOf, widthAt, widthOf, parentsOf, codesOf, table, left, buildOf}
 use Rattle.tables.specs.Demand3.{NoSmaller}
-use Rattle.murm.specs.Entries.{firstInvalid}
+use Rattle.tables.specs.Lists.{firstInvalid}
 use Rattle.circuits_text.specs.Allowed.{AllowedLine}
 use Rattle.circuits_lines.specs.Lines.{refusedLine, noneLine, answerLine}
 use Rattle.circuits_lines.specs.Program.{InputLine, ended, readLine, brokenText, queryText, queryTexts, listText, rowText}

@@ -12,7 +12,7 @@ use Rattle.exact.specs.Matrix.{allDivisible, lower}
 use Rattle.exact.specs.Rows.{flip, column, gateOf}
 use Rattle.exact.specs.Lists.{product}
 use Rattle.exact.specs.Phase.{pivot, phaseOf}
-use Rattle.murm.specs.Entries.{listed}
+use Rattle.tables.specs.Lists.{listed}
 use Rattle.pencil.specs.Cases.{Case, cases}
 
 pub as-stated : map (λ (c : Case). c .computed) cases ≡ map (λ (c : Case). c .stated) cases

@@ -16,7 +16,7 @@ use Rattle.exact.specs.Phase.{flat, phaseOf}
 use Rattle.exact.specs.Answers.{Answer}
 use Rattle.exact.specs.Answers as e
 use Rattle.tables.specs.Checks.{byteCount}
-use Rattle.murm.specs.Entries.{listed}
+use Rattle.tables.specs.Lists.{listed}
 
 -- what a row speaks of: an element, a test, a number, a sum with its refusal's number, an entry's answer with its refusal's number and
 -- position, or a matrix: its exponent and its entries

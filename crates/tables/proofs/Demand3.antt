@@ -18,12 +18,12 @@ use Rattle.walk.proofs.WidthDemand.{WidthComplete}
 use Rattle.walk.proofs.Demand3 as at-width
 use Rattle.walk.proofs.Meaning.{kind-of}
 use Rattle.tables.specs.Checks.{firstRow, Limits, Arrays, queryRows}
-use Rattle.tables.specs.Tables.{Table, Query, matrixOf, listRow, notAWidth}
+use Rattle.tables.specs.Tables.{Table, Width, Query, matrixOf, listRow, notAWidth}
 use Rattle.tables.specs.Built.{Built}
 use Rattle.tables.specs.Demand3.{Gives, GivesNone, Refuses, NotRefused, Decided, a-list, no-list, a-refusal, NoSmaller, Complete, Ordered, Demand3}
 use Rattle.tables.proofs.Rows.{numbered-query, first-here, first-past, firstRow-append}
 use Rattle.tables.proofs.FromBuild.{build-built, build-refused, built-again}
-use Rattle.tables.proofs.Counts.{counts}
+use Rattle.tables.proofs.Counts.{width-is, counts}
 use Rattle.tables.proofs.Joined.{toldOption}
 use Rattle.tables.proofs.Replies.{number-of, rowOfAnswer, Case, not-a-width, part-asked, by-row, row-refuses, cases}
 use Rattle.tables.proofs.Replies.{gives-asked, no-row, decided, gives-right}
@@ -87,7 +87,8 @@ module _ (t : Table) (a : Arrays) (b : Built t a) where
         (gives-walk t a b q out l g) m (r .of-basis) (r .power);
     none-exactly = λ p h s out n. let e = no-row t a q out n in
         let k = told-walk t a b q out e (has-width t q p h) in
-        let x = w (small h) .none-exactly s (matrixOf q) (low out e) in (
+        let f = ap (λ (v : Width). v .saturated) (sym (width-is t a b (q .width) p h)) ∙ s in
+        let x = w (small h) .none-exactly f (matrixOf q) (low out e) in (
           (λ g m r c. x .0 (told-none _ out (sym k ∙ g)) m (r .of-basis) c (r .power)),
           (λ f. k ∙ ap (λ (o : Option (List ℕ)). toldOption o out) (x .1 (λ m o c s. f m (record { of-basis = o; power = s }) c))),
         );

@@ -1,11 +1,17 @@
 pub mod Rows
+pub mod Causes
+pub mod InWords
 pub mod Accepted
+pub mod Coefficients
+pub mod Lists
 pub mod Filled
 pub mod FromBuild
 pub mod Counts
 pub mod Joined
 pub mod Replies
 pub mod OfBuilt
+pub mod Demand2
 pub mod Demand3
+pub mod Exactly
 pub mod Refused
 pub mod Samples

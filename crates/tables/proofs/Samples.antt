@@ -260,6 +260,7 @@ samples = record {
   none-t = λ a p out h. none-t a p out h;
   no-t = λ a p m r h. no-t a p m r h;
   no-smaller = no-smaller;
+  same-limits = λ l. record { basis = refl; qubits = omega arith; gates = omega arith; entries = omega arith };
   larger-table = λ a p. larger-table a p;
   larger-x = λ a p out h. larger-x a p out h;
   larger-12 = λ a p out h. larger-12 a p out h;

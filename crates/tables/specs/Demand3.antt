@@ -62,7 +62,7 @@ module _ (t : Table) (a : Arrays) (q : Query) where
   -- and width within the limit has such a product"
   pub record Complete : Type 0 where
     pub shortest : (out l : List ℕ) → Gives t a q out l → (m : List ℕ) → Reaches t q m → length l ≤ length m
-    pub none-exactly : 0 < q .width → q .width ≤ t .limits .qubits → walkOf (t .limits) (q .width) .saturated ≡ false
+    pub none-exactly : 0 < q .width → q .width ≤ t .limits .qubits → widthAt t (q .width) .saturated ≡ false
         → (out : List ℕ) → NotRefused t a q out → GivesNone t a q out ↔ ((m : List ℕ) → Reaches t q m → length m ≤ t .limits .gates → ⊥)
 
 -- ---- the nodes of a width, in their order

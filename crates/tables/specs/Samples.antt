@@ -93,6 +93,8 @@ pub record Samples : Type 0 where
   pub no-t : (a : Arrays) → Places 2 a → (m : List ℕ) → Reaches (recordOf xLimits) askT m → length m ≤ 8 → ⊥
   -- (b): a larger table gives the same list where the lent list has G places, and refuses by 12 where it has fewer
   pub no-smaller : NoSmaller xLimits largerLimits
+  -- and any limits are no smaller than themselves
+  pub same-limits : (l : Limits) → NoSmaller l l
   pub larger-table : (a : Arrays) → Places 6 a → Built (recordOf largerLimits) (builtTo largerLimits 2 a)
   pub larger-x : (a : Arrays) → Places 6 a → (out : List ℕ) → 9 ≤ length out
       → Gives (recordOf largerLimits) (builtTo largerLimits 2 a) askX out (4096 ∷ [])

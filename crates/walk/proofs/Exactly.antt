@@ -40,7 +40,7 @@ module _ (n : ℕ) where
   unfolding samePrint
   print-same x y e = eqb-true (fingerprint n x) (fingerprint n y) e
 
-  same-print : (x y : Exact) → fingerprint n x ≡ fingerprint n y → samePrint n x y ≡ true
+  pub same-print : (x y : Exact) → fingerprint n x ≡ fingerprint n y → samePrint n x y ≡ true
   unfolding samePrint
   same-print x y e = eq-eqb (fingerprint n x) (fingerprint n y) e
 

@@ -12,6 +12,7 @@ pub mod Completeness
 pub mod Known
 pub mod Answers
 pub mod Exactly
+pub mod Clashes
 pub mod Demand3
 pub mod Samples
 pub mod NotEmpty

@@ -1,5 +1,6 @@
--- The exact mode: a candidate counts as known, and a matrix is answered, by a node that has the fingerprint and is equal up to phase. A later
--- request gives a build and an answer this rule; the theorems hold of it as they stand. Assumes nothing.
+-- The exact mode: a candidate counts as known, and a matrix is answered, by a node that counts so and is equal up to phase. No build uses it yet.
+-- Shown of it, in proofs/Known: it meets the laws that its rules meet, so that whatever is shown of all rules that meet them holds of it; and
+-- hypothesis K holds of it with no condition. Demand 3 is stated of atWidth, not of this. Assumes nothing.
 use mathlib.Core.Bool.{_&&_}
 use Rattle.walk.specs.Walk.{Rules}
 

@@ -3,7 +3,7 @@ use mathlib.Core.List.{List}
 use mathlib.Core.Path.{ap}
 use lib.IntN.{ℤ}
 use Rattle.tables.specs.Checks.{arrays}
-use Rattle.murm.specs.Entries.{listed}
+use Rattle.tables.specs.Lists.{listed}
 use Rattle.murm_config.specs.Told.{toldMurm}
 use Rattle.circuits_text.proofs.Placing.{put-as}
 use Rattle.circuits_lines.specs.Program.{outcomeText, listText}

@@ -11,7 +11,8 @@ use Rattle.places.proofs.Placed.{area-le}
 use Rattle.tables.specs.Checks.{byteCount, anyBelow}
 use Rattle.refusal.specs.Told.{byRow}
 use Rattle.murm.specs.Work.{InRange}
-use Rattle.murm.proofs.Bytes.{byte-count, bytes-small}
+use Rattle.tables.proofs.Coefficients.{byte-count}
+use Rattle.murm.proofs.Bytes.{bytes-small}
 use Rattle.murm.proofs.Answers.{query-6, query-9, query-10, query-11, query-allowed}
 use Rattle.murm.proofs.check_query.Statement.{statement}
 use Rattle.murm.proofs.check_query.Tie as tie

@@ -9,10 +9,10 @@ use Rattle.places.proofs.Placed.{area-le}
 use Rattle.exact.specs.Answers.{refused}
 use Rattle.lists.proofs.Walking.{ended-at}
 use Rattle.tables.specs.Checks.{byteCount}
-use Rattle.murm.specs.Entries.{firstInvalid, outcome}
-use Rattle.murm.proofs.Bytes.{byte-count}
-use Rattle.murm.proofs.Checks.{all-valid}
-use Rattle.murm.proofs.Answers.{list-6, list-9, list-7, list-8, list-held}
+use Rattle.tables.specs.Lists.{firstInvalid, outcome}
+use Rattle.tables.proofs.Coefficients.{byte-count}
+use Rattle.tables.proofs.Lists.{all-valid, list-6, list-9, list-7, list-8}
+use Rattle.murm.proofs.Answers.{list-held}
 use Rattle.murm.proofs.library_circuit_matrix.Statement.{statement}
 use Rattle.murm.proofs.library_circuit_matrix.Tie as tie
 

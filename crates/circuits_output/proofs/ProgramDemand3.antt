@@ -35,7 +35,7 @@ use Rattle.tables.specs.Tables.{Table, Width, walkOf, widthAt, widthOf, parents
 use Rattle.tables.specs.Built.{Built}
 use Rattle.tables.specs.Demand3 as d
 use Rattle.tables.specs.Demand3.{Gives, Refuses, NotRefused, NoSmaller, Complete, Decided}
-use Rattle.tables.proofs.Demand3.{demand}
+use Rattle.tables.proofs.Demand3.{demand, beside}
 use Rattle.tables.proofs.Accepted.{accepted}
 use Rattle.tables.proofs.Counts.{width-is}
 use Rattle.tables.proofs.FromBuild.{walk-count}
@@ -165,7 +165,7 @@ module _ (t : Table) (m : Arrays) (b : Built t m) (w : ℕ) (asked : List ℕ) (
 
   complete : Condition (t .limits) w → Complete t m q
   complete c =
-      ⊎-elim (λ p. demand .complete t m b (c .gates) q p) (λ p. demand .complete-rightly t m b (c .gates) q p) (c .prints)
+      ⊎-elim (λ p. demand .complete t m b (c .gates) q p) (λ p. beside .complete-rightly t m b (c .gates) q p) (c .prints)
 
   -- its text
   text : listText t m w asked ≡ answerText (synthesized t m q lentList)

@@ -12,7 +12,8 @@ use Rattle.circuit.specs.Codes.{valid}
 use Rattle.exact.specs.Matrix.{PowerOf}
 use Rattle.exact.specs.Paper.{paperProduct}
 use Rattle.exact.specs.Fits.{FirstPast}
-use Rattle.walk.specs.AtWidth.{ListOf, NoSharedPrint, SkippedRightly}
+use Rattle.walk.specs.AtWidth.{ListOf, NoSharedPrint}
+use Rattle.walk.specs.Known.{SkippedRightly}
 use Rattle.tables.specs.Checks.{Limits, limitsOf, Arrays}
 use Rattle.tables.specs.Tables.{Table, walkOf, widthAt, widthOf, parentsOf, codesOf, table, left, buildOf}
 use Rattle.tables.specs.Demand3.{NoSmaller}

@@ -4,12 +4,18 @@
 use mathlib.Core.List.{List}
 use Prim.Native.Nat.{ℕ}
 use lib.IntN.{ℤ}
-use Rattle.tables.specs.Demand2.{Demand2}
+use Rattle.tables.specs.Demand2 as lists
 use Rattle.tables.specs.Demand3.{Demand3}
+use Rattle.tables.specs.Beside.{Beside}
 use Rattle.tables.specs.Exactly.{Exactly}
 
--- Demand 3, "Whatever the lent table holds, ..": the record `Demand3` of tables/specs/Demand3.antt, with `Built` of tables/specs/Built.antt
+-- demand 2's first half, of a list: tables/specs/Demand2.antt
+abbrev pub Demand2 : ℕ → List ℕ → List ℤ → Type 0
+Demand2 n codes bytes = lists.Demand2 n codes bytes
+
+-- demand 3: the record `Demand3` of tables/specs/Demand3.antt, with `Built` of tables/specs/Built.antt
 pub record Demands : Type 0 where
   pub refusals : Exactly
   pub second : (n : ℕ) (codes : List ℕ) (bytes : List ℤ) → Demand2 n codes bytes
   pub third : Demand3
+  pub beside : Beside

@@ -20,7 +20,8 @@ use Rattle.walk.proofs.Meaning.{kind-of}
 use Rattle.tables.specs.Checks.{firstRow, Limits, Arrays, queryRows}
 use Rattle.tables.specs.Tables.{Table, Width, Query, matrixOf, listRow, notAWidth}
 use Rattle.tables.specs.Built.{Built}
-use Rattle.tables.specs.Demand3.{Gives, GivesNone, Refuses, NotRefused, Decided, a-list, no-list, a-refusal, NoSmaller, Complete, Ordered, Demand3}
+use Rattle.tables.specs.Beside.{Beside, Ordered}
+use Rattle.tables.specs.Demand3.{Gives, GivesNone, Refuses, NotRefused, Decided, a-list, no-list, a-refusal, NoSmaller, Complete, Demand3}
 use Rattle.tables.proofs.Rows.{numbered-query, first-here, first-past, firstRow-append}
 use Rattle.tables.proofs.FromBuild.{build-built, build-refused, built-again}
 use Rattle.tables.proofs.Counts.{width-is, counts}
@@ -138,11 +139,17 @@ demand = record {
   larger = λ t t′ a a′ b b′ s q out out′ l g. larger t t′ a a′ b b′ s q out out′ l g;
   complete = λ t a b le q nc. answers-complete t a b q
       (λ small. at-width.demand (q .width) (t .limits .basis) small .complete (t .limits .gates) (t .limits .entries) le nc);
-  complete-rightly = λ t a b le q K. answers-complete t a b q
-      (λ small. at-width.demand (q .width) (t .limits .basis) small .complete-rightly (t .limits .gates) (t .limits .entries) le K);
   unitary = λ t a q out l g. gives-right t a q out l g .unitary;
   not-unitary = not-unitary;
   never-13 = λ t a b q out n. never-13 t a b q out n;
+}
+
+-- ---- beside the demand
+
+pub beside : Beside
+beside = record {
+  complete-rightly = λ t a b le q K. answers-complete t a b q
+      (λ small. at-width.demand (q .width) (t .limits .basis) small .complete-rightly (t .limits .gates) (t .limits .entries) le K);
   counts = λ t a b w p q. counts t a b w p q;
   ordered = λ t a b w p q. in-order (t .limits) w (widths-small t a b w q);
   built-again = λ t a. (built-again t a, λ e. build-built (t .limits) a a t e .0);

@@ -35,7 +35,8 @@ use Rattle.walk.specs.Chains.{marked, chainOf}
 use Rattle.walk.specs.Walk.{skipped, try, tryAll, layer, deeper, depths, walk}
 use Rattle.exact.proofs.Listed.{product-nil}
 use Rattle.walk.proofs.Nodewise.{recheck, answerBy, answered}
-use Rattle.walk.specs.AtWidth.{samePrint, atWidth, built, ListOf, NoSharedPrint, SkippedRightly, printOf}
+use Rattle.walk.specs.AtWidth.{samePrint, atWidth, built, ListOf, NoSharedPrint, printOf}
+use Rattle.walk.specs.Known.{SkippedRightly}
 use Rattle.walk.proofs.Nodes.{first}
 use Rattle.walk.proofs.Layers.{walk-shape}
 use Rattle.walk.proofs.Known.{present-no-clash}

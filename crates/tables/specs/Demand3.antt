@@ -1,16 +1,15 @@
--- Demand 3 and what stands beside it, of what the public entries answer: `build` answers `buildOf`, and `synthesize` answers `synthesized`, for
+-- Demand 3, of what the public entries answer: `build` answers `buildOf`, and `synthesize` answers `synthesized`, for
 -- every input. Lists are oldest gate first. Assumes nothing.
 use mathlib.Core.Path.{_≡_}
 use mathlib.Core.Logic.{_↔_, _⊎_}
 use mathlib.Core.Bool.{false}
 use mathlib.Core.List.{List, _++_}
-use Prim.Native.Nat.{ℕ, suc, _≤_, _<_}
-use lib.ListN.{length, getD, drop}
+use Prim.Native.Nat.{ℕ, _≤_, _<_}
+use lib.ListN.{length, drop}
 use Rattle.exact.specs.Matrix.{PowerOf}
 use Rattle.exact.specs.Lists.{product}
 use Rattle.exact.specs.Unitary.{Unitary}
-use Rattle.walk.specs.Walk.{root, listAt, parentAt}
-use Rattle.walk.specs.AtWidth.{ListOf, NoSharedPrint, SkippedRightly, printOf}
+use Rattle.walk.specs.AtWidth.{ListOf, NoSharedPrint}
 use Rattle.walk.specs.Answers.{given, none, refused, outcome}
 use Rattle.tables.specs.Checks.{Limits, Arrays}
 use Rattle.tables.specs.Tables.{Table, walkOf, table, refusal, left, buildOf, widthAt, Query, matrixOf, synthesized}
@@ -65,21 +64,6 @@ module _ (t : Table) (a : Arrays) (q : Query) where
     pub none-exactly : 0 < q .width → q .width ≤ t .limits .qubits → widthAt t (q .width) .saturated ≡ false
         → (out : List ℕ) → NotRefused t a q out → GivesNone t a q out ↔ ((m : List ℕ) → Reaches t q m → length m ≤ t .limits .gates → ⊥)
 
--- ---- the nodes of a width, in their order
-
--- a parent lies below its node, and parents never fall; the depth of a node is one more than its parent's, depths never fall and rise by at most
--- one, and none is above G; no two nodes have one fingerprint
-pub record Ordered (l : Limits) (w : ℕ) : Type 0 where
-  pub below : (j : ℕ) → 0 < j → j < length (walkOf l w .nodes) → parentAt (walkOf l w .nodes) j < j
-  pub parents-rise : (i j : ℕ) → 0 < i → i ≤ j → j < length (walkOf l w .nodes) → parentAt (walkOf l w .nodes) i ≤ parentAt (walkOf l w .nodes) j
-  pub one-deeper : (j : ℕ) → 0 < j → j < length (walkOf l w .nodes)
-      → length (listAt (walkOf l w .nodes) j) ≡ suc (length (listAt (walkOf l w .nodes) (parentAt (walkOf l w .nodes) j)))
-  pub depths-rise : (i j : ℕ) → i ≤ j → j < length (walkOf l w .nodes) → length (listAt (walkOf l w .nodes) i) ≤ length (listAt (walkOf l w .nodes) j)
-  pub depths-step : (j : ℕ) → suc j < length (walkOf l w .nodes) → length (listAt (walkOf l w .nodes) (suc j)) ≤ suc (length (listAt (walkOf l w .nodes) j))
-  pub short : (j : ℕ) → j < length (walkOf l w .nodes) → length (listAt (walkOf l w .nodes) j) ≤ l .gates
-  pub prints-differ : (i j : ℕ) → i < j → j < length (walkOf l w .nodes)
-      → printOf w (getD (walkOf l w .nodes) i root) ≡ printOf w (getD (walkOf l w .nodes) j root) → ⊥
-
 -- ---- the demand
 
 pub record Demand3 : Type 0 where
@@ -100,16 +84,7 @@ pub record Demand3 : Type 0 where
   -- fingerprint, unless one's product is a power of omega times the other's."
   pub complete : (t : Table) (a : Arrays) → Built t a → t .limits .gates ≤ 13
       → (q : Query) → NoSharedPrint (q .width) (t .limits .basis) (t .limits .gates) → Complete t a q
-  -- the same, where every candidate of the walk that was skipped as known has a node present for it
-  pub complete-rightly : (t : Table) (a : Arrays) → Built t a → t .limits .gates ≤ 13
-      → (q : Query) → SkippedRightly (q .width) (t .limits .basis) (t .limits .gates) (t .limits .entries) → Complete t a q
-  -- (d) "A query need not be unitary; such a one gets none."; "Only caller-altered tables meet 13."; counts are at most E
+  -- (d) "A query need not be unitary; such a one gets none."; "Only caller-altered tables meet 13."
   pub unitary : (t : Table) (a : Arrays) (q : Query) (out l : List ℕ) → Gives t a q out l → Unitary (q .width) (matrixOf q)
   pub not-unitary : (t : Table) (a : Arrays) (q : Query) (out : List ℕ) → NotRefused t a q out → (Unitary (q .width) (matrixOf q) → ⊥) → GivesNone t a q out
   pub never-13 : (t : Table) (a : Arrays) → Built t a → (q : Query) (out : List ℕ) → Refuses t a q out 13 → ⊥
-  pub counts : (t : Table) (a : Arrays) → Built t a → (w : ℕ) → 0 < w → w ≤ t .limits .qubits
-      → (0 < widthAt t w .count) × (widthAt t w .count ≤ t .limits .entries)
-  -- the nodes that a built table holds are in order
-  pub ordered : (t : Table) (a : Arrays) → Built t a → (w : ℕ) → 0 < w → w ≤ t .limits .qubits → Ordered (t .limits) w
-  -- the arrays hold the record's table exactly where a build of its limits in them returns the record and changes nothing
-  pub built-again : (t : Table) (a : Arrays) → Built t a ↔ (buildOf (t .limits) a ≡ left (table t) a)

@@ -6,3 +6,4 @@ pub mod Lists
 pub mod Demand2
 pub mod Exactly
 pub mod Samples
+pub mod Beside

@@ -11,7 +11,8 @@ use Rattle.exact.proofs.Words.{Equal}
 use Rattle.exact.specs.Lists.{product}
 use Rattle.exact.specs.Unitary.{Unitary}
 use Rattle.exact.specs.Fingerprint.{fingerprint}
-use Rattle.walk.specs.AtWidth.{NoSharedPrint, SkippedRightly}
+use Rattle.walk.specs.AtWidth.{NoSharedPrint}
+use Rattle.walk.specs.Known.{SkippedRightly}
 use Rattle.tables.specs.Checks.{Limits, Arrays, arrays}
 use Rattle.tables.specs.Tables.{walkOf, recordOf, builtTo, table, left, buildOf, Query, query, matrixOf}
 use Rattle.tables.specs.Built.{Built}

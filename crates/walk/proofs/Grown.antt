@@ -4,13 +4,17 @@ use mathlib.Core.Logic.{_⊎_}
 use mathlib.Core.Bool.{true, false}
 use mathlib.Core.List.{List, [], _∷_, _++_, List·Memᴰ}
 use Prim.Native.Nat.{ℕ, suc, _≤_, _<_}
-use lib.ListN.{length}
-use Rattle.walk.specs.Walk.{Rules, Node, Build, root, isNil, listAt, parentAt, prod, pruned, skipped, child}
+use lib.ListN.{length, getD}
+use Rattle.walk.specs.Walk.{Rules, Node, Build, root, isNil, listAt, prod, pruned, skipped, child}
 
 -- the first list is the beginning of the second
 pub record Prefix {A : Type 0} (ns ms : List A) : Type 0 where
   pub rest : List A
   pub is : ms ≡ ns ++ rest
+
+-- the parent of a node
+abbrev pub parentAt : List Node → ℕ → ℕ
+parentAt ns k = (getD ns k root) .parent
 
 -- no node but the first has a parent past k
 abbrev pub ParentsTo : ℕ → List Node → Type 0

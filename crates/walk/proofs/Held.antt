@@ -11,7 +11,8 @@ use lib.ListN.{length, getD}
 use Rattle.ints.proofs.Bools.{and-both}
 use Rattle.circuit.specs.Codes.{validFor, mark}
 use Rattle.generators.proofs.Generated.{lists}
-use Rattle.walk.specs.Walk.{Node, root, gate, listAt, parentAt}
+use Rattle.walk.specs.Walk.{Node, root, gate, listAt}
+use Rattle.walk.proofs.Grown.{parentAt}
 use Rattle.walk.specs.AtWidth.{atWidth}
 use Rattle.walk.specs.Chains.{Chain, good, then, marked, chainOf}
 use Rattle.walk.proofs.Grown.{Grown, Link}

@@ -1,9 +1,12 @@
 -- The laws asked of what the walk is handed, and the words of demand 3 over it. Lists are newest gate first. Assumes nothing.
 use mathlib.Core.Path.{_≡_}
-use mathlib.Core.Bool.{true, false}
+use mathlib.Core.Bool.{Bool, true}
 use mathlib.Core.List.{List, [], _∷_, List·Memᴰ}
 use Prim.Native.Nat.{ℕ, _≤_, _<_}
 use lib.ListN.{length}
+use Rattle.exact.specs.Matrix.{Exact}
+use Rattle.exact.specs.Rows.{act, gateOf}
+use Rattle.exact.specs.Fits.{stepFits}
 use Rattle.walk.specs.Walk.{Rules, Node, any, listAt, prod, pruned, knows, candidate}
 
 -- Same: the one is a power of omega times the other. Lowest: the matrix is in lowest denominator, as every product and every query is.
@@ -51,3 +54,12 @@ module _ (R : Rules) where
     -- every list of the basis of at most d gates has such a node
     abbrev pub HasAll : ℕ → List Node → Type 0
     HasAll d ns = (l : List ℕ) → Over l → length l ≤ d → Has ns l
+
+-- ---- the walk at a width
+
+-- a gate by its code
+abbrev pub actBy : ℕ → ℕ → Exact → Exact
+actBy n g x = act n (gateOf n g) x
+
+abbrev pub fitsBy : ℕ → ℕ → Exact → Bool
+fitsBy n g x = stepFits n (gateOf n g) x

@@ -8,7 +8,8 @@ use native.Mathlib.Nat.{le-refl}
 use native.Mathlib.Omega.{arith}
 use lib.ListN.{length, getD}
 use Rattle.ints.proofs.Bools.{and-both}
-use Rattle.walk.specs.Walk.{Rules, Node, root, listAt, parentAt, prod, pruned, knows, child}
+use Rattle.walk.specs.Walk.{Rules, Node, root, listAt, prod, pruned, knows, child}
+use Rattle.walk.proofs.Grown.{parentAt}
 use Rattle.walk.proofs.Laws.{Over}
 use Rattle.walk.proofs.Grown.{Prefix, Grown, alone, more, Link}
 use Rattle.walk.proofs.Nodewise.{stepsFit}

@@ -19,8 +19,8 @@ use Rattle.exact.proofs.Coded.{proper, inverse-undoes}
 use Rattle.exact.proofs.Listed.{product-lowest}
 use Rattle.exact.proofs.Prints.{fingerprint-power}
 use Rattle.walk.specs.Walk.{Build, prod}
-use Rattle.walk.proofs.Laws.{Over}
-use Rattle.walk.specs.AtWidth.{actBy, atWidth, built, ListOf, NoSharedPrint}
+use Rattle.walk.proofs.Laws.{Over, actBy}
+use Rattle.walk.specs.AtWidth.{atWidth, built, ListOf, NoSharedPrint}
 use Rattle.walk.proofs.WidthDemand.{WidthComplete}
 use Rattle.walk.proofs.Exactly.{product-of, over-reverse, list-over}
 use Rattle.walk.proofs.Demand3.{demand}

@@ -21,7 +21,8 @@ use Rattle.exact.specs.Phase.{pivot, phaseOf, upToPhase}
 use Rattle.exact.specs.Fingerprint.{mix, fold, fingerprint}
 use Rattle.walk.specs.Walk.{root, skipped, try, tryAll, layer, deeper, depths, walk}
 use Rattle.walk.proofs.Nodewise.{recheck, answerBy, answered}
-use Rattle.walk.specs.AtWidth.{actBy, samePrint, built}
+use Rattle.walk.specs.AtWidth.{samePrint, built}
+use Rattle.walk.proofs.Laws.{actBy}
 
 pub record WalkSamples : Type 0 where
   -- "Input `1 8 10 24`, `1 1 8192`, `1 1 20480` prints": basis 24 is S, 12288, and Sdg, 16384. Four nodes; depth 3 added nothing

@@ -10,7 +10,8 @@ use lib.ListN.{length}
 use Rattle.exact.specs.Matrix.{Exact, Lowest, PowerOf}
 use Rattle.exact.specs.Lists.{product}
 use Rattle.walk.specs.Walk.{Node}
-use Rattle.walk.specs.AtWidth.{built, ListOf, NoSharedPrint, SkippedRightly}
+use Rattle.walk.specs.AtWidth.{built, ListOf, NoSharedPrint}
+use Rattle.walk.specs.Known.{SkippedRightly}
 use Rattle.walk.proofs.Nodewise.{answeredBy, answered}
 
 module _ (n basis : ℕ) where

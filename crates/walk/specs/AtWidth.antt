@@ -17,14 +17,6 @@ use Rattle.exact.specs.Fits.{stepFits}
 use Rattle.exact.specs.Phase.{upToPhase}
 use Rattle.exact.specs.Fingerprint.{fingerprint}
 use Rattle.walk.specs.Walk.{Rules, Node, Build, walk}
-use Rattle.walk.specs.Known.{KnownIsPresent}
-
--- a gate by its code
-abbrev pub actBy : ℕ → ℕ → Exact → Exact
-actBy n g x = act n (gateOf n g) x
-
-abbrev pub fitsBy : ℕ → ℕ → Exact → Bool
-fitsBy n g x = stepFits n (gateOf n g) x
 
 -- one fingerprint
 unfoldable pub samePrint : ℕ → Exact → Exact → Bool
@@ -46,8 +38,8 @@ abbrev pub atWidth : ℕ → ℕ → Rules
 atWidth n basis = record {
   Mat = Exact;
   one = identity;
-  act = actBy n;
-  fits = fitsBy n;
+  act = λ g x. act n (gateOf n g) x;
+  fits = λ g x. stepFits n (gateOf n g) x;
   known = samePrint n;
   answers = samePrint n;
   equal = upToPhase n;
@@ -70,9 +62,3 @@ abbrev pub NoSharedPrint : ℕ → ℕ → ℕ → Type 0
 NoSharedPrint n basis G =
     (l m : List ℕ) → ListOf n basis l → ListOf n basis m → length l ≤ G → length m ≤ G
     → fingerprint n (product n l) ≡ fingerprint n (product n m) → PowerOf n (product n l) (product n m)
-
--- what suffices, and can be looked up in a given table: each candidate of its completed depths that was skipped as known has a product that is
--- a power of omega times the product of a node present
-abbrev pub SkippedRightly : ℕ → ℕ → ℕ → ℕ → Type 0
-SkippedRightly n basis G E =
-    KnownIsPresent (atWidth n basis) (PowerOf n) (built n basis G E .depth) (built n basis G E .nodes)

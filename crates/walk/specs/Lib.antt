@@ -1,7 +1,7 @@
 pub mod Walk
-pub mod Known
 pub mod AtWidth
 pub mod Lookup
 pub mod Chains
 pub mod Answers
 pub mod Meaning
+pub mod Known

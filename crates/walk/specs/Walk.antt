@@ -53,9 +53,6 @@ gate n = getD (n .list) 0 mark
 abbrev pub listAt : List Node → ℕ → List ℕ
 listAt ns k = (getD ns k root) .list
 
-abbrev pub parentAt : List Node → ℕ → ℕ
-parentAt ns k = (getD ns k root) .parent
-
 -- the test holds of one of them
 abbrev pub any : {A : Type 0} → (A → Bool) → List A → Bool
 any f [] = false

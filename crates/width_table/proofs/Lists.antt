@@ -31,7 +31,8 @@ use Rattle.exact.proofs.Keeps.{equal-lowest}
 use Rattle.walk.specs.Chains.{Chain, good, bad, then, marked, chainOf}
 use Rattle.exact.specs.Places.{held}
 use Rattle.matrix.specs.Step.{Holds, Ready}
-use Rattle.walk.specs.Walk.{Node, root, listAt, parentAt, prod}
+use Rattle.walk.specs.Walk.{Node, root, listAt, prod}
+use Rattle.walk.proofs.Grown.{parentAt}
 use Rattle.walk.proofs.Nodewise.{stepsFit, recheck}
 use Rattle.walk.specs.AtWidth.{atWidth}
 use Rattle.walk.proofs.Grown.{Link}

@@ -24,8 +24,10 @@ use Rattle.ints.specs.Lists.{pick}
 use Rattle.cyclotomic.specs.Told.{doesNotFit}
 use Rattle.ints.proofs.Bools.{clash}
 use Rattle.walk.specs.Meaning.{LowestNode, Nowhere}
-use Rattle.walk.specs.Walk.{Node, State, any, root, gate, listAt, parentAt, prod, pruned, knows, candidate, skipped, child, try}
-use Rattle.walk.specs.AtWidth.{samePrint, fitsBy, atWidth, printOf}
+use Rattle.walk.specs.Walk.{Node, State, any, root, gate, listAt, prod, pruned, knows, candidate, skipped, child, try}
+use Rattle.walk.proofs.Grown.{parentAt}
+use Rattle.walk.specs.AtWidth.{samePrint, atWidth, printOf}
+use Rattle.walk.proofs.Laws.{fitsBy}
 use Rattle.walk.proofs.Grown.{Link}
 use Rattle.walk.proofs.Nodes.{first, link}
 use Rattle.walk.proofs.Candidates.{filled, grownBy}

@@ -235,15 +235,10 @@ pub fn lent_count(width: u32) -> usize
     ensures { λ r. ⌜ r ≡ lentCount width ⌝ }
     ensures { λ r. ⌜ r ≤ 4096 ⌝ }
 {
-    match width {
-        0 => 4,
-        1 => 16,
-        2 => 64,
-        3 => 256,
-        4 => 1024,
-        5 => 4096,
-        _ => 0,
+    if width > 5 {
+        return 0;
     }
+    4 * places::area(width as usize)
 }
 
 // Bytes for the largest matrix.

@@ -24,7 +24,7 @@ use Rattle.murm.specs.declared.Building.the-variants as b
 use Rattle.murm.specs.declared.Synthesized.{Synthesized}
 use Rattle.murm.specs.declared.Synthesized.the-variants as s
 
--- ---- "a list becomes a matrix"
+-- ---- a list
 
 -- the number and the values of each case
 abbrev pub toldListed : Listed → Answer

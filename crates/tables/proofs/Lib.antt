@@ -12,6 +12,7 @@ pub mod Replies
 pub mod OfBuilt
 pub mod Demand2
 pub mod Demand3
+pub mod ListExactly
 pub mod Exactly
 pub mod Refused
 pub mod Samples

@@ -17,12 +17,11 @@ use Rattle.exact.specs.Places.{held}
 use Rattle.tables.specs.Checks.{byteCount}
 use Rattle.tables.specs.Lists.{coefficients, outcome, listed}
 
--- Demand 2, its first half: "a list's matrix is its exact product in lowest denominator, refused as too large exactly where a step passes
--- 127". The last is said of a width, bytes and codes that no earlier row refuses, and of the first such step
+-- The matrix of an accepted list is the product of its gates by value, and is in lowest denominator. Where the width, the bytes and the codes are
+-- not refused, the list is too large exactly where a step passes the limit, at the first such step; and it is accepted where none does
 pub record Demand2 (n : ℕ) (codes : List ℕ) (bytes : List ℤ) : Type 0 where
   pub value : (k : ℕ) (after : List ℤ) → listed n codes bytes ≡ outcome (given k) after → SameValue n (paperProduct n codes) (held n k after)
   pub lowest : (k : ℕ) (after : List ℤ) → listed n codes bytes ≡ outcome (given k) after → Lowest n (held n k after)
   pub too-large : n ≤ 5 → length bytes ≡ byteCount n → all (valid n) codes ≡ true → (i : ℕ) → (listed n codes bytes .answer ≡ refused 8 i) ↔ FirstPast n codes i
-  -- a list that no row refuses is accepted with its product
   pub accepted : n ≤ 5 → length bytes ≡ byteCount n → all (valid n) codes ≡ true → ((j : ℕ) → j < length codes → stepWithin n codes j ≡ true)
       → listed n codes bytes ≡ outcome (given (product n codes .k)) (coefficients n (product n codes))

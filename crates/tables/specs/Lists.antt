@@ -14,16 +14,16 @@ use Rattle.exact.specs.Answers.{Answer, given, refused, listAnswer}
 use Rattle.exact.specs.Phase.{flat}
 use Rattle.tables.specs.Checks.{byteCount}
 
--- ---- row 7
+-- ---- codes
 
 -- the position of the first code that is not valid; the number of codes if all are
 abbrev pub firstInvalid : ℕ → List ℕ → ℕ
 firstInvalid n [] = 0
 firstInvalid n (g ∷ l) = pick (valid n g) (suc (firstInvalid n l)) 0
 
--- ---- "a list becomes a matrix"
+-- ---- the matrix of a list
 
--- "four per entry, row-major"
+-- four for each entry, row by row
 abbrev pub bytesOf : ℕ → (ℕ → Zω) → List ℤ
 bytesOf zero e = []
 bytesOf (suc m) e = e 0 .a ∷ e 0 .b ∷ e 0 .c ∷ e 0 .d ∷ bytesOf m (λ i. e (suc i))
@@ -44,7 +44,7 @@ abbrev pub formed : ℕ → List ℕ → List ℤ → Answer → ListOutcome
 formed n codes bytes (given k) = outcome (given k) (coefficients n (product n codes))
 formed n codes bytes (refused a i) = outcome (refused a i) bytes
 
--- "An accepted list writes the 4 × 4^n signed bytes and returns the exponent." Rows 6, 9, 7, 8 are tried in this order
+-- rows 6, 9, 7, 8, in this order; an accepted list leaves the coefficients of its product in the lent bytes, and gives its exponent
 unfoldable pub listed : ℕ → List ℕ → List ℤ → ListOutcome
 listed n codes bytes =
     pick (ltb 5 n) (outcome (refused 6 0) bytes)

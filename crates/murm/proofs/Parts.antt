@@ -2,12 +2,13 @@
 use mathlib.Core.Path.{_≡_, refl, sym, ap, _∙_}
 use mathlib.Core.Bool.{Bool, true, false, not, _&&_}
 use mathlib.Core.List.{List}
-use Prim.Native.Nat.{ℕ, zero, suc, _+_, _*_, _-_, _≤_, _<_}
+use Prim.Native.Nat.{ℕ, _+_, _*_, _-_, _≤_, _<_}
 use native.Mathlib.Omega.{arith}
 use native.Mathlib.Nat.{mul-le-mul}
 use borrow.Author.Tests.{ltb-false, eqb-true, le-ltb, not-false}
 use lib.Dec.{eqb, ltb}
 use lib.ListN.{length}
+use Rattle.ints.specs.Lists.{range}
 use Rattle.ints.proofs.Bools.{neither, clash}
 use Rattle.walk.specs.Walk.{any}
 use Rattle.width_answer.specs.Answers.{toldAnswered}
@@ -18,18 +19,16 @@ use Rattle.tables.specs.Tables.{Width, Table, allWidths, widthAt, badCount, rec
 use Rattle.murm.specs.Entries.{partFrom}
 use Rattle.tables.proofs.Accepted.{Accepted, accepted, roomy}
 use Rattle.tables.proofs.Filled.{room-at}
+use Rattle.tables.proofs.InWords.{any-to}
 
 -- no width's count is bad
 count-good : (t : Table) (w : ℕ) → any (badCount t) allWidths ≡ false → 0 < w → w ≤ 5 → badCount t w ≡ false
-count-good t zero e p q = absurd (omega arith)
-count-good t (suc zero) e p q = neither (badCount t 1) _ e .0
-count-good t (suc (suc zero)) e p q = neither (badCount t 2) _ (neither (badCount t 1) _ e .1) .0
-count-good t (suc (suc (suc zero))) e p q = neither (badCount t 3) _ (neither (badCount t 2) _ (neither (badCount t 1) _ e .1) .1) .0
-count-good t (suc (suc (suc (suc zero)))) e p q =
-    neither (badCount t 4) _ (neither (badCount t 3) _ (neither (badCount t 2) _ (neither (badCount t 1) _ e .1) .1) .1) .0
-count-good t (suc (suc (suc (suc (suc zero))))) e p q =
-    neither (badCount t 5) _ (neither (badCount t 4) _ (neither (badCount t 3) _ (neither (badCount t 2) _ (neither (badCount t 1) _ e .1) .1) .1) .1) .0
-count-good t (suc (suc (suc (suc (suc (suc w)))))) e p q = absurd (omega arith)
+unfolding range
+count-good t w e p q = by (badCount t w) refl
+  where
+    by : (b : Bool) → badCount t w ≡ b → badCount t w ≡ false
+    by true h = clash (any-to (badCount t) 5 1 w (omega arith) (omega arith) h) e
+    by false h = h
 
 pub record PartBounds (t : Table) (a : Arrays) (w : ℕ) : Type 0 where
   pub width : w ≤ 5

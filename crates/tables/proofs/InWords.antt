@@ -78,7 +78,7 @@ any-from f (suc m) i e = by (or-cases (f i) (any f (range (suc i) m)) e) (λ h. 
     by (inl h) g = (i, omega arith, h)
     by (inr h) g = let r = g h in (r .0, omega (arith, r .1), r .2)
 
-any-to : (f : ℕ → Bool) (m i k : ℕ) → i ≤ k → k < i + m → f k ≡ true → any f (range i m) ≡ true
+pub any-to : (f : ℕ → Bool) (m i k : ℕ) → i ≤ k → k < i + m → f k ≡ true → any f (range i m) ≡ true
 unfolding range
 any-to f zero i k p q e = absurd (omega arith)
 any-to f (suc m) i k p q e = by (ℕ-discrete k i) (λ h. any-to f m (suc i) k h (omega arith) e)

@@ -1,5 +1,5 @@
--- The worked example and the small tables at width 1, as the definitions compute them, and what the lists of X come to (SPECIFICATION 10.7,
--- 11.2). Assumes nothing.
+-- The worked example and the small tables at width 1, as the definitions compute them, and what the lists of X come to. SPECIFICATION 10.7
+-- and 11.2. Assumes nothing.
 use mathlib.Core.Path.{_≡_, refl}
 use mathlib.Core.Bool.{true, false}
 use mathlib.Core.List.{[], _∷_}

@@ -35,7 +35,7 @@ module _ (t : Table) (a : Arrays) (q : Query) (out : List ℕ) where
   abbrev pub NotRefused : Type 0
   NotRefused = (r : ℕ) → Refuses r → ⊥
 
-  -- there is no other answer: what a refused entry leaves is what it found
+  -- there is no other answer
   pub data Decided : Type 0 where
     a-list : (l : List ℕ) → Gives l → Decided
     no-list : GivesNone → Decided

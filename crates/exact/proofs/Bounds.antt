@@ -178,7 +178,7 @@ module _ (n : ℕ) where
       → AllWithin n 32767 (raw (gateOf n g) (product n l) .e) × (raw (gateOf n g) (product n l) .k ≤ 29)
   twenty-nine = steps-within 32767 29 (below-square 32767 29 (omega arith))
 
-  -- "k past 65535" is never met on lists from the identity
+  -- after steps that fit, from the identity on, the exponent of the next raw result is not past 65535 (SPECIFICATION 3.4)
   pub k-never-met : n ≤ 5 → (l : List ℕ) → steps n l ≡ allFit → (g : ℕ) → raw (gateOf n g) (product n l) .k ≤ mostK
   k-never-met h l e g =
       let k = k-never n h (unitary-product n l) (product-small n l e) in

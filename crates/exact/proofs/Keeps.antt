@@ -105,7 +105,7 @@ module _ (n : ℕ) where
   pub exchange-step-fits : (ks : List ℕ) (k : ℕ) (x : Exact) → Proper n (exchange ks k) → AllSmall n (x .e) → x .k ≤ mostK → stepFits n (exchange ks k) x ≡ true
   exchange-step-fits ks k x pr w h = step-fits (exchange ks k) x (exchange-small ks k x pr w) h
 
-  -- of H the entries decide, and at the largest exponent it does not fit
+  -- of H the coefficients decide, and at the largest exponent it does not fit
   pub had-step : (t : ℕ) (x : Exact) → x .k < mostK → stepFits n (had t) x ≡ allEntries n (λ r c. fits (raw (had t) x .e r c))
   unfolding stepFits
   had-step t x h = rw (le-leb (raw (had t) x .k) mostK h)

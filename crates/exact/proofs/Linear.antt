@@ -106,7 +106,7 @@ pub column-cong : (n : ℕ) (g : Gate) (v w : ℕ → Zω) → Proper n g → ((
 column-cong n g v w pr e r h =
     column-is g v r ∙ (λ i. addω (scale (shape g .stay r) (e r h i)) (scale (shape g .come r) (e (shape g .from r) (from-lt n g r pr h) i))) ∙ sym (column-is g w r)
 
--- ---- a row operation keeps "one value"
+-- ---- a row operation keeps `SameValue`
 
 raise-same : (g : Gate) (j k : ℕ) (x y : Zω) → sqrt2s j x ≡ sqrt2s k y → sqrt2s (raise g j) x ≡ sqrt2s (raise g k) y
 raise-same (phase ks p) j k x y e = e

@@ -36,7 +36,7 @@ pub record RowLaw (n : ℕ) (x : Exact) : Type 0 where
 
 -- ---- one gate
 
--- one gate: the exponent of the exact step where it fits, "does not fit" where it does not
+-- one gate: the exponent of the exact step where it fits, and otherwise 8
 unfoldable pub stepAnswer : ℕ → Gate → Exact → Answer
 stepAnswer n g x = pick (stepFits n g x) (given (act n g x .k)) (refused doesNotFit 0)
 

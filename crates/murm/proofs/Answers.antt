@@ -26,7 +26,7 @@ use Rattle.murm.specs.Entries.{printedBy, fingerprinted}
 use Rattle.murm.proofs.Bytes.{places-are}
 
 module _ (n : ℕ) (codes : List ℕ) (bytes : List ℤ) (h : n ≤ 5) (p : length bytes ≡ byteCount n) (q : length codes ≤ firstInvalid n codes) where
-  -- the places hold the product, and their first bytes are what was lent
+  -- the places hold the product, and the first of them, as many as were lent, are what the caller gets
   pub list-held : (k : ℕ) (l after : List ℤ) → after ≡ take (byteCount n) l → given k ≡ listAnswer n codes
       → Holds n (product n codes .k) l (product n codes) → outcome (given k) after ≡ listed n codes bytes
   list-held k l after c e w = ap (outcome (given k)) (c ∙ places-are n (product n codes .k) l (product n codes) h w) ∙ list-formed n codes bytes h p q k e

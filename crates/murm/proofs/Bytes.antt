@@ -1,4 +1,4 @@
--- Lent bytes and the places of a matrix: a copy, place by place, and the coefficients of an exact matrix as the places have them.
+-- Lent places and the places of a matrix: a copy, place by place, and the coefficients of an exact matrix as the places have them.
 -- Assumes nothing.
 use mathlib.Core.Path.{_≡_, refl, sym, ap, _∙_}
 use mathlib.Core.List.{List, [], _∷_, _++_}
@@ -53,7 +53,7 @@ places-are n k l x h w =
     ∙ bytes-same (2 ^ n * 2 ^ n) (entry l) (flat n (x .e))
     (λ i q. sym (read-at n l i) ∙ w .equal .entries (i / 2 ^ n) (i % 2 ^ n) (row-lt n i q) (col-lt n i))
 
--- ---- a matrix given by its bytes
+-- ---- a matrix given by its coefficients
 
 pub bytes-small : (n : ℕ) (bytes : List ℤ) → length bytes ≡ byteCount n → ((i : ℕ) → i < length bytes → natAbs (getD bytes i (pos 0)) ≤ limit)
     → AllSmall n (read n bytes)

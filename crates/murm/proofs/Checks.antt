@@ -48,7 +48,7 @@ module _ {n : ℕ} {codes : List ℕ} {i : ℕ} (w : ValidTo n codes i) where
   pub valid-end : length codes ≤ i → i ≡ firstInvalid n codes
   valid-end h = sym (w .first ∙ ap (λ (l : List ℕ). i + firstInvalid n l) (drop-of-length-le codes {i = i} h) ∙ omega arith)
 
--- ---- coefficients: a byte is -128 or within the limit
+-- ---- coefficients: a signed byte is -128 or within the limit
 
 pub past-is : (z : ℤ) → SFits near z → ltZ z (negℤ (pos limit)) ≡ eqZ z (negsuc limit)
 past-is (pos n) f = refl

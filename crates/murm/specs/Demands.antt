@@ -1,6 +1,7 @@
--- The demands, stated of what the public entries answer, for every input: `library_circuit_matrix` answers `listed`, `build` answers `buildOf`,
--- `synthesize` answers `synthesized`. Demand 1 is what the proofs of the functions say: every entry ends on every input without an undefined
--- step, and the clauses name each refusal and what the lent places then hold; where each refusal is told is `Exactly`. Assumes nothing.
+-- The demands (SPECIFICATION 8.1 to 8.5), stated of what the public entries answer: `library_circuit_matrix` answers `listed`, `build`
+-- answers `buildOf`, `synthesize` answers `synthesized`, for every input. Demand 1 is what the proofs of the functions say: every entry ends
+-- on every input without an undefined step, and the clauses name each refusal and what the lent places then hold; where each refusal is told
+-- is `Exactly`. Assumes nothing.
 use mathlib.Core.List.{List}
 use Prim.Native.Nat.{ℕ}
 use lib.IntN.{ℤ}

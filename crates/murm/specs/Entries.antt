@@ -1,5 +1,5 @@
--- What the public entries answer, for every input: the values, or the refusal's number and position, and what the lent places then hold.
--- Assumes nothing.
+-- The answers of the public entries, case by case: the values, or the refusal's number and position (SPECIFICATION 12.8); and what the entry for
+-- fingerprints answers. What the others answer is in tables/specs. Assumes nothing.
 use mathlib.Core.List.{List, [], _∷_}
 use Prim.Native.Nat.{ℕ}
 use lib.IntN.{ℤ}
@@ -26,39 +26,43 @@ use Rattle.murm.specs.declared.Synthesized.the-variants as s
 
 -- ---- a list
 
--- the number and the values of each case
+-- an answer to a list, as the definitions have it
 abbrev pub toldListed : Listed → Answer
 toldListed (l.Matrix k) = given k
 toldListed (l.Refused r) = refused (numberOf r) (positionOf r)
 
 -- ---- the fingerprint of a matrix that may be asked of a table
 
--- by the number of the first row that holds
+-- by the number of the first row that holds, 0 where none does
 abbrev pub printedBy : ℕ → ℕ → List ℤ → ℕ → Answer
 printedBy n k bytes r = pick (eqb r 0) (given (fingerprint n (held n k bytes))) (refused r 0)
 
+-- rows 6, 9, 10, 11; else the fingerprint of the matrix (SPECIFICATION 5.5)
 unfoldable pub fingerprinted : ℕ → ℕ → List ℤ → Answer
 fingerprinted n k bytes = printedBy n k bytes (firstRow (queryRows n k bytes))
 
+-- an answer with a fingerprint, as the definitions have it
 abbrev pub toldFingerprinted : Fingerprinted → Answer
 toldFingerprinted (f.Fingerprint p) = given p
 toldFingerprinted (f.Refused r) = refused (numberOf r) (positionOf r)
 
 -- ---- a table
 
+-- an answer to a build, as the definitions have it
 abbrev pub toldBuilding : Building → BuildReply
 toldBuilding (b.Table m) = table (toldMurm m)
 toldBuilding (b.Refused r) = refusal (numberOf r) (positionOf r)
 
+-- an answer to a query, as the definitions have it
 abbrev pub toldSynthesized : Synthesized → Reply
 toldSynthesized (s.Circuit m) = a.given m
 toldSynthesized s.Nothing = a.none
 toldSynthesized (s.Refused r) = a.refused (numberOf r) (positionOf r)
 
--- the places from a start on, as many as a width has, of each array
+-- the places from a start on, as many as a width has, of each array (SPECIFICATION 6.2)
 abbrev pub partFrom : ℕ → ℕ → ℕ → List ℕ → List ℕ → List ℕ → Part
 partFrom start entries count f u c = partWith (take entries (drop start f)) (take entries (drop start u)) (take entries (drop start c)) count
 
--- what is answered once the checks up to 11 are passed
+-- what is answered to a query that row 13 of the record and rows 5 to 11 do not refuse
 abbrev pub askedOf : Table → Arrays → Query → List ℕ → a.Outcome
 askedOf t m q out = repliedBy t m q out (firstRow (listRow t out ∷ []))

@@ -1,5 +1,5 @@
-// The public entries: each decides every input. murm.rs of the original: `library_circuit_matrix`, `Murm::build`, `Murm::synthesize`;
-// matrix.rs: `unitary_fingerprint`.
+// The public entries: none asks anything of its caller, and each decides every input (SPECIFICATION 8.1). murm.rs of the original:
+// `library_circuit_matrix`, `Murm::build`, `Murm::synthesize`; matrix.rs: `unitary_fingerprint`.
 ghost use mathlib.Core.Path.{_≡_};
 ghost use mathlib.Core.Bool.{false, _&&_};
 ghost use Prim.Native.Nat.{_+_, _*_, _^_, _≤_, _<_};
@@ -30,7 +30,7 @@ use refusal::Refusal;
 use synthesis_arena::WidthLimits;
 use width_answer::Answered;
 
-// What a list became: its exponent, or why it was refused.
+// What a list became: a matrix of this exponent, or why it was refused.
 pub enum Listed {
     Matrix(u16),
     Refused(Refusal),
@@ -42,7 +42,7 @@ pub enum Fingerprinted {
     Refused(Refusal),
 }
 
-// The position of the first code that is not valid; the number of codes if all are.
+// The position of the first code that is not valid at the width; the number of codes if all are.
 fn first_invalid(codes: &[u32], width: u32) -> usize
     ensures { λ r. ⌜ r ≡ firstInvalid width (now (codes .entry)) ⌝ }
 {
@@ -68,7 +68,8 @@ fn copy_places(to: &mut [Coefficient], from: &[Coefficient])
     }
 }
 
-// "a list becomes a matrix": the lent bytes get the product's coefficients. A refusal leaves them as they were.
+// A list becomes a matrix (SPECIFICATION, chapter 4): rows 6, 9, 7, 8. The lent places get the coefficients of the list's product; a refusal
+// leaves them as they were.
 pub fn library_circuit_matrix(width: u32, codes: &[u32], out: &mut [Coefficient]) -> Listed
     ensures { λ r. ⌜ outcome (toldListed r) (now (out .exit)) ≡ listed width (now (codes .entry)) (now (out .entry)) ⌝ }
 {
@@ -101,7 +102,7 @@ fn past_limit(x: Coefficient) -> bool
     (x as Wide) < -LIMIT
 }
 
-// Whether no coefficient is -128. There is no early return: this loop is many times faster without one.
+// Row 10: whether no coefficient is -128. There is no early return: this loop is many times faster without one.
 fn in_range(entries: &[Coefficient]) -> bool
     ensures { λ r. ⌜ InRange (now (entries .entry)) r ⌝ }
 {
@@ -114,7 +115,7 @@ fn in_range(entries: &[Coefficient]) -> bool
     !found
 }
 
-// Whether k > 0 and all entries are divisible.
+// Row 11: whether k is above 0 and all entries are divisible, so that the matrix is not in lowest denominator.
 fn is_divisible(entries: &[Coefficient], n: usize, k: u16) -> bool
     requires { ⌜ n ≤ 5 ⌝ }
     requires { ⌜ 4 * (2 ^ n * 2 ^ n) ≤ length (now entries) ⌝ }
@@ -126,7 +127,7 @@ fn is_divisible(entries: &[Coefficient], n: usize, k: u16) -> bool
     rows::all_divisible(entries, n)
 }
 
-// Whether a matrix may be asked; else which of the rows 6, 9, 10, 11 is the first to refuse it.
+// Whether a matrix may be asked; else which of the rows 6, 9, 10, 11 is the first to refuse it (SPECIFICATION 9.1).
 fn check_query(width: u32, exponent: u16, entries: &[Coefficient]) -> Check
     ensures { λ r. ⌜ Checked width exponent (now (entries .entry)) (toldCheck r) ⌝ }
 {
@@ -147,7 +148,7 @@ fn check_query(width: u32, exponent: u16, entries: &[Coefficient]) -> Check
     Check::Passed
 }
 
-// The fingerprint of a matrix given by its bytes, with the checks of a query.
+// The fingerprint of a matrix that is given by its coefficients, with the checks of a query (SPECIFICATION 5.5).
 pub fn library_fingerprint(width: u32, exponent: u16, entries: &[Coefficient]) -> Fingerprinted
     ensures { λ r. ⌜ toldFingerprinted r ≡ fingerprinted width exponent (now (entries .entry)) ⌝ }
 {
@@ -167,8 +168,8 @@ pub enum Building {
     Refused(Refusal),
 }
 
-// "a table is built": rows 1, 2, 3, 4, 5. A refusal leaves the three arrays as they were; else widths 1 to Q are filled, and all other places
-// keep what they held.
+// A table is built (SPECIFICATION, chapter 6): rows 1, 2, 3, 4, 5. A refusal leaves the three arrays as they were; else widths 1 to Q are
+// filled, and all other places keep what they held.
 pub fn build(
     config: MurmConfig,
     fingerprints: &mut [u64],
@@ -276,7 +277,7 @@ fn ask_part(
     }
 }
 
-// "Width 0 or above Q, once the checks up to 12 are passed: none."; else the width's part is asked.
+// Row 12, after which a width that the table does not have gets none, and the part of any other is asked (SPECIFICATION 7.3).
 fn ask(
     table: Murm,
     fingerprints: &[u64],
@@ -314,8 +315,8 @@ fn ask(
     )
 }
 
-// "a matrix is answered": 13 of the record, then 5, 6, 9, 10, 11, 12, then 13 on the found chain. The lent list keeps its content unless a
-// list is answered, which fills its first places.
+// A matrix is answered (SPECIFICATION, chapter 7): 13 of the record, then 5, 6, 9, 10, 11, 12, then 13 of the chain found. The lent list
+// keeps what it held unless a list is answered, which fills its first places.
 pub fn synthesize(
     table: Murm,
     fingerprints: &[u64],

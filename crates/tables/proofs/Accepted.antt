@@ -40,7 +40,7 @@ accepted l e =
       gates = omega (arith, deep);
     }
 
--- arrays that row 5 does not refuse have a place for each entry of each width
+-- arrays that row 5 does not refuse have E places for each width
 pub roomy : (l : Limits) (a : Arrays) → roomRow l a .holds ≡ false
     → (placesOf l ≤ length (a .prints)) × (placesOf l ≤ length (a .parents)) × (placesOf l ≤ length (a .codes))
 roomy l a e =

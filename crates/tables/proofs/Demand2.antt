@@ -54,16 +54,16 @@ module _ (n : ℕ) (codes : List ℕ) (bytes : List ℤ) where
           subst (λ (o : ListOutcome). Equal n (held n (number (o .answer)) (o .bytes)) (product n codes)) e (coefficients-held n (product n codes))
       by (unfitAt i) e = clash (ap (λ (t : ListOutcome). isGiven (t .answer)) e) refl
 
-  -- "a list's matrix is its exact product": the paper's product, by value
+  -- an accepted list leaves the paper's product, by value
   accepted-value : (k : ℕ) (after : List ℤ) → listed n codes bytes ≡ outcome (given k) after → SameValue n (paperProduct n codes) (held n k after)
   accepted-value k after e =
       same-trans n {y = product n codes} (paper-value n codes) (equal-same n (equal-sym n (accepted-is k after e)))
 
-  -- "in lowest denominator"
+  -- and leaves it in lowest denominator
   pub accepted-lowest : (k : ℕ) (after : List ℤ) → listed n codes bytes ≡ outcome (given k) after → Lowest n (held n k after)
   accepted-lowest k after e = equal-lowest n (equal-sym n (accepted-is k after e)) (product-lowest n codes)
 
-  -- "refused as too large exactly where a step passes 127"
+  -- too large exactly where a step passes the limit (SPECIFICATION 8.2)
   answer-is : (a : Answer) → formed n codes bytes a .answer ≡ a
   answer-is (given k) = refl
   answer-is (refused a i) = refl

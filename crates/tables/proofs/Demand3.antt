@@ -1,4 +1,4 @@
--- Demand 3 and what stands beside it, of what the public entries answer: the statements of specs/Demand3. Assumes nothing.
+-- Demand 3 and what stands beside it, of what the public entries answer: the statements of specs/Demand3 and specs/Beside. Assumes nothing.
 use mathlib.Core.Path.{_≡_, refl, sym, ap, _∙_}
 use mathlib.Core.Logic.{_⊎_, inl, inr}
 use mathlib.Core.Bool.{Bool, true, false}

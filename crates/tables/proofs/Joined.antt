@@ -27,7 +27,7 @@ use Rattle.walk.specs.Answers.{WidthLimits, partWith, rechecked, given, Outcome
 use Rattle.walk.specs.Answers as a
 use Rattle.walk.proofs.Rechecked.{rechecked-exactly}
 
--- what a width that a build left answers, as the outcome of an entry
+-- what a width that a build left answers, as an outcome with the lent list
 abbrev pub toldOption : Option (List ℕ) → List ℕ → Outcome
 toldOption none out = outcome a.none out
 toldOption (some l) out = outcome (given (length l)) (l ++ drop (length l) out)
@@ -41,7 +41,7 @@ pub record Holding (n basis : ℕ) (ns : List Node) (f u c : List ℕ) : Type 0 
   pub parents : (j : ℕ) → j < length ns → getD u j 0 ≡ parentOf (getD ns j root)
   pub codes : (j : ℕ) → j < length ns → getD c j 0 ≡ gate (getD ns j root)
 
--- ---- the lookup
+-- ---- the look-up
 
 ltb-suc : (j m : ℕ) → ltb j m ≡ ltb (suc j) (suc m)
 ltb-suc j m =
@@ -79,7 +79,7 @@ scan f print test (v ∷ ns) i e =
 module _ (n basis : ℕ) (small : n ≤ 5) where
   -- ---- the recheck
 
-  -- of a node's list, newest gate first, and of the same list as the entries have it
+  -- of a node's list, newest gate first, and of the same list as callers have it
   recheck-same : (l : List ℕ) (x : Exact) → rechecked n (reverse l) x ≡ recheck (atWidth n basis) l x
   recheck-same l x =
       let p = rechecked-exactly n (reverse l) x in

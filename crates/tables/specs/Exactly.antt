@@ -1,5 +1,6 @@
--- Which input is refused, by which number and at which position, exactly: the rows of each place in words, in their order, and that a build, an
--- answer and a list are refused by a row exactly where it holds and none before it does. Assumes nothing.
+-- Which input is refused, by which number and at which position, exactly (SPECIFICATION 9.1 to 9.3): the rows of each public entry in words,
+-- in their order; a build, an answer and a list are refused by a row exactly where it holds and none before it does. The rows are told again
+-- here, as what is so and not as a test, so that the tests of Checks, Tables and Lists are checked against them. Assumes nothing.
 use mathlib.Core.Path.{_≡_}
 use mathlib.Core.Logic.{_↔_, _⊎_}
 use mathlib.Core.Bool.{true, false}
@@ -41,7 +42,7 @@ causeAt r C = record { number = r; at = C }
 abbrev pub Past : Cause → Type 0
 Past x = (p : ℕ) → x .at p → ⊥
 
--- a row numbered r holds at the position p, and no row before it holds: rows are tried top down
+-- a row numbered r holds at the position p, and no row before it holds (SPECIFICATION 9.2)
 abbrev pub First : ℕ → ℕ → List Cause → Type 0
 First r p [] = ⊥
 First r p (x ∷ xs) = ((x .number ≡ r) × x .at p) ⊎ (Past x × First r p xs)
@@ -54,6 +55,7 @@ NoCause (x ∷ xs) = Past x × NoCause xs
 -- ---- a build
 
 module _ (l : Limits) where
+  -- rows 1 to 4
   abbrev pub limitCauses : List Cause
   limitCauses =
       cause 1 ((l .qubits ≡ 0) ⊎ (5 < l .qubits))
@@ -65,22 +67,24 @@ module _ (l : Limits) where
   abbrev pub Short : Arrays → Type 0
   Short a = (length (a .prints) < placesOf l) ⊎ (length (a .parents) < placesOf l) ⊎ (length (a .codes) < placesOf l)
 
+  -- rows 1 to 5, in the order of a build
   abbrev pub buildCauses : Arrays → List Cause
   buildCauses a = limitCauses ++ (cause 5 (Short a) ∷ [])
 
 -- ---- an answer
 
--- a record that no build of accepted limits returned: its limits are refused, or the count of a width up to Q is 0 or above E
+-- a bad record: its limits are refused, or the count of a width up to Q is 0 or above E (SPECIFICATION 9.3)
 pub data BadRecord (t : Table) : Type 0 where
   bad-limits : (r p : ℕ) → First r p (limitCauses (t .limits)) → BadRecord t
   bad-count : (w : ℕ) → 0 < w → w ≤ t .limits .qubits → (widthAt t w .count ≡ 0) ⊎ (t .limits .entries < widthAt t w .count) → BadRecord t
 
--- one of the numbers is one below the limit's negative
+-- one of the coefficients is -128, one below the limit's negative
 pub record Below (bytes : List ℤ) : Type 0 where
   pub place : ℕ
   pub inside : place < length bytes
   pub is : getD bytes place (pos 0) ≡ negsuc limit
 
+-- rows 6, 9, 10, 11
 abbrev pub queryCauses : Query → List Cause
 queryCauses q =
     cause 6 (5 < q .width)
@@ -88,12 +92,13 @@ queryCauses q =
     ∷ cause 10 (Below (q .bytes))
     ∷ cause 11 ((0 < q .exponent) × (allDivisible (q .width) (read (q .width) (q .bytes)) ≡ true)) ∷ []
 
--- the table has the width, and the walk from the node found in its part meets a fault
+-- the table has the width, and the way from the node found in its part meets a fault (SPECIFICATION 7.5)
 pub record BadChain (t : Table) (a : Arrays) (q : Query) : Type 0 where
   pub some : 0 < q .width
   pub has : q .width ≤ t .limits .qubits
   pub fault : BadFound (limitsAt (t .limits) (q .width)) (partAt t a (q .width)) (matrixOf q)
 
+-- 13 of the record, 5, 6, 9, 10, 11, 12, 13 of the chain found: the order of an answer
 abbrev pub answerCauses : Table → Arrays → Query → List ℕ → List Cause
 answerCauses t a q out =
     cause 13 (BadRecord t)
@@ -102,12 +107,13 @@ answerCauses t a q out =
 
 -- ---- a list
 
--- code p is the first that is not valid
+-- code p is the first that is not valid at the width
 pub record FirstNotValid (n : ℕ) (codes : List ℕ) (p : ℕ) : Type 0 where
   pub inside : p < length codes
   pub before : (j : ℕ) → j < p → valid n (getD codes j 0) ≡ true
   pub not-valid : valid n (getD codes p 0) ≡ false
 
+-- rows 6, 9, 7, 8: the order of a list
 abbrev pub listCauses : ℕ → List ℕ → List ℤ → List Cause
 listCauses n codes bytes =
     cause 6 (5 < n)
@@ -117,8 +123,8 @@ listCauses n codes bytes =
 
 -- ---- exactly
 
--- a refusal is told exactly where its row is the first that holds, at that position, and leaves what it found; and where no row holds there is
--- none
+-- a refusal is told exactly where its row is the first that holds, at that position, and leaves lent memory as it was; and where no row holds,
+-- the build or the list does what was asked
 pub record Exactly : Type 0 where
   pub build : (l : Limits) (a b : Arrays) (r p : ℕ) → (buildOf l a ≡ left (refusal r p) b) ↔ (First r p (buildCauses l a) × (b ≡ a))
   pub built : (l : Limits) (a : Arrays) → (buildOf l a ≡ left (table (recordOf l)) (builtTo l (l .qubits) a)) ↔ NoCause (buildCauses l a)

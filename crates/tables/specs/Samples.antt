@@ -1,4 +1,5 @@
--- Demand 3's statements speak of something: tables of X alone, whose every condition is met, and memory that no build left. Assumes nothing.
+-- Demand 3 is not vacuous: tables of X alone, which meet every condition of it, and memory that no build left, of which it says what it
+-- should (SPECIFICATION 8.14). Assumes nothing.
 use mathlib.Core.Path.{_≡_}
 use mathlib.Core.Bool.{false}
 use mathlib.Core.List.{List, [], _∷_}
@@ -20,7 +21,7 @@ use Rattle.tables.specs.Demand3.{Gives, GivesNone, Refuses, NotRefused, 
 
 -- ---- limits and arrays
 
--- "Q 1, B 2, G 8: .. E 2": basis 2 is X alone
+-- the smallest table with two nodes: basis 2 is X alone (SPECIFICATION 11.2)
 abbrev pub xLimits : Limits
 xLimits = record { qubits = 1; gates = 8; entries = 2; basis = 2 }
 

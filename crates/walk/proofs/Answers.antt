@@ -1,5 +1,5 @@
--- What a width answers: its product, for any nodes whatever; the same list for more nodes; the shortest list; and what "none" says.
--- Assumes nothing.
+-- What a width answers: a list with the product asked, for any nodes whatever; the same list for more nodes; the shortest list; and what none
+-- says. Assumes nothing.
 use mathlib.Core.Path.{_≡_, refl, sym, ap, _∙_, subst}
 use mathlib.Core.Logic.{⊎-elim, _↔_}
 use mathlib.Core.Bool.{Bool, true, false}
@@ -116,8 +116,8 @@ module _ (R : Rules) where
           (λ (a : k ≤ i). omega arith) (lt-or i k) in
           hit-answer (answersTo R x) ns x (listAt ns k) (record { at = k; first = sym e; there = h; list = refl; right = passes b k h s })
 
-      -- Shortest, among lists of any length: a shorter list would have a node less deep, hence lower, that answers too; but the answering node is
-      -- the lowest
+      -- Shortest, among lists of any length: a shorter list would have a node less deep, hence lower, that answers too; but the answering
+      -- node is the lowest
       pub shortest : (b : Build) → Layered R b → HasAll R Same (b .depth) (b .nodes) → (l : List ℕ) → answer R (b .nodes) x ≡ some l
           → (m : List ℕ) → Over R m → Same (prod R m) x → length l ≤ length m
       shortest b i cp l e m o s =
@@ -133,7 +133,7 @@ module _ (R : Rules) where
           (λ (a : length l ≤ length m). a)
           (lt-or (length m) (length l))
 
-      -- "none" exactly when no list within the limit has the product
+      -- none exactly where no list of the basis within the gate limit has the product (SPECIFICATION 8.5)
       pub none-exactly : (G : ℕ) (ns : List Node) → Grown R ns → ((k : ℕ) → k < length ns → length (listAt ns k) ≤ G) → HasAll R Same G ns
           → (answer R ns x ≡ none) ↔ ((m : List ℕ) → Over R m → length m ≤ G → Same (prod R m) x → ⊥)
       none-exactly G ns b h cp = (to, from)

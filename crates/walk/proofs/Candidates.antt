@@ -103,7 +103,7 @@ module _ (R : Rules) where
     pub layer-later : (s : State) (k m : ℕ) → Later s (layer R most s k m)
     layer-later s k m = layer-keeps (λ j t. Later s t) k m (k + m) refl (λ j t g a b i p. later-trans p (try-later t j g)) (λ j t p. p) s (later-refl s)
 
-    -- ---- a saturated state stays as it is: "ends the width"
+    -- ---- a saturated state stays as it is (SPECIFICATION 6.8)
 
     pub try-saturated : (s : State) (k g : ℕ) → s .saturated ≡ true → try R most s k g ≡ s
     unfolding try

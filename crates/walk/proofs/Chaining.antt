@@ -21,10 +21,10 @@ unfolding all
 all-snoc f [] g h k = rw k
 all-snoc f (x ∷ l) g h k = rw (and-left (f x) (all f l) h) (all-snoc f l g (and-right (f x) (all f l) h) k)
 
--- ---- walks
+-- ---- ways along the parents
 
 module _ (parents : List ℕ) where
-  -- no walk goes on past node 0
+  -- no way goes on past node 0
   pub walk-within : (node i j m : ℕ) → Trail parents node i m → Trail parents node j 0 → i ≤ j
   walk-within node zero j m u v = omega arith
   walk-within node (suc i) zero m u v = absurd (omega (arith, u .0, v))
@@ -72,7 +72,7 @@ module _ (n basis : ℕ) (parents codes : List ℕ) where
   unfolding chainOf
   chain-step left node p = linked-at (chain left (getD parents node 0)) node p
 
-  -- ---- what a chain says of the walk
+  -- ---- what a chain says of the way
 
   abbrev Says : ℕ → ℕ → Chain → Type 0
   Says limit node (good l) = Gates n basis limit parents codes node l
@@ -230,7 +230,7 @@ module _ (n basis : ℕ) (parents codes : List ℕ) where
         by below (good r) f g = record { below = below; rest = r; split = cc; before = f }
         by below bad f g = let z : _≡_ {A = ℕ} 0 1 = cc in absurd (omega arith)
 
-    -- the parent's chain is good within the same limit
+    -- the parent's chain is good with the same gate limit too
     pub parent-good : 0 < length l → (k : Link limit node l) → chain limit (getD parents node 0) ≡ good (k .rest)
     parent-good h k =
         let w = gates-of (limit - 1) (getD parents node 0) (k .before) in

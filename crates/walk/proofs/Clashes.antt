@@ -1,4 +1,4 @@
--- Demand 3's condition on fingerprints, said of lists as the entries have them, is the walk's condition, in both directions: neither is weaker.
+-- Demand 3's condition on fingerprints, of lists that are oldest gate first, is the walk's condition, in both directions: neither is weaker.
 -- Assumes nothing.
 use mathlib.Core.Path.{_≡_, sym, ap, _∙_, subst}
 use mathlib.Core.Logic.{_↔_}

@@ -1,6 +1,6 @@
--- Breadth first with two skip rules misses nothing: once a depth is completed, every list of the basis within it has a node no deeper than the
--- list is long, whose product is a power of omega times the list's. It rests on the laws, on "every step fits" and on hypothesis K.
--- Assumes nothing.
+-- Layers with the two skip rules lose no product (SPECIFICATION 6.13): once a depth is completed, every list of the basis within it has a
+-- node no deeper than the list is long, whose product is a power of omega times the list's. It rests on the laws, on `AllFit` and on
+-- hypothesis K. Assumes nothing.
 use mathlib.Core.Path.{_≡_, refl, sym, ap, _∙_, subst}
 use mathlib.Core.Logic.{_⊎_, inl, inr, ⊎-elim}
 use mathlib.Core.Bool.{true, false, _&&_}
@@ -227,7 +227,7 @@ module _ (R : Rules) (Same : R .Mat → R .Mat → Type 0) (W : Laws R Same) whe
             pick-ind Enough (isNil (R .generators)) (λ e gr k. begin-complete)
             (λ e. depths-complete G E G begin af (begin-layered R) (λ z. omega arith) begin-complete)
 
-    -- at a width that is not saturated, every list of the basis within the limit has
+    -- at a width that is not saturated, every list of the basis within the gate limit has
     pub complete-unsaturated : walk R G E .saturated ≡ false → HasAll R Same G (walk R G E .nodes)
     complete-unsaturated f l o h = by (w .why f) l o h
       where

@@ -1,4 +1,4 @@
--- Demand 3 at one width: the statements of specs/Demand3, from the walk's theorems. The conditions, up to 13 gates and no shared fingerprint,
+-- Demand 3 at one width: the statements of WidthDemand, from the walk's theorems. The conditions, up to 13 gates and no shared fingerprint,
 -- are used only through hypothesis K: what the walk skipped as known was skipped rightly. Assumes nothing.
 use mathlib.Core.Path.{_≡_, refl, sym, ap, _∙_, subst}
 use mathlib.Core.Bool.{Bool, false}

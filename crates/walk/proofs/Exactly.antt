@@ -1,5 +1,5 @@
 -- The walk at a width and a basis meets the laws, by the laws of exact matrices; within 13 gates every step fits; and lists, products and
--- fingerprints as the entries have them, oldest gate first, are those of the walk, newest first. Assumes nothing.
+-- fingerprints as callers have them, oldest gate first, are those of the walk, newest first. Assumes nothing.
 use mathlib.Core.Path.{_≡_, refl, sym, ap, _∙_, subst}
 use mathlib.Core.Bool.{true}
 use mathlib.Core.List.{List, [], _∷_, _++_, reverse, reverse-cons, reverse-reverse, List·Memᴰ}

@@ -42,7 +42,7 @@ module _ (R : Rules) where
   AllFit G = (g : ℕ) (l : List ℕ) → List·Memᴰ g (R .generators) → Over l → length l < G → R .fits g (prod R l) ≡ true
 
   module _ (Same : R .Mat → R .Mat → Type 0) where
-    -- "no two lists of its basis .. within that limit share a fingerprint, unless one's product is a power of omega times the other's"
+    -- no clash: a list makes another known only where their products are the same, among lists of the basis within G gates (SPECIFICATION 8.14)
     abbrev pub NoClash : ℕ → Type 0
     NoClash G =
         (l m : List ℕ) → Over l → Over m → length l ≤ G → length m ≤ G → R .known (prod R l) (prod R m) ≡ true → Same (prod R l) (prod R m)

@@ -1,5 +1,5 @@
 -- Depths: what holds while a depth is walked, and what one depth keeps of a width: its layers, its count, and that it is saturated only at
--- the limit. No law on what the walk is handed is used. Assumes nothing.
+-- the entry limit. No law on what the walk is handed is used. Assumes nothing.
 use mathlib.Core.Path.{_≡_, refl, sym, ap, _∙_}
 use mathlib.Core.Logic.{_⊎_, inl, inr, ⊎-elim}
 use mathlib.Core.Bool.{true, false}
@@ -134,7 +134,7 @@ module _ (R : Rules) where
         deep = λ j l. omega (arith, walked-deep most b i f j l);
       })
 
-  -- the count stays within the limit, and the width is saturated only at the limit
+  -- the count stays within the entry limit, and the width is saturated only there
   pub deeper-count : (most : ℕ) (b : Build) → Layered R b → b .saturated ≡ false → length (b .nodes) ≤ most → length (deeper R most b .nodes) ≤ most
   deeper-count most b i f l = rw (deeper-nodes most b) (walked-within most b i f .count l)
 

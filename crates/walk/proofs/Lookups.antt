@@ -1,4 +1,4 @@
--- Laws of the lookup: its steps, and what is found, said of nodes. Assumes nothing.
+-- Laws of the look-up: its steps, and what is found, said of nodes. Assumes nothing.
 use mathlib.Core.Path.{_≡_, refl, sym, ap, _∙_, subst}
 use mathlib.Core.Bool.{Bool, true, false, _||_}
 use mathlib.Core.List.{List}
@@ -37,7 +37,7 @@ module _ (fps : List ℕ) (count i f : ℕ) where
 
 -- ---- nodes that are passed over together
 
--- the nodes from the start to below i, and whether one of them has the fingerprint: if none has, the lookup may begin at i
+-- the nodes from the start to below i, and whether one of them has the fingerprint: if none has, the look-up may begin at i
 pub record Passed (fps : List ℕ) (from end f i : ℕ) (found : Bool) : Type 0 where
   pub within : i ≤ end
   pub none-has : (count : ℕ) → end ≤ count → found ≡ false → lowestFrom fps count i f ≡ lowestFrom fps count from f
@@ -45,7 +45,7 @@ pub record Passed (fps : List ℕ) (from end f i : ℕ) (found : Bool) : Type 0 
 pub passed-none : (fps : List ℕ) (from end f : ℕ) → from ≤ end → Passed fps from end f from false
 passed-none fps from end f h = record { within = h; none-has = λ count p e. refl }
 
--- one node more: its lower half was compared
+-- one node more: the lower 32 bits were compared
 pub passed-more : {fps : List ℕ} {from end f i a b : ℕ} {found : Bool} → Passed fps from end f i found → i < end → a ≡ getD fps i 0 % 4294967296
     → b ≡ f % 4294967296 → Passed fps from end f (i + 1) (found || eqb a b)
 passed-more {fps} {from} {end} {f} {i} {a} {b} {found} w h p q = record {

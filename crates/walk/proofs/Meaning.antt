@@ -1,4 +1,4 @@
--- The definition says of nodes and lists what document 01 says of them. Assumes nothing.
+-- The definition of an answer comes to what specs/Meaning says of nodes and lists. Assumes nothing.
 use mathlib.Core.Path.{_≡_, refl, sym, ap, _∙_}
 use mathlib.Core.Bool.{Bool, true, false, _&&_}
 use mathlib.Core.List.{List, _++_}

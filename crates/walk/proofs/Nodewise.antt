@@ -1,5 +1,5 @@
--- What nodes answer, said of the parts that the walk is handed: the lowest node that answers, its list, the recheck. tables/proofs/Joined has that
--- arrays which hold the nodes answer the same. Assumes nothing.
+-- What nodes answer, said of the parts that the walk is handed: the lowest node that answers, its list, the recheck. tables/proofs/Joined has
+-- that arrays which hold the nodes answer the same. Assumes nothing.
 use mathlib.Core.Bool.{Bool, true, _&&_}
 use mathlib.Core.List.{List, [], _∷_, reverse}
 use mathlib.Core.Option.{Option, none, some}
@@ -22,7 +22,7 @@ module _ (R : Rules) where
   stepsFit [] = true
   stepsFit (g ∷ l) = stepsFit l && R .fits g (prod R l)
 
-  -- "The list's matrix is formed anew; if it doesn't fit or is not equal up to phase, the answer is none."
+  -- a list passes for the matrix x: all its steps fit, and its product is equal up to phase to x (SPECIFICATION 7.6)
   unfoldable pub recheck : List ℕ → R .Mat → Bool
   recheck l x = stepsFit l && R .equal (prod R l) x
 
@@ -32,14 +32,15 @@ module _ (R : Rules) where
       let k : ℕ = lowest test ns in
       pick (ltb k (length ns)) (pick (recheck (listAt ns k) x) (some (listAt ns k)) none) none
 
+  -- the node is one that the matrix x finds
   abbrev pub answersTo : R .Mat → Node → Bool
   answersTo x n = R .answers (prod R (n .list)) x
 
-  -- "The lowest node of that width with its fingerprint is found." The list is newest gate first
+  -- by the lowest node that the matrix finds (SPECIFICATION 7.4). The list is newest gate first
   abbrev pub answer : List Node → R .Mat → Option (List ℕ)
   answer ns x = answerBy (answersTo x) ns x
 
--- "Its list is read by walking parents, oldest gate first."
+-- the list as callers have it, oldest gate first
 abbrev pub oldestFirst : Option (List ℕ) → Option (List ℕ)
 oldestFirst none = none
 oldestFirst (some l) = some (reverse l)

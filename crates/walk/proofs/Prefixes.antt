@@ -18,7 +18,7 @@ use Rattle.walk.proofs.Sequences.{prefix-refl, prefix-snoc, prefix-tran
 use Rattle.walk.proofs.Candidates.{grownBy, filled, try-later, layer-later, try-saturated}
 use Rattle.walk.proofs.Layers.{settled-nodes, deeper-nodes, deeper-depth}
 
--- the walk with the smaller limit has come just as far, or is saturated and its nodes are the first of the other's
+-- the walk with the smaller entry limit has come just as far, or is saturated and its nodes are the first of the other's
 abbrev Ahead : State → State → Type 0
 Ahead s t = (s ≡ t) ⊎ ((s .saturated ≡ true) × Prefix (s .nodes) (t .nodes))
 

@@ -1,4 +1,5 @@
--- The worked example and the pencil cases at width 1, as the definitions compute them, and what the lists of X come to. Assumes nothing.
+-- The worked example and the small tables at width 1, as the definitions compute them, and what the lists of X come to. SPECIFICATION 10.7
+-- and 11.2. Assumes nothing.
 use mathlib.Core.Path.{_≡_, refl}
 use mathlib.Core.Bool.{true, false}
 use mathlib.Core.List.{[], _∷_}
@@ -25,7 +26,7 @@ use Rattle.walk.specs.AtWidth.{samePrint, built}
 use Rattle.walk.proofs.Laws.{actBy}
 
 pub record WalkSamples : Type 0 where
-  -- "Input `1 8 10 24`, `1 1 8192`, `1 1 20480` prints": basis 24 is S, 12288, and Sdg, 16384. Four nodes; depth 3 added nothing
+  -- the worked example, limits 1 8 10 24: basis 24 is S, 12288, and Sdg, 16384. Four nodes; depth 3 added none (SPECIFICATION 10.7)
   pub worked : built 1 24 8 10 ≡ record {
     nodes = root ∷ record { parent = 0; list = 12288 ∷ [] } ∷ record { parent = 0; list = 16384 ∷ [] }
         ∷ record { parent = 1; list = 12288 ∷ 12288 ∷ [] } ∷ [];
@@ -36,13 +37,14 @@ pub record WalkSamples : Type 0 where
   -- Z is answered by S S, T by none
   pub worked-z : answered 1 24 8 10 (product 1 (8192 ∷ [])) ≡ some (12288 ∷ 12288 ∷ [])
   pub worked-t : answered 1 24 8 10 (product 1 (20480 ∷ [])) ≡ none
-  -- "Q 1, B 2, G 8: E 1 gives one entry, saturated, depth 0; E 2 gives two, unsaturated, depth 2. G 0: depth 0."
+  -- basis 2 is X alone: with E 1 node 0 alone, saturated; with E 2 two nodes, not saturated; with G 0 node 0 alone (SPECIFICATION 11.2)
   pub one-entry : built 1 2 8 1 ≡ record { nodes = root ∷ []; last = 0; depth = 0; saturated = true }
   pub two-entries : built 1 2 8 2 ≡ record { nodes = root ∷ record { parent = 0; list = 4096 ∷ [] } ∷ []; last = 2; depth = 2; saturated = false }
   pub no-depths : built 1 2 0 2 ≡ record { nodes = root ∷ []; last = 0; depth = 0; saturated = false }
-  -- "None at all: one entry, depth 0.": basis 256 is Cx, which width 1 has no room for
+  -- no generators: basis 256 is Cx, which has no valid code at width 1 (SPECIFICATION 6.9)
   pub no-generators : built 1 256 8 2 ≡ record { nodes = root ∷ []; last = 0; depth = 0; saturated = false }
-  -- X, 4096, is the one generator of basis 2 at width 1, it undoes itself, its fingerprint is not the identity's, and T is not among its products
+  -- X, 4096, is the one generator of basis 2 at width 1, it undoes itself, its fingerprint is not the identity's, and T is not among its
+  -- products
   pub only-x : generators 1 2 ≡ 4096 ∷ []
   pub x-back : inverse 4096 4096 ≡ true
   pub prints-differ : eqb (fingerprint 1 identity) (fingerprint 1 (actBy 1 4096 identity)) ≡ false

@@ -1,5 +1,5 @@
--- Demand 3 at one width, in document 01's words. Lists are oldest gate first. The demand itself, of the entries, is
--- tables/specs/Demand3.antt. Assumes nothing.
+-- Demand 3 at one width (SPECIFICATION 8.3 to 8.5), of what the nodes answer. Lists are oldest gate first. The demand itself, of the public
+-- entries, is tables/specs/Demand3.antt. Assumes nothing.
 use mathlib.Core.Path.{_≡_}
 use mathlib.Core.Logic.{_↔_}
 use mathlib.Core.Bool.{Bool, false}
@@ -15,34 +15,30 @@ use Rattle.walk.specs.Known.{SkippedRightly}
 use Rattle.walk.proofs.Nodewise.{answeredBy, answered}
 
 module _ (n basis : ℕ) where
-  -- "a list answered is shortest: every list of that basis and width, of any length, whose product is a power of omega times the matrix has
-  -- at least as many gates"
+  -- no list of the basis at the width, however long, has the product asked and fewer gates than the one answered
   abbrev pub Shortest : ℕ → ℕ → Exact → Type 0
   Shortest G E x =
       (l : List ℕ) → answered n basis G E x ≡ some l → (m : List ℕ) → ListOf n basis m → PowerOf n x (product n m) → length l ≤ length m
 
-  -- "gets 'none' exactly when no list of that basis and width within the limit has such a product"
+  -- none is answered exactly where no list of the basis at the width within the gate limit has the product asked
   abbrev pub NoneExactly : ℕ → ℕ → Exact → Type 0
   NoneExactly G E x =
       (answered n basis G E x ≡ none) ↔ ((m : List ℕ) → ListOf n basis m → length m ≤ G → PowerOf n x (product n m) → ⊥)
 
-  -- "Then a list answered is shortest .. Then also, at a built width that is not saturated, a matrix that is not refused gets 'none' exactly
-  -- when ..". A matrix that is not refused is in lowest denominator
+  -- both, the second at a width that is not saturated (SPECIFICATION 8.5). A matrix that is not refused is in lowest denominator
   pub record WidthComplete (G E : ℕ) : Type 0 where
     pub shortest : (x : Exact) → Lowest n x → Shortest G E x
     pub none-exactly : built n basis G E .saturated ≡ false → (x : Exact) → Lowest n x → NoneExactly G E x
 
   pub record WidthDemand3 : Type 0 where
-    -- "Whatever the lent table holds, a gate list that it answers has a product equal to a power of omega times the matrix asked.": any
-    -- nodes, found by any test
+    -- an answer is right, whatever the nodes are and whichever test finds one (SPECIFICATION 8.3)
     pub right : (test : Node → Bool) (ns : List Node) (x : Exact) (l : List ℕ) → answeredBy n basis test ns x ≡ some l → PowerOf n x (product n l)
-    -- "Where a built table answers a list, every built table of that basis with no smaller limit gives that very list for the same matrix"
+    -- larger tables agree: the same list is answered where G and E are no smaller (SPECIFICATION 8.4)
     pub larger : (G G′ E E′ : ℕ) → G ≤ G′ → E ≤ E′ → (x : Exact) (l : List ℕ)
         → answered n basis G E x ≡ some l → answered n basis G′ E′ x ≡ some l
-    -- "Suppose that a built table's gate limit is up to 13, and that no two lists of its basis at the matrix's width within that limit share a
-    -- fingerprint, unless .."
+    -- up to 13 gates, and with no clash at the width (SPECIFICATION 8.5, 8.14)
     pub complete : (G E : ℕ) → G ≤ 13 → NoSharedPrint n basis G → WidthComplete G E
     -- the same, where the table at hand was looked through and every candidate that was skipped as known was skipped rightly
     pub complete-rightly : (G E : ℕ) → G ≤ 13 → SkippedRightly n basis G E → WidthComplete G E
-    -- besides: an answered list is a list of the basis within the limit
+    -- besides: an answered list is a list of the basis within the gate limit
     pub within : (G E : ℕ) (x : Exact) (l : List ℕ) → answered n basis G E x ≡ some l → ListOf n basis l × (length l ≤ G)

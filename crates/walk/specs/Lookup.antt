@@ -1,4 +1,4 @@
--- The look-up of a fingerprint, on any list of fingerprints. Assumes nothing.
+-- The look-up of a fingerprint, whatever the array of fingerprints holds: the lowest node that has it (SPECIFICATION 7.4). Assumes nothing.
 use mathlib.Core.List.{List}
 use Prim.Native.Nat.{ℕ, zero, suc, _-_}
 use lib.Dec.{eqb}
@@ -15,6 +15,6 @@ abbrev pub lowestOf : List ℕ → ℕ → ℕ → ℕ → Lookup
 lowestOf fingerprints fingerprint i zero = none
 lowestOf fingerprints fingerprint i (suc m) = pick (eqb (getD fingerprints i 0) fingerprint) (found i) (lowestOf fingerprints fingerprint (suc i) m)
 
--- "The lowest node of that width with its fingerprint is found": of the nodes from one on and below the count
+-- the lowest node with the fingerprint, of those not below `from` and below the count (SPECIFICATION 7.4)
 unfoldable pub lowestFrom : List ℕ → ℕ → ℕ → ℕ → Lookup
 lowestFrom fingerprints count from fingerprint = lowestOf fingerprints fingerprint from (count - from)

@@ -1,5 +1,5 @@
--- What look-ups, chains and answers come to, said of nodes, of the way along the parents and of lists: the words in which the definitions of
--- Lookup, Chains and Answers are told a second time. Assumes nothing.
+-- What look-ups, chains and answers come to, said of nodes, of the way along the parents and of lists: a second form of the definitions of
+-- Lookup, Chains and Answers, shown to be equivalent, so that these can be checked by reading it. Assumes nothing.
 use mathlib.Core.Path.{_≡_}
 use mathlib.Core.Bool.{true, false}
 use mathlib.Core.List.{List, _++_}
@@ -21,7 +21,7 @@ use Rattle.walk.specs.Answers.{WidthLimits, Part, given, none, refused, 
 
 -- ---- the look-up
 
--- a node has the fingerprint, is below the count and not below the start, and none before it has
+-- a node has the fingerprint, is below the count and not below the start, and none before it has (SPECIFICATION 7.4)
 pub record LowestNode (fingerprints : List ℕ) (count from fingerprint node : ℕ) : Type 0 where
   pub has : getD fingerprints node 0 ≡ fingerprint
   pub below : node < count
@@ -39,19 +39,19 @@ pub record LooksUp (fingerprints : List ℕ) (count from fingerprint : ℕ) : Ty
 
 -- ---- the chain
 
--- the walk from a node along the parents, which ends at node 0, comes to the node m after i gates
+-- the way from a node along the parents, which ends at node 0, comes to the node m after i gates
 abbrev pub Trail : List ℕ → ℕ → ℕ → ℕ → Type 0
 Trail parents node zero m = node ≡ m
 Trail parents node (suc i) m = (0 < node) × Trail parents (getD parents node 0) i m
 
--- the walk meets a fault: one constructor for each part of the sentence
+-- the way meets a fault: one case for each reason of SPECIFICATION 7.5; limit is the gate limit
 pub data Fault (n basis limit : ℕ) (parents codes : List ℕ) (node : ℕ) : Type 0 where
   not-below : (i m : ℕ) → Trail parents node i m → 0 < m → m ≤ getD parents m 0 → Fault n basis limit parents codes node
   not-valid : (i m : ℕ) → Trail parents node i m → 0 < m → validFor n basis (getD codes m 0) ≡ false → Fault n basis limit parents codes node
   too-many : (i m : ℕ) → Trail parents node i m → limit < i → Fault n basis limit parents codes node
   unmarked : (i : ℕ) → Trail parents node i 0 → marked parents codes ≡ false → Fault n basis limit parents codes node
 
--- the list of a walk that meets none: the gate passed i-th, counted from 0, is the i-th from the list's end
+-- the list of a way that meets none: the gate passed i-th, counted from 0, is the i-th from the list's end
 pub record Gates (n basis limit : ℕ) (parents codes : List ℕ) (node : ℕ) (l : List ℕ) : Type 0 where
   pub valid : all (validFor n basis) l ≡ true
   pub short : length l ≤ limit
@@ -81,7 +81,7 @@ module _ (limits : WidthLimits) (part : Part) (x : Exact) where
   abbrev pub FaultOf : ℕ → Type 0
   FaultOf node = Fault (limits .width) (limits .basis) (limits .gates) (part .parents) (part .codes) node
 
-  -- the found node's way gives the list, every step fits, and the product is equal up to phase to x
+  -- the way from the node found gives the list, every step fits, and the product is equal up to phase to x (SPECIFICATION 7.6)
   pub record AnsweredBy (l : List ℕ) : Type 0 where
     pub node : ℕ
     pub lowest : FoundNode node
@@ -110,7 +110,7 @@ module _ (limits : WidthLimits) (part : Part) (x : Exact) where
         → (answerOf limits part x out ≡ outcome (refused a i) after) ↔ (BadFound × (a ≡ 13) × (i ≡ 0) × (after ≡ out))
 
 -- what then holds of the list and of the matrix asked, whatever the arrays hold: the product is a power of omega times the matrix, the list is
--- one of the basis at the width and within the limit; "A query need not be unitary; such a one gets none"
+-- one of the basis at the width and within the gate limit, and the matrix is unitary, so that any other gets none (SPECIFICATION 7.8, 8.3)
 pub record Right (n basis limit : ℕ) (x : Exact) (l : List ℕ) : Type 0 where
   pub power : PowerOf n x (product n l)
   pub valid : all (validFor n basis) l ≡ true

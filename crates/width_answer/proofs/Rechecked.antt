@@ -19,7 +19,7 @@ use Rattle.exact.specs.Places.{held}
 use Rattle.lists.specs.Walk.{HoldsProduct}
 use Rattle.walk.specs.Answers.{fitsAll, rechecked}
 
--- ---- the test sees equal matrices alike
+-- ---- the test says the same of equal matrices
 
 up-equal : (n : ℕ) {x y : Exact} → Equal n x y → (z : Exact) → upToPhase n x z ≡ upToPhase n y z
 up-equal n {x} {y} w z =

@@ -74,7 +74,7 @@ module _ (limits : WidthLimits) (part : Part) (x : Exact) where
           by a.Nothing e f = e
           by a.BadChain e f = absurd (omega (arith, kinds e f))
 
-      -- 13 exactly where a node is found and its walk meets a fault
+      -- 13 exactly where a node is found and the way from it meets a fault
       pub bad-exactly : (r ≡ a.BadChain) ↔ BadFound limits part x
       bad-exactly = (λ e. answered-bad e .fault, λ w. by r refl (means limits part x out .is-refused 13 0 out .1 (w, refl, refl, refl)))
         where

@@ -1,4 +1,4 @@
--- What a width answers, by what the lookup told. Assumes nothing.
+-- What a width answers, by what the look-up told. Assumes nothing.
 use mathlib.Core.Path.{_≡_, sym, ap, _∙_}
 use mathlib.Core.List.{List}
 use Prim.Native.Nat.{ℕ}

@@ -1,4 +1,5 @@
--- The number and the values of each case of a width's answer, and what is asked of the places of a query. Assumes nothing.
+-- The cases of a width's answer as the definitions have them (SPECIFICATION 12.8), and what the functions ask of the places of a query. What is
+-- answered is in walk/specs/Answers.antt. Assumes nothing.
 use Prim.Native.Nat.{ℕ, _*_, _^_, _≤_}
 use mathlib.Core.List.{List}
 use lib.IntN.{ℤ}
@@ -9,6 +10,7 @@ use Rattle.walk.specs.Answers.{Reply, given, none, refused}
 use Rattle.width_answer.specs.declared.Answered.{Answered}
 use Rattle.width_answer.specs.declared.Answered.the-variants as a
 
+-- a bad chain is 13 (SPECIFICATION 9.3)
 abbrev pub toldAnswered : Answered → Reply
 toldAnswered (a.List m) = given m
 toldAnswered a.Nothing = none

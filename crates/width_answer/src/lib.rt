@@ -1,5 +1,5 @@
-// What one width's part of a lent table answers to a matrix, whatever its three arrays hold. murm.rs of the original, `Murm::synthesize`,
-// below the entry: the checks up to 12 are passed.
+// What one width's part of a lent table answers to a matrix, whatever its three arrays hold (SPECIFICATION 7.4 to 7.7). murm.rs of the original,
+// `Murm::synthesize`, below the public entry: no row up to 12 has refused.
 ghost use mathlib.Core.Path.{_≡_};
 ghost use mathlib.Core.Bool.{true};
 ghost use mathlib.Core.List.{_++_};
@@ -19,14 +19,15 @@ use synthesis_arena::Found;
 use synthesis_arena::NodeCircuit;
 use synthesis_arena::WidthLimits;
 
-// What is answered: a list, by how many gates it has; none; or that the chain found is bad.
+// What is answered: a list, by how many gates it has; none; or that the chain found is bad (SPECIFICATION 7.5).
 pub enum Answered {
     List(usize),
     Nothing,
     BadChain,
 }
 
-// "The list's matrix is formed anew": whether every step fits, and the product is equal up to phase to the matrix asked.
+// The recheck: the product of the list is formed from the identity; whether every step fits, and it is equal up to phase to the matrix asked
+// (SPECIFICATION 7.6).
 pub fn recheck(codes: &[u32], n: usize, exponent: u16, query: &[Coefficient]) -> bool
     requires { ⌜ n ≤ 5 ⌝ }
     requires { ⌜ all (valid n) (now codes) ≡ true ⌝ }
@@ -88,7 +89,7 @@ pub fn answer_node(
     Answered::List(size)
 }
 
-// What a width's part of a table answers: by the lowest node with the matrix's fingerprint.
+// What a width's part of a table answers: by the lowest node with the matrix's fingerprint (SPECIFICATION 7.4).
 pub fn answer_width(
     limits: WidthLimits,
     count: usize,

@@ -24,7 +24,7 @@ sized c = (omega (arith, c .before .if1 .left), ap (λ (k : ℕ). 4 * k) (c .are
 mul-size : tie.Need-mul-size
 mul-size c = record { fits = omega (arith, c .area .ensures, area-le (c .before .before .args .width) (sized c .0)) }
 
--- the bytes lent are as many as the matrix has
+-- the lent coefficients are as many as the matrix has
 exact : (c : tie.Else2) → let s = c .before .before .before .args in length (s .entries .now) ≡ byteCount (s .width)
 exact c = c .if2 .left ∙ sized (c .before) .1
 

@@ -31,7 +31,7 @@ returns-2 c =
     let s = c .before .before .before .before .args in
     list-9 (s .width) (s .codes .now) (s .out .now) (sized (c .before) .0) (λ q. c .if2 .taken (q ∙ sym (sized (c .before) .1)))
 
--- the bytes lent are as many as the matrix has
+-- the lent places are as many as the matrix has coefficients
 exact : (c : tie.Else2) → let s = c .before .before .before .before .args in length (s .out .now) ≡ byteCount (s .width)
 exact c = c .if2 .left ∙ sized (c .before) .1
 

@@ -1,5 +1,5 @@
--- What unitarity bounds: each row's coefficient squares sum to 2^k, so that lists of few gates fit at every step, and an exponent past
--- 65535 is never met. Assumes nothing.
+-- What unitarity bounds: the squares of the coefficients of each row sum to 2^k, so that lists of few gates fit at every step, and an exponent
+-- past 65535 is never met (SPECIFICATION 3.4). Assumes nothing.
 use mathlib.Core.Path.{_≡_, refl, sym, ap, _∙_}
 use mathlib.Core.Bool.{Bool, true, false}
 use mathlib.Core.List.{List, [], _∷_}

@@ -158,7 +158,7 @@ module _ (n : ℕ) where
 
   -- ---- the test
 
-  -- the test of one entry, after each one's own phase
+  -- the test of one entry of the two phased matrices
   abbrev alike : Exact → Exact → ℕ → ℕ → Bool
   alike x y r c = eqω (phased n x .e r c) (phased n y .e r c)
 

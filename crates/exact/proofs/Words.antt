@@ -30,7 +30,7 @@ abbrev pub total : ℕ → (ℕ → ℕ) → ℕ
 total zero f = 0
 total (suc m) f = total m f + f m
 
--- each row's coefficient squares sum to 2^k
+-- the squares of the coefficients of each row sum to 2^k
 pub record RowLaw (n : ℕ) (x : Exact) : Type 0 where
   pub sums : (r : ℕ) → r < 2 ^ n → total (2 ^ n) (λ c. squares (x .e r c)) ≡ 2 ^ x .k
 

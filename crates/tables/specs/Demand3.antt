@@ -19,15 +19,15 @@ use Rattle.tables.specs.Built.{Built}
 -- ---- what a table answers
 
 module _ (t : Table) (a : Arrays) (q : Query) (out : List ℕ) where
-  -- the list l: it fills the first places of the lent list, and the later ones keep their content
+  -- the list l, which is written over the beginning of the lent list; the later places keep what they held (SPECIFICATION 7.7)
   abbrev pub Gives : List ℕ → Type 0
   Gives l = synthesized t a q out ≡ outcome (given (length l)) (l ++ drop (length l) out)
 
-  -- none, and the lent list keeps its content
+  -- none, and the lent list keeps what it held
   abbrev pub GivesNone : Type 0
   GivesNone = synthesized t a q out ≡ outcome none out
 
-  -- a refusal, and the lent list keeps its content
+  -- a refusal, and the lent list keeps what it held
   abbrev pub Refuses : ℕ → Type 0
   Refuses r = synthesized t a q out ≡ outcome (refused r 0) out
 

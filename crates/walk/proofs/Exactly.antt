@@ -57,7 +57,7 @@ module _ (n basis : ℕ) where
   print-is v = ap (fingerprint n) (product-at (v .list))
 
 module _ (n basis : ℕ) (small : n ≤ 5) where
-  -- ---- the generators are the codes that are valid at the width and of a kind in the basis
+  -- ---- the generators are the codes that are valid for the basis at the width (SPECIFICATION 2.8)
 
   generator-code : (g : ℕ) → List·Memᴰ g (generators n basis) → validFor n basis g ≡ true
   generator-code g m = lists n basis (omega arith) .sound g m

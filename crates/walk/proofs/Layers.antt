@@ -99,7 +99,7 @@ module _ (R : Rules) where
       let t = walked R most b .saturated in
       pick-ind (λ (c : Build). c .saturated ≡ t) t (λ e. sym e) (λ e. sym e)
 
-  -- a depth walked to its end is completed, one that is cut off is not
+  -- the completed depth is one more where the depth came to its end, and stays where it was cut off (SPECIFICATION 6.9)
   pub deeper-depth : (most : ℕ) (b : Build)
       → (deeper R most b .saturated ≡ false → deeper R most b .depth ≡ suc (b .depth))
       × (deeper R most b .saturated ≡ true → deeper R most b .depth ≡ b .depth)

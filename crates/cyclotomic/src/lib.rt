@@ -162,16 +162,7 @@ impl Cyclotomic {
     pub fn is_zero(self) -> bool
         ensures { λ r. ⌜ r ≡ isZero self ⌝ }
     {
-        if !same(self.a, 0) {
-            return false;
-        }
-        if !same(self.b, 0) {
-            return false;
-        }
-        if !same(self.c, 0) {
-            return false;
-        }
-        same(self.d, 0)
+        self.equals(Cyclotomic::zero())
     }
 
     // Whether the two are the same.

@@ -146,7 +146,7 @@ impl Cyclotomic {
         d: 0,
     };
 
-    // The two constants, with what they are.
+    // The two constants, with what they are: a constant has no contract. `is_zero` compares with 0, an identity is made of 1.
     pub fn zero() -> Cyclotomic
         ensures { λ r. ⌜ r ≡ zeroω ⌝ }
     {
@@ -181,7 +181,8 @@ impl Cyclotomic {
         same(self.d, rhs.d)
     }
 
-    // The sum, unless a coefficient of it passes the limit.
+    // The sum, unless a coefficient of it passes the limit: the ring's sum of any two elements. H, which has tested all its pairs before it
+    // stores one, takes `add`; a caller that has not takes this.
     pub fn checked_add(self, rhs: Cyclotomic) -> Checked
         ensures { λ r. ⌜ told r ≡ checked (addω self rhs) ⌝ }
     {
@@ -193,7 +194,7 @@ impl Cyclotomic {
         )
     }
 
-    // The difference, unless a coefficient of it passes the limit.
+    // The difference, likewise; H takes `subtract`.
     pub fn checked_sub(self, rhs: Cyclotomic) -> Checked
         ensures { λ r. ⌜ told r ≡ checked (subω self rhs) ⌝ }
     {

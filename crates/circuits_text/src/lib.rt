@@ -29,8 +29,8 @@ pub enum Line {
 // The place of the first byte c from at on; the length where there is none.
 pub fn find(s: &[u8], at: usize, c: u8) -> usize
     requires { ⌜ at ≤ length (now s) ⌝ }
-    ensures { λ r. ⌜ r ≡ at + length (before c (drop at (now (s .entry)))) ⌝ }
-    ensures { λ r. ⌜ (at ≤ r) × (r ≤ length (now (s .entry))) ⌝ }
+    ensures found { λ r. ⌜ r ≡ at + length (before c (drop at (now (s .entry)))) ⌝ }
+    ensures inside { λ r. ⌜ (at ≤ r) × (r ≤ length (now (s .entry))) ⌝ }
 {
     let mut p = at;
     while p < s.len() {
@@ -172,8 +172,8 @@ fn put_digits(out: &mut [u8], at: usize, n: u64) -> usize
 // Puts the decimal digits of a number from a place on, where 20 places are left, as many as any number takes, and answers the place after them.
 pub fn put_decimal(out: &mut [u8], at: usize, n: u64) -> usize
     requires { ⌜ at + 20 ≤ length (now out) ⌝ }
-    ensures { λ r. ⌜ Put at (decimal n) r (now (out .entry)) (now (out .exit)) ⌝ }
-    ensures { λ r. ⌜ r ≤ at + 20 ⌝ }
+    ensures written { λ r. ⌜ Put at (decimal n) r (now (out .entry)) (now (out .exit)) ⌝ }
+    ensures most { λ r. ⌜ r ≤ at + 20 ⌝ }
 {
     put_digits(out, at, n)
 }
@@ -191,8 +191,8 @@ fn size(x: i32) -> u64
 // Puts a signed number where 11 places are left, and answers the place after it.
 pub fn put_signed(out: &mut [u8], at: usize, x: i32) -> usize
     requires { ⌜ at + 11 ≤ length (now out) ⌝ }
-    ensures { λ r. ⌜ Put at (signed x) r (now (out .entry)) (now (out .exit)) ⌝ }
-    ensures { λ r. ⌜ r ≤ at + 11 ⌝ }
+    ensures written { λ r. ⌜ Put at (signed x) r (now (out .entry)) (now (out .exit)) ⌝ }
+    ensures most { λ r. ⌜ r ≤ at + 11 ⌝ }
 {
     if x < 0 {
         let next = put_byte(out, at, 45);
@@ -204,8 +204,8 @@ pub fn put_signed(out: &mut [u8], at: usize, x: i32) -> usize
 // Puts a 64-bit word as sixteen hexadecimal digits, and answers the place after them.
 pub fn put_hex(out: &mut [u8], at: usize, n: u64) -> usize
     requires { ⌜ at + 16 ≤ length (now out) ⌝ }
-    ensures { λ r. ⌜ Put at (hex n) r (now (out .entry)) (now (out .exit)) ⌝ }
-    ensures { λ r. ⌜ r ≡ at + 16 ⌝ }
+    ensures written { λ r. ⌜ Put at (hex n) r (now (out .entry)) (now (out .exit)) ⌝ }
+    ensures long { λ r. ⌜ r ≡ at + 16 ⌝ }
 {
     let mut rest = n;
     let mut i = 16;

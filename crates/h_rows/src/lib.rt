@@ -93,9 +93,9 @@ fn h_rows(m: &mut [Coefficient; 4096], n: usize, t: usize)
     requires { ⌜ length (now m) ≡ places ⌝ }
     requires { ⌜ (n ≤ 5) × (t < n) ⌝ }
     requires { ⌜ AllSmall n (hRows (2 ^ t) (read n (now m))) ⌝ }
-    ensures { λ _. ⌜ length (now (m .exit)) ≡ places ⌝ }
-    ensures { λ _. ⌜ Same n (read n (now (m .exit))) (hRows (2 ^ t) (read n (now (m .entry)))) ⌝ }
-    ensures { λ _. ⌜ Kept n (now (m .entry)) (now (m .exit)) ⌝ }
+    ensures sized { λ _. ⌜ length (now (m .exit)) ≡ places ⌝ }
+    ensures summed { λ _. ⌜ Same n (read n (now (m .exit))) (hRows (2 ^ t) (read n (now (m .entry)))) ⌝ }
+    ensures kept { λ _. ⌜ Kept n (now (m .entry)) (now (m .exit)) ⌝ }
 {
     let d = places::dim(n);
     let bit = places::mask(t);

@@ -24,8 +24,8 @@ pub fn apply_gates(m: &mut [Coefficient; 4096], n: usize, codes: &[u32]) -> Walk
     requires { ⌜ n ≤ 5 ⌝ }
     requires { ⌜ all (valid n) (now codes) ≡ true ⌝ }
     requires { ⌜ Holds n 0 (now m) identity ⌝ }
-    ensures { λ r. ⌜ Ended n (now (codes .entry)) (now (m .exit)) r ⌝ }
-    ensures { λ _. ⌜ Kept n (now (m .entry)) (now (m .exit)) ⌝ }
+    ensures ended { λ r. ⌜ Ended n (now (codes .entry)) (now (m .exit)) r ⌝ }
+    ensures kept { λ _. ⌜ Kept n (now (m .entry)) (now (m .exit)) ⌝ }
 {
     let mut k: u16 = 0;
     let mut i = 0;

@@ -36,8 +36,8 @@ pub struct UnitaryMatrix {
 // The identity of width n: 1 at the diagonal's places, 0 at all others.
 pub fn identity_data(n: usize) -> [Coefficient; 4096]
     requires { ⌜ n ≤ 5 ⌝ }
-    ensures { λ r. ⌜ Holds n 0 r identity ⌝ }
-    ensures { λ r. ⌜ Blank n r ⌝ }
+    ensures identity { λ r. ⌜ Holds n 0 r identity ⌝ }
+    ensures blank { λ r. ⌜ Blank n r ⌝ }
 {
     let mut data: [Coefficient; 4096] = [0; 4096];
     let d = places::dim(n);
@@ -53,8 +53,8 @@ impl UnitaryMatrix {
     // The identity of width n.
     pub fn identity(n: usize) -> UnitaryMatrix
         requires { ⌜ n ≤ 5 ⌝ }
-        ensures { λ r. ⌜ IsMatrix n 0 r identity ⌝ }
-        ensures { λ r. ⌜ Blank n (r .data) ⌝ }
+        ensures identity { λ r. ⌜ IsMatrix n 0 r identity ⌝ }
+        ensures blank { λ r. ⌜ Blank n (r .data) ⌝ }
     {
         let data = identity_data(n);
         UnitaryMatrix {
@@ -70,8 +70,8 @@ pub fn normalize_denominator(m: &mut [Coefficient; 4096], n: usize, k: u16) -> u
     requires { ⌜ length (now m) ≡ places ⌝ }
     requires { ⌜ n ≤ 5 ⌝ }
     requires { ⌜ AllSmall n (read n (now m)) ⌝ }
-    ensures { λ r. ⌜ Holds n r (now (m .exit)) (lower n (held n k (now (m .entry)))) ⌝ }
-    ensures { λ _. ⌜ Kept n (now (m .entry)) (now (m .exit)) ⌝ }
+    ensures lowered { λ r. ⌜ Holds n r (now (m .exit)) (lower n (held n k (now (m .entry)))) ⌝ }
+    ensures kept { λ _. ⌜ Kept n (now (m .entry)) (now (m .exit)) ⌝ }
 {
     let mut j = k;
     while j > 0 {

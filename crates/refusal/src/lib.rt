@@ -32,9 +32,9 @@ pub enum Check {
 pub struct Numbered(pub u64, pub u64);
 
 pub fn number_of(refusal: Refusal) -> Numbered
-    ensures { λ r. ⌜ r .0 ≡ numberOf refusal ⌝ }
-    ensures { λ r. ⌜ r .1 ≡ positionOf refusal ⌝ }
-    ensures { λ r. ⌜ r .0 ≤ 15 ⌝ }
+    ensures number { λ r. ⌜ r .0 ≡ numberOf refusal ⌝ }
+    ensures position { λ r. ⌜ r .1 ≡ positionOf refusal ⌝ }
+    ensures most { λ r. ⌜ r .0 ≤ 15 ⌝ }
 {
     match refusal {
         Refusal::WidthLimit => Numbered(1, 0),

@@ -119,7 +119,7 @@ pub each : {a b c d a′ b′ c′ d′ : ℤ} → a ≡ a′ → b ≡ b′ →
 each p q r s = λ i. mk (p i) (q i) (r i) (s i)
 
 -- an element's coefficients as the machine reads them back; `kept (c .good .0 .1 .1)` is this of a function's first argument
-pub record Kept (x : Zω) : Type 0 where
+pub record SizeKept (x : Zω) : Type 0 where
   pub a-kept : toZ near (ofZ near (x .a)) ≡ x .a
   pub b-kept : toZ near (ofZ near (x .b)) ≡ x .b
   pub c-kept : toZ near (ofZ near (x .c)) ≡ x .c
@@ -131,5 +131,5 @@ InRange z = mag z < 2 ^ hbits near
 back : {z : ℤ} → InRange z → toZ near (ofZ near z) ≡ z
 back g = toZ-ofZ (record { sfits = g })
 
-pub kept : {A B C D E : Type 0} {x : Zω} → (A × InRange (x .a)) × ((B × InRange (x .b)) × ((C × InRange (x .c)) × ((D × InRange (x .d)) × E))) → Kept x
+pub kept : {A B C D E : Type 0} {x : Zω} → (A × InRange (x .a)) × ((B × InRange (x .b)) × ((C × InRange (x .c)) × ((D × InRange (x .d)) × E))) → SizeKept x
 kept g = record { a-kept = back (g .0 .1); b-kept = back (g .1 .0 .1); c-kept = back (g .1 .1 .0 .1); d-kept = back (g .1 .1 .1 .0 .1) }

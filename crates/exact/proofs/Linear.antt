@@ -37,15 +37,15 @@ scale-comm (by p) none x = turn-zero p
 scale-comm (by p) (by q) x = turn-comm p q x
 
 -- row r gets what stays of itself and what comes from row `from r`
-pub record Shape : Type 0 where
+pub record LinearShape : Type 0 where
   pub stay : ℕ → Scalar
   pub come : ℕ → Scalar
   pub from : ℕ → ℕ
 
-abbrev pub linear : Shape → (ℕ → Zω) → ℕ → Zω
+abbrev pub linear : LinearShape → (ℕ → Zω) → ℕ → Zω
 linear S v r = addω (scale (S .stay r) (v r)) (scale (S .come r) (v (S .from r)))
 
-abbrev pub shape : Gate → Shape
+abbrev pub shape : Gate → LinearShape
 shape (phase ks p) = record { stay = λ r. pick (ones ks r) (by p) (by 0); come = λ r. none; from = λ r. r }
 shape (exchange ks k) = record { stay = λ r. pick (ones ks r) none (by 0); come = λ r. pick (ones ks r) (by 0) none; from = λ r. flip k r }
 shape (had k) = record { stay = λ r. pick (bit r k) (by 4) (by 0); come = λ r. by 0; from = λ r. flip k r }

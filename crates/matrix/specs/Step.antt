@@ -51,8 +51,8 @@ pub record Stepped (n k : ℕ) (g : Gate) (l l′ : List ℤ) (r : Applied) : Ty
   pub kept : Kept n l l′
 
 -- the same for a turn and for an exchange, whose bits are given as a mask
-pub record Turned (n k mask p : ℕ) (l l′ : List ℤ) (r : Applied) : Type 0 where
+pub record TurnsRows (n k mask p : ℕ) (l l′ : List ℤ) (r : Applied) : Type 0 where
   pub by : (ks : List ℕ) → mask ≡ maskOf ks → Stepped n k (phase ks p) l l′ r
 
-pub record Exchanged (n k control t : ℕ) (l l′ : List ℤ) (r : Applied) : Type 0 where
+pub record ExchangesRows (n k control t : ℕ) (l l′ : List ℤ) (r : Applied) : Type 0 where
   pub by : (ks : List ℕ) → control ≡ maskOf ks → Proper n (exchange ks t) → Stepped n k (exchange ks t) l l′ r

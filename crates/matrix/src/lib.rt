@@ -12,7 +12,7 @@ ghost use Rattle.exact.specs.Rows.{had, bitOf, gate, gateOf};
 ghost use Rattle.exact.proofs.Words.{Proper, AllSmall};
 ghost use Rattle.exact.specs.Places.{read, held};
 ghost use Rattle.places.specs.Places.{places, Kept, Blank};
-ghost use Rattle.matrix.specs.Step.{IsMatrix, Holds, Ready, Stepped, Turned, Exchanged};
+ghost use Rattle.matrix.specs.Step.{IsMatrix, Holds, Ready, Stepped, TurnsRows, ExchangesRows};
 use circuit::LibraryGate;
 use cyclotomic::Coefficient;
 use cyclotomic::Cyclotomic;
@@ -88,7 +88,7 @@ pub fn normalize_denominator(m: &mut [Coefficient; 4096], n: usize, k: u16) -> u
 fn phase_step(m: &mut [Coefficient; 4096], n: usize, mask: usize, power: u8, k: u16) -> Applied
     requires { ⌜ n ≤ 5 ⌝ }
     requires { ⌜ Ready n k (now m) ⌝ }
-    ensures { λ r. ⌜ Turned n k mask power (now (m .entry)) (now (m .exit)) r ⌝ }
+    ensures { λ r. ⌜ TurnsRows n k mask power (now (m .entry)) (now (m .exit)) r ⌝ }
 {
     rows::apply_phase_left(m, n, mask, power);
     Applied::Done(k)
@@ -99,7 +99,7 @@ fn exchange_step(m: &mut [Coefficient; 4096], n: usize, control: usize, t: usize
     requires { ⌜ (n ≤ 5) × (t < n) ⌝ }
     requires { ⌜ bitAnd control (2 ^ t) ≡ 0 ⌝ }
     requires { ⌜ Ready n k (now m) ⌝ }
-    ensures { λ r. ⌜ Exchanged n k control t (now (m .entry)) (now (m .exit)) r ⌝ }
+    ensures { λ r. ⌜ ExchangesRows n k control t (now (m .entry)) (now (m .exit)) r ⌝ }
 {
     rows::apply_controlled_x_left(m, n, control, t);
     Applied::Done(k)

@@ -10,7 +10,7 @@ use Rattle.synthesis_arena.specs.Chains.{depthOf, toldDepth, circuitOf, 
 use Rattle.walk.specs.Chains.{Chain, good, chainOf}
 use Rattle.synthesis_arena.specs.declared.NodeDepth.{NodeDepth}
 use Rattle.synthesis_arena.specs.declared.NodeDepth.the-variants.{At, Bad}
-use Rattle.walk.proofs.Chaining.{Link, link}
+use Rattle.walk.proofs.Chaining.{LastGate, link}
 use Rattle.synthesis_arena.proofs.Depths.{deep, not-deep}
 
 empty : (l : List ℕ) → length l ≡ 0 → l ≡ []
@@ -54,7 +54,7 @@ module _ (n basis : ℕ) (parents codes : List ℕ) (limit node : ℕ) (old : Li
   module _ {size i at : ℕ} {out : List ℕ} (w : Writing size i at out) where
     pub writing-more : i < size → Writing size (i + 1) (getD parents at 0) (set out (size - 1 - i) (getD codes at 0))
     writing-more h =
-        let k : Link n basis parents codes (w .left) at (w .rest) = link n basis parents codes (w .left) at (w .here) (omega (arith, w .sum)) in
+        let k : LastGate n basis parents codes (w .left) at (w .rest) = link n basis parents codes (w .left) at (w .here) (omega (arith, w .sum)) in
         let g : ℕ = getD codes at 0 in
         let m : ℕ = length (k .rest) in
         let behind : List ℕ = w .done ++ drop size old in

@@ -26,7 +26,7 @@ use Rattle.tables.proofs.Rows.{numbered-query, first-here, first-past, 
 use Rattle.tables.proofs.FromBuild.{build-built, build-refused, built-again}
 use Rattle.tables.proofs.Counts.{width-is, counts}
 use Rattle.tables.proofs.Joined.{toldOption}
-use Rattle.tables.proofs.Replies.{number-of, rowOfAnswer, Case, not-a-width, part-asked, by-row, row-refuses, cases}
+use Rattle.tables.proofs.Replies.{number-of, rowOfAnswer, ReplyCase, not-a-width, part-asked, by-row, row-refuses, cases}
 use Rattle.tables.proofs.Replies.{gives-asked, no-row, decided, gives-right}
 use Rattle.tables.proofs.OfBuilt.{asked-lowest, a-width, told-none, not-refusal, rows-are, rows-up-to, query-passed}
 use Rattle.tables.proofs.OfBuilt.{widths-small, told-walk, gives-walk}
@@ -105,7 +105,7 @@ module _ (t : Table) (a : Arrays) (b : Built t a) where
   never-13 : (q : Query) (out : List ℕ) → Refuses t a q out 13 → ⊥
   never-13 q out n = by (cases t a q out)
     where
-      by : Case t a q out → ⊥
+      by : ReplyCase t a q out → ⊥
       by (not-a-width e f m) = absurd (omega (arith, kind-of (sym m ∙ n)))
       by (part-asked e f p) =
           not-refusal (answered (q .width) (t .limits .basis) (t .limits .gates) (t .limits .entries) (matrixOf q)) 13 out

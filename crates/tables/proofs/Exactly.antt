@@ -10,7 +10,7 @@ use Rattle.tables.specs.Checks.{firstRow, Limits, Arrays}
 use Rattle.tables.specs.Tables.{Table, BuildReply, table, refusal, Left, left, recordOf, builtTo, buildRows, buildOf, Query, synthesized}
 use Rattle.tables.specs.Exactly.{Cause, cause, First, NoCause, buildCauses, BadChain, answerCauses, Exactly}
 use Rattle.tables.proofs.FromBuild.{build-refusal, build-fills}
-use Rattle.tables.proofs.Replies.{Case, not-a-width, part-asked, by-row, row-refuses, width-asked, cases, asked-means}
+use Rattle.tables.proofs.Replies.{ReplyCase, not-a-width, part-asked, by-row, row-refuses, width-asked, cases, asked-means}
 use Rattle.tables.proofs.OfBuilt.{a-width}
 use Rattle.tables.proofs.Demand3.{has-width}
 use Rattle.tables.proofs.Causes.{first-to, first-from, none-to, none-from, first-more, first-later, first-split}
@@ -78,7 +78,7 @@ module _ (t : Table) (a : Arrays) (q : Query) (out : List ℕ) where
       told : (s : ℕ) → First s 0 (answerCauses t a q out) → s ≡ r → 0 ≡ p → First r p (answerCauses t a q out)
       told s f x y = subst (λ (j : ℕ). First r j (answerCauses t a q out)) y (subst (λ (j : ℕ). First j 0 (answerCauses t a q out)) x f)
 
-      to : synthesized t a q out ≡ outcome (refused r p) after → Case t a q out → First r p (answerCauses t a q out) × (after ≡ out)
+      to : synthesized t a q out ≡ outcome (refused r p) after → ReplyCase t a q out → First r p (answerCauses t a q out) × (after ≡ out)
       to n (not-a-width f w m) = absurd (omega (arith, kind-of (sym m ∙ n)))
       to n (part-asked f w m) =
           let (x, y, z, u) = asked-means t a q out .is-refused r p after .0 (sym m ∙ n) in

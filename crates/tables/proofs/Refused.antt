@@ -16,7 +16,7 @@ use Rattle.tables.specs.Demand3.{Gives, GivesNone, Refuses, NotRefused}
 use Rattle.tables.specs.Exactly.{cause, First, queryCauses}
 use Rattle.tables.proofs.Causes.{is-lt, InWords, done, more, words-append, first-to, first-from}
 use Rattle.tables.proofs.InWords.{query-in-words}
-use Rattle.tables.proofs.Replies.{number-of, rowOfAnswer, Case, not-a-width, part-asked, by-row, row-refuses, width-none, width-asked, cases}
+use Rattle.tables.proofs.Replies.{number-of, rowOfAnswer, ReplyCase, not-a-width, part-asked, by-row, row-refuses, width-none, width-asked, cases}
 use Rattle.tables.proofs.Replies.{gives-asked, asked-means, gives-answers}
 use Rattle.tables.proofs.OfBuilt.{rows-are}
 use Rattle.tables.proofs.Demand3.{demand}
@@ -39,7 +39,7 @@ module _ (t : Table) (a : Arrays) (q : Query) (out : List ℕ) where
   refused-by : (r : ℕ) → Refuses t a q out r → Refusal r
   refused-by r n = by (cases t a q out)
     where
-      by : Case t a q out → Refusal r
+      by : ReplyCase t a q out → Refusal r
       by (not-a-width e w m) = absurd (omega (arith, kind-of (sym m ∙ n)))
       by (part-asked e w p) = let x = asked-means t a q out .is-refused r 0 out .0 (sym p ∙ n) in chain-bad (x .1) e w (x .0)
       by (by-row s h e m) = let z = number-of (sym m ∙ n) in row-holds (omega arith) (e ∙ z)
@@ -51,7 +51,7 @@ module _ (t : Table) (a : Arrays) (q : Query) (out : List ℕ) where
       to : GivesNone t a q out → (rowOfAnswer t a q out ≡ 0) × ((notAWidth t q ≡ true) ⊎ ((notAWidth t q ≡ false) × NoPart))
       to n = by (cases t a q out)
         where
-          by : Case t a q out → (rowOfAnswer t a q out ≡ 0) × ((notAWidth t q ≡ true) ⊎ ((notAWidth t q ≡ false) × NoPart))
+          by : ReplyCase t a q out → (rowOfAnswer t a q out ≡ 0) × ((notAWidth t q ≡ true) ⊎ ((notAWidth t q ≡ false) × NoPart))
           by (not-a-width e w m) = (e, inl w)
           by (part-asked e w p) = (e, inr (w, asked-means t a q out .is-none out .0 (sym p ∙ n) .0))
           by (by-row s h e m) = absurd (omega (arith, kind-of (sym m ∙ n)))

@@ -44,10 +44,10 @@ module _ (t : Table) (a : Arrays) (q : Query) (out : List ℕ) where
   abbrev pub rowOfAnswer : ℕ
   rowOfAnswer = firstRow (answerRows t a q out)
 
-  pub data Case : Type 0 where
-    not-a-width : rowOfAnswer ≡ 0 → notAWidth t q ≡ true → GivesNone t a q out → Case
-    part-asked : rowOfAnswer ≡ 0 → notAWidth t q ≡ false → synthesized t a q out ≡ partAsked t a q out → Case
-    by-row : (r : ℕ) → 0 < r → rowOfAnswer ≡ r → Refuses t a q out r → Case
+  pub data ReplyCase : Type 0 where
+    not-a-width : rowOfAnswer ≡ 0 → notAWidth t q ≡ true → GivesNone t a q out → ReplyCase
+    part-asked : rowOfAnswer ≡ 0 → notAWidth t q ≡ false → synthesized t a q out ≡ partAsked t a q out → ReplyCase
+    by-row : (r : ℕ) → 0 < r → rowOfAnswer ≡ r → Refuses t a q out r → ReplyCase
 
   -- ---- from the rows to the answer
 
@@ -63,14 +63,14 @@ module _ (t : Table) (a : Arrays) (q : Query) (out : List ℕ) where
   unfolding synthesized
   width-asked e f = ap (repliedBy t a q out) e ∙ rw f
 
-  pub cases : Case
+  pub cases : ReplyCase
   cases = by rowOfAnswer refl
     where
-      at : rowOfAnswer ≡ 0 → (b : Bool) → notAWidth t q ≡ b → Case
+      at : rowOfAnswer ≡ 0 → (b : Bool) → notAWidth t q ≡ b → ReplyCase
       at e true f = not-a-width e f (width-none e f)
       at e false f = part-asked e f (width-asked e f)
 
-      by : (r : ℕ) → rowOfAnswer ≡ r → Case
+      by : (r : ℕ) → rowOfAnswer ≡ r → ReplyCase
       by zero e = at e (notAWidth t q) refl
       by (suc r) e = by-row (suc r) (omega arith) e (row-refuses (suc r) (omega arith) e)
 
@@ -81,7 +81,7 @@ module _ (t : Table) (a : Arrays) (q : Query) (out : List ℕ) where
       → (rowOfAnswer ≡ 0) × (notAWidth t q ≡ false) × (partAsked t a q out ≡ outcome (given (length l)) (l ++ drop (length l) out))
   gives-asked l g = by cases
     where
-      by : Case → (rowOfAnswer ≡ 0) × (notAWidth t q ≡ false) × (partAsked t a q out ≡ outcome (given (length l)) (l ++ drop (length l) out))
+      by : ReplyCase → (rowOfAnswer ≡ 0) × (notAWidth t q ≡ false) × (partAsked t a q out ≡ outcome (given (length l)) (l ++ drop (length l) out))
       by (not-a-width e f n) = not-given (omega arith) (sym n ∙ g)
       by (part-asked e f p) = (e, f, sym p ∙ g)
       by (by-row r h e n) = not-given (omega arith) (sym n ∙ g)
@@ -90,7 +90,7 @@ module _ (t : Table) (a : Arrays) (q : Query) (out : List ℕ) where
   pub no-row : NotRefused t a q out → rowOfAnswer ≡ 0
   no-row h = by cases
     where
-      by : Case → rowOfAnswer ≡ 0
+      by : ReplyCase → rowOfAnswer ≡ 0
       by (not-a-width e f n) = e
       by (part-asked e f p) = e
       by (by-row r p e n) = absurd (h r n)
@@ -116,7 +116,7 @@ module _ (t : Table) (a : Arrays) (q : Query) (out : List ℕ) where
           let (w, x, y, h) = asked-means .is-refused r i (partAsked t a q out .list) .0 f in
           a-refusal r (p ∙ f ∙ (λ k. outcome (refused r (y k)) (h k)))
 
-      by : Case → Decided t a q out
+      by : ReplyCase → Decided t a q out
       by (not-a-width e f n) = no-list n
       by (part-asked e f p) = at p (partAsked t a q out .reply) refl
       by (by-row r h e n) = a-refusal r n

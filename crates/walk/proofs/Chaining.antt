@@ -197,7 +197,7 @@ module _ (n basis : ℕ) (parents codes : List ℕ) where
       ap (λ (k : ℕ). chain k node) e ∙ chain-step (limit - 1) node p ∙ rw (lt-ltb (getD parents node 0) node below, ok)
 
   -- the last gate of a good chain and the chain of its parent
-  pub record Link (limit node : ℕ) (l : List ℕ) : Type 0 where
+  pub record LastGate (limit node : ℕ) (l : List ℕ) : Type 0 where
     pub below : getD parents node 0 < node
     pub rest : List ℕ
     pub split : l ≡ rest ++ (getD codes node 0 ∷ [])
@@ -218,7 +218,7 @@ module _ (n basis : ℕ) (parents codes : List ℕ) where
         by zero z = absurd (omega arith)
         by (suc m) z = subst (λ (k : ℕ). Trail parents node k 0) z (gates-of limit node e .ends) .0
 
-    pub link : 0 < length l → Link limit node l
+    pub link : 0 < length l → LastGate limit node l
     link h =
         let w = gates-of limit node e in
         let p = above-root h in
@@ -226,12 +226,12 @@ module _ (n basis : ℕ) (parents codes : List ℕ) where
         let ok = sym (ap (validFor n basis) (w .gate 0 node h refl)) ∙ all-at (validFor n basis) l (length l - 1) (w .valid) (omega arith) in
         by below (chain (limit - 1) (getD parents node 0)) refl (sym (chain-more limit node (omega (arith, w .short)) p below ok) ∙ e)
       where
-        by : getD parents node 0 < node → (k : Chain) → chain (limit - 1) (getD parents node 0) ≡ k → then k (getD codes node 0) ≡ good l → Link limit node l
+        by : getD parents node 0 < node → (k : Chain) → chain (limit - 1) (getD parents node 0) ≡ k → then k (getD codes node 0) ≡ good l → LastGate limit node l
         by below (good r) f g = record { below = below; rest = r; split = cc; before = f }
         by below bad f g = let z : _≡_ {A = ℕ} 0 1 = cc in absurd (omega arith)
 
     -- the parent's chain is good with the same gate limit too
-    pub parent-good : 0 < length l → (k : Link limit node l) → chain limit (getD parents node 0) ≡ good (k .rest)
+    pub parent-good : 0 < length l → (k : LastGate limit node l) → chain limit (getD parents node 0) ≡ good (k .rest)
     parent-good h k =
         let w = gates-of (limit - 1) (getD parents node 0) (k .before) in
         good-by limit (getD parents node 0) (record { valid = w .valid; short = omega (arith, w .short); ends = w .ends; marks = w .marks; falls = w .falls; gate = w .gate })

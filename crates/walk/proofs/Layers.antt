@@ -23,7 +23,7 @@ settled-nodes b s = pick-ind (λ (c : Build). c .nodes ≡ s .nodes) (s .saturat
 module _ (R : Rules) where
   module _ (most : ℕ) where
     -- while depth d + 1 is walked, from the nodes ns on, at node k
-    pub record Within (ns : List Node) (d k : ℕ) (s : State) : Type 0 where
+    pub record WithinDepth (ns : List Node) (d k : ℕ) (s : State) : Type 0 where
       pub grown : Grown R (s .nodes)
       pub parents : ParentsTo k (s .nodes)
       pub prefix : Prefix ns (s .nodes)
@@ -32,13 +32,13 @@ module _ (R : Rules) where
       pub full : s .saturated ≡ true → most ≤ length (s .nodes)
 
     within-try : (ns : List Node) (d : ℕ) (s : State) (k g : ℕ) → k < length ns → length (listAt ns k) ≡ d → List·Memᴰ g (R .generators)
-        → Within ns d k s → Within ns d k (try R most s k g)
+        → WithinDepth ns d k s → WithinDepth ns d k (try R most s k g)
     within-try ns d s k g l e m i =
         let ms : List Node = s .nodes in
         let c : Node = child R ms k g in
         let q : k < length ms = omega (arith, prefix-length (i .prefix)) in
         let r : length (listAt ms k) ≡ d = ap (λ (z : Node). length (z .list)) (prefix-at (i .prefix) k root l) ∙ e in
-        try-cases R most (λ t. Within ns d k t) s k g i
+        try-cases R most (λ t. WithinDepth ns d k t) s k g i
         (λ f a h. record {
           grown = more k g (i .grown) q (i .parents) m a;
           parents = all-snoc ms c root (λ j n. 0 < j → n .parent ≤ k) (i .parents) (λ p. le-refl k);
@@ -50,10 +50,10 @@ module _ (R : Rules) where
         (λ h. record { grown = i .grown; parents = i .parents; prefix = i .prefix; new = i .new; count = i .count; full = λ z. h })
 
     -- after the depth, from a width that is not saturated
-    pub walked-within : (b : Build) → Layered R b → b .saturated ≡ false → Within (b .nodes) (b .depth) (length (b .nodes)) (walked R most b)
+    pub walked-within : (b : Build) → Layered R b → b .saturated ≡ false → WithinDepth (b .nodes) (b .depth) (length (b .nodes)) (walked R most b)
     walked-within b i f =
         let ns : List Node = b .nodes in
-        layer-keeps R most (λ k t. Within ns (b .depth) k t) (b .last) (length ns - b .last) (length ns) (omega (arith, i .start))
+        layer-keeps R most (λ k t. WithinDepth ns (b .depth) k t) (b .last) (length ns - b .last) (length ns) (omega (arith, i .start))
         (λ k t g a l m p. within-try ns (b .depth) t k g l (i .within f k l a) m p)
         (λ k t p. record {
           grown = p .grown;

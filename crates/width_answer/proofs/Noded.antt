@@ -23,7 +23,7 @@ part m l = take (m - 0) l
 
 module _ (n basis : ℕ) (parents codes : List ℕ) (limit node : ℕ) where
   -- the first m places hold the list of the node's chain
-  pub record Listed (new : List ℕ) (m : ℕ) : Type 0 where
+  pub record ReadList (new : List ℕ) (m : ℕ) : Type 0 where
     pub is : chainOf n basis parents codes limit node ≡ good (part m new)
     pub short : m ≤ limit
     pub size : length (part m new) ≡ m
@@ -31,7 +31,7 @@ module _ (n basis : ℕ) (parents codes : List ℕ) (limit node : ℕ) where
     pub all-valid : all (valid n) (part m new) ≡ true
 
   module _ (old : List ℕ) {new : List ℕ} {r : NodeCircuit} (told : arena.written (toldCircuit r) new ≡ circuitOf (chainOf n basis parents codes limit node) old) where
-    pub listed : {m : ℕ} → r ≡ Length m → Listed new m
+    pub listed : {m : ℕ} → r ≡ Length m → ReadList new m
     listed {m} e =
         let w = circuit-read n basis parents codes limit node old new told e in
         let whole : m - 0 ≡ m = omega arith in
@@ -48,7 +48,7 @@ module _ (n basis : ℕ) (parents codes : List ℕ) (limit node : ℕ) where
     pub node-bad : r ≡ Bad → (x : Exact) (out : List ℕ) → outcome (refused 13 0) out ≡ ofChain n x out (chainOf n basis parents codes limit node)
     node-bad e x out = sym (ap (ofChain n x out) (circuit-refused n basis parents codes limit node old new told e .is-bad))
 
-  module _ {new : List ℕ} {m : ℕ} (w : Listed new m) (x : Exact) (out : List ℕ) where
+  module _ {new : List ℕ} {m : ℕ} (w : ReadList new m) (x : Exact) (out : List ℕ) where
     pub node-none : rechecked n (part m new) x ≡ false → outcome none out ≡ ofChain n x out (chainOf n basis parents codes limit node)
     node-none e = rw (w .is, e)
 

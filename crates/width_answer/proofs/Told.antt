@@ -20,7 +20,7 @@ use Rattle.walk.proofs.Meaning.{kind, size, means, answers-right}
 module _ (limits : WidthLimits) (part : Part) (x : Exact) where
   module _ (out after : List ℕ) where
     -- a list was answered: it fills the first places, and the later ones are as they were
-    pub record Listed (m : ℕ) : Type 0 where
+    pub record ToldList (m : ℕ) : Type 0 where
       pub list : List ℕ
       pub answers : AnsweredBy limits part x list
       pub right : Right (limits .width) (limits .basis) (limits .gates) x list
@@ -34,7 +34,7 @@ module _ (limits : WidthLimits) (part : Part) (x : Exact) where
       pub same : after ≡ out
 
     -- the chain found is bad, and all places are as they were
-    pub record Refused : Type 0 where
+    pub record ToldBad : Type 0 where
       pub fault : BadFound limits part x
       pub same : after ≡ out
 
@@ -42,7 +42,7 @@ module _ (limits : WidthLimits) (part : Part) (x : Exact) where
       is : {s : Answered} → r ≡ s → answerOf limits part x out ≡ outcome (toldAnswered s) after
       is e = sym told ∙ ap (λ (s : Answered). outcome (toldAnswered s) after) e
 
-      pub answered-list : {m : ℕ} → r ≡ a.List m → Listed m
+      pub answered-list : {m : ℕ} → r ≡ a.List m → ToldList m
       answered-list {m} e =
           let (l, w, z, h) = means limits part x out .is-list m after .0 (is e) in
           record {
@@ -57,7 +57,7 @@ module _ (limits : WidthLimits) (part : Part) (x : Exact) where
       pub answered-none : r ≡ a.Nothing → NotListed
       answered-none e = let p = means limits part x out .is-none after .0 (is e) in record { no-list = p .0; same = p .1 }
 
-      pub answered-bad : r ≡ a.BadChain → Refused
+      pub answered-bad : r ≡ a.BadChain → ToldBad
       answered-bad e = let p = means limits part x out .is-refused 13 0 after .0 (is e) in record { fault = p .0; same = p .3 }
 
       -- ---- and conversely

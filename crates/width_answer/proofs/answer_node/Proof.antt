@@ -3,12 +3,12 @@ use mathlib.Core.Path.{sym, _∙_}
 use native.Mathlib.Omega.{arith}
 use borrow.Author.Needs.{needs}
 use borrow.Author.Tests.{not-true, not-false}
-use Rattle.width_answer.proofs.Noded.{Listed, listed, node-bad, node-none, node-list}
+use Rattle.width_answer.proofs.Noded.{ReadList, listed, node-bad, node-none, node-list}
 use Rattle.width_answer.proofs.answer_node.Statement.{statement}
 use Rattle.width_answer.proofs.answer_node.Tie as tie
 
 -- the list of the chain is read
-read : (c : tie.After-size) → let s = c .before .before .before .before .before .before .before .before .args in Listed (s .limits .width) (s .limits .basis) (s .parents .now) (s .codes .now) (s .limits .gates) (s .node) (c .before .before .before .circuit .last .1 .1 .1 .1 .1 .1 .0) (c .size .given .0 .0)
+read : (c : tie.After-size) → let s = c .before .before .before .before .before .before .before .before .args in ReadList (s .limits .width) (s .limits .basis) (s .parents .now) (s .codes .now) (s .limits .gates) (s .node) (c .before .before .before .circuit .last .1 .1 .1 .1 .1 .1 .0) (c .size .given .0 .0)
 read c = listed _ _ _ _ _ _ _ (c .before .before .before .circuit .ensures) (c .size .given .1)
 
 returns : tie.Need-returns

@@ -2,14 +2,14 @@
 use mathlib.Core.Path.{_∙_}
 use Rattle.ints.proofs.Machine.{said}
 use Rattle.cyclotomic.specs.Zomega.{near, far, addω}
-use Rattle.cyclotomic.proofs.Number.{Kept, kept, each}
+use Rattle.cyclotomic.proofs.Number.{SizeKept, kept, each}
 use Rattle.cyclotomic.proofs.Cyclotomic.add.Statement.{statement}
 use Rattle.cyclotomic.proofs.Cyclotomic.add.Tie as tie
 
-self : (c : tie.Start) → Kept (c .args .self)
+self : (c : tie.Start) → SizeKept (c .args .self)
 self c = kept (c .good .0 .1 .1)
 
-rhs : (c : tie.Start) → Kept (c .args .rhs)
+rhs : (c : tie.Start) → SizeKept (c .args .rhs)
 rhs c = kept (c .good .1 .0 .1 .1)
 
 narrow-coefficient-requires : tie.Need-narrow-coefficient-requires

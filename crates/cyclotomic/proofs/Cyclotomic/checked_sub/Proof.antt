@@ -3,14 +3,14 @@ use mathlib.Core.Path.{_∙_, ap}
 use Rattle.ints.proofs.Machine.{said}
 use Rattle.cyclotomic.specs.Zomega.{far, subω}
 use Rattle.cyclotomic.specs.Told.{checked}
-use Rattle.cyclotomic.proofs.Number.{Kept, kept, each}
+use Rattle.cyclotomic.proofs.Number.{SizeKept, kept, each}
 use Rattle.cyclotomic.proofs.Cyclotomic.checked_sub.Statement.{statement}
 use Rattle.cyclotomic.proofs.Cyclotomic.checked_sub.Tie as tie
 
-self : (c : tie.Start) → Kept (c .args .self)
+self : (c : tie.Start) → SizeKept (c .args .self)
 self c = kept (c .good .0 .1 .1)
 
-rhs : (c : tie.Start) → Kept (c .args .rhs)
+rhs : (c : tie.Start) → SizeKept (c .args .rhs)
 rhs c = kept (c .good .1 .0 .1 .1)
 
 returns : tie.Need-returns

@@ -2,11 +2,11 @@
 use mathlib.Core.Path.{_∙_}
 use Rattle.ints.proofs.Machine.{said}
 use Rattle.cyclotomic.specs.Zomega.{near, far, overSqrt2}
-use Rattle.cyclotomic.proofs.Number.{add-small, sub-small, Kept, kept, each}
+use Rattle.cyclotomic.proofs.Number.{add-small, sub-small, SizeKept, kept, each}
 use Rattle.cyclotomic.proofs.Cyclotomic.divide_by_sqrt_2.Statement.{statement}
 use Rattle.cyclotomic.proofs.Cyclotomic.divide_by_sqrt_2.Tie as tie
 
-self : (c : tie.Start) → Kept (c .args .self)
+self : (c : tie.Start) → SizeKept (c .args .self)
 self c = kept (c .good .0 .1 .1)
 
 halved-requires : tie.Need-halved-requires

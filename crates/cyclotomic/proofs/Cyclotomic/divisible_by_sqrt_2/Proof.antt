@@ -1,11 +1,11 @@
 -- `divisible_by_sqrt_2` meets its contract: where the first parities differ it is false, and else it is what the second pair says.
 use mathlib.Core.Path.{_≡_, _∙_}
 use Rattle.cyclotomic.specs.Zomega.{sameParity, divisible}
-use Rattle.cyclotomic.proofs.Number.{Kept, kept, fails, holds}
+use Rattle.cyclotomic.proofs.Number.{SizeKept, kept, fails, holds}
 use Rattle.cyclotomic.proofs.Cyclotomic.divisible_by_sqrt_2.Statement.{statement}
 use Rattle.cyclotomic.proofs.Cyclotomic.divisible_by_sqrt_2.Tie as tie
 
-self : (c : tie.Start) → Kept (c .args .self)
+self : (c : tie.Start) → SizeKept (c .args .self)
 self c = kept (c .good .0 .1 .1)
 
 test : (c : tie.After-same-parity) → c .same-parity .result ≡ sameParity (c .before .before .before .args .self .a) (c .before .before .before .args .self .c)

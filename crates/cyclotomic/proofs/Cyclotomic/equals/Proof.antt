@@ -1,14 +1,14 @@
 -- `equals` meets its contract: each return follows the comparisons on the way to it.
 use mathlib.Core.Path.{_≡_, _∙_}
 use Rattle.cyclotomic.specs.Zomega.{eqZ, eqω}
-use Rattle.cyclotomic.proofs.Number.{Kept, kept, fails, holds}
+use Rattle.cyclotomic.proofs.Number.{SizeKept, kept, fails, holds}
 use Rattle.cyclotomic.proofs.Cyclotomic.equals.Statement.{statement}
 use Rattle.cyclotomic.proofs.Cyclotomic.equals.Tie as tie
 
-self : (c : tie.Start) → Kept (c .args .self)
+self : (c : tie.Start) → SizeKept (c .args .self)
 self c = kept (c .good .0 .1 .1)
 
-rhs : (c : tie.Start) → Kept (c .args .rhs)
+rhs : (c : tie.Start) → SizeKept (c .args .rhs)
 rhs c = kept (c .good .1 .0 .1 .1)
 
 test-a : (c : tie.After-same) → c .same .result ≡ eqZ (c .before .before .before .args .self .a) (c .before .before .before .args .rhs .a)

@@ -6,7 +6,7 @@ use lib.IntN.{negℤ, negℤ-negℤ}
 use mir.Val.{toZ, ofZ}
 use Rattle.ints.proofs.Machine.{said}
 use Rattle.cyclotomic.specs.Zomega.{near, turn}
-use Rattle.cyclotomic.proofs.Number.{Kept, kept, each, past}
+use Rattle.cyclotomic.proofs.Number.{SizeKept, kept, each, past}
 use Rattle.cyclotomic.proofs.Turns.{turn-mod}
 use Rattle.cyclotomic.proofs.Cyclotomic.times_omega.Statement.{statement}
 use Rattle.cyclotomic.proofs.Cyclotomic.times_omega.Tie as tie
@@ -18,11 +18,11 @@ arm c k e = rw (sym e) (turn-mod (c .args .power) (c .args .self))
 seventh : (p : ℕ) → 7 ≤ p % 8 → p % 8 ≡ 7
 seventh p h = omega arith
 
-own : (c : tie.Start) → Kept (c .args .self)
+own : (c : tie.Start) → SizeKept (c .args .self)
 own c = kept (c .good .0 .1 .1)
 
 -- the coefficients of the argument, where the match is
-self : (c : tie.After-negated4) → Kept (c .before .before .before .before .before .before .before .before .args .self)
+self : (c : tie.After-negated4) → SizeKept (c .before .before .before .before .before .before .before .before .args .self)
 self c = own (c .before .before .before .before .before .before .before .before)
 
 -- the four negated coefficients

@@ -23,8 +23,8 @@ use Rattle.exact.specs.Places.{entry, read, held}
 use Rattle.places.specs.Places.{places}
 use Rattle.matrix.specs.Step.{Ready}
 use Rattle.walk.proofs.Sequences.{lt-or}
-use Rattle.width_table.specs.Table.{Copied, printAfter}
-use Rattle.width_table.proofs.Tries.{given-print, refused-print, fits-alike, prints-alike}
+use Rattle.node_matrix.specs.Matrices.{Copied, printAfter}
+use Rattle.node_matrix.proofs.Prints.{given-print, refused-print, fits-alike, prints-alike}
 
 -- ---- place by place
 

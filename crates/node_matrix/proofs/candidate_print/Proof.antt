@@ -7,14 +7,14 @@ use Rattle.exact.proofs.Answered.{step-given, step-refused}
 use Rattle.exact.proofs.Prints.{fingerprint-equal}
 use Rattle.places.proofs.Placed.{area-le}
 use Rattle.lists.proofs.Walking.{at-answer}
-use Rattle.width_table.proofs.Copies.{copied-ready, copied-given, copied-refused}
-use Rattle.width_table.proofs.candidate_print.Statement.{statement}
-use Rattle.width_table.proofs.candidate_print.Tie as tie
+use Rattle.node_matrix.proofs.Copies.{copied-ready, copied-given, copied-refused}
+use Rattle.node_matrix.proofs.candidate_print.Statement.{statement}
+use Rattle.node_matrix.proofs.candidate_print.Tie as tie
 
 copy-matrix-requires : tie.Need-copy-matrix-requires
 copy-matrix-requires c κs =
     let p = c .before .pre in
-    (p .0, (omega (arith, area-le _ (p .0), p .1 .1 .1), omega (arith, area-le _ (p .0), p .1 .1 .0 .long)))
+    (p .0, (omega (arith, area-le _ (p .0), p .1 .1 .0 .long), omega (arith, area-le _ (p .0), p .1 .1 .1)))
 
 apply-gate-left-requires : tie.Need-apply-gate-left-requires
 apply-gate-left-requires c κs =

@@ -1,10 +1,11 @@
 -- `try_candidate` meets its contract: a candidate that is pruned or does not fit is skipped, and any other goes to `append`. Assumes nothing.
 use mathlib.Core.Path.{sym, ap, _∙_}
 use borrow.Author.Needs.{needs}
-use Rattle.width_table.specs.Table.{toldCandidate}
-use Rattle.width_table.proofs.Tries.{pruned-is, print-given, print-refused, fits-alike, prints-alike, skip-pruned, skip-unfit, keep}
-use Rattle.width_table.proofs.try_candidate.Statement.{statement}
-use Rattle.width_table.proofs.try_candidate.Tie as tie
+use Rattle.node_matrix.specs.Matrices.{toldCandidate}
+use Rattle.node_matrix.proofs.Prints.{print-given, print-refused, fits-alike, prints-alike}
+use Rattle.candidates.proofs.Tries.{pruned-is, skip-pruned, skip-unfit, keep}
+use Rattle.candidates.proofs.try_candidate.Statement.{statement}
+use Rattle.candidates.proofs.try_candidate.Tie as tie
 
 returns : tie.Need-returns
 returns c =
@@ -36,7 +37,7 @@ returns-3 c =
       λ h e.
           let t = sym (ap toldCandidate (p .print .given .1)) ∙ q .candidate-print .ensures .0 in
           let g = print-given _ _ _ t in
-          a .append .ensures _ _ h (sym (pruned-is h _ _ (s .pre .1 .1 .1 .1 .there)) ∙ sym (i .before .is-pruned .ensures) ∙ i .if1 .left)
+          a .append .ensures h (sym (pruned-is h _ _ (s .pre .1 .1 .1 .1 .there)) ∙ sym (i .before .is-pruned .ensures) ∙ i .if1 .left)
           (sym (fits-alike _ _ e) ∙ g .0) (g .1 ∙ prints-alike _ _ e),
       q .candidate-print .ensures .1,
     )

@@ -3,28 +3,28 @@ use Prim.Native.Nat.{_-_}
 use native.Mathlib.Omega.{arith}
 use borrow.Author.Needs.{needs}
 use Rattle.places.proofs.Placed.{area-le}
-use Rattle.width_table.proofs.Copies.{copied-none, copied-more, copied-to}
-use Rattle.width_table.specs.Table.{Copied}
-use Rattle.width_table.proofs.copy_matrix.Statement.{statement}
-use Rattle.width_table.proofs.copy_matrix.Tie as tie
+use Rattle.node_matrix.proofs.Copies.{copied-none, copied-more, copied-to}
+use Rattle.node_matrix.specs.Matrices.{Copied}
+use Rattle.node_matrix.proofs.copy_matrix.Statement.{statement}
+use Rattle.node_matrix.proofs.copy_matrix.Tie as tie
 
 abbrev Inv-loop : tie.InvT-loop
-Inv-loop to₀ from n size i₀ to i = Copied from to₀ to i
+Inv-loop n from to₀ size i₀ to i = Copied from to₀ to i
 
 abbrev μ-loop : tie.MeasureT-loop
-μ-loop to₀ from n size i₀ to i = size - i
+μ-loop n from to₀ size i₀ to i = size - i
 
 shared-slice-copy-out-to : tie.Need-shared-slice-copy-out-to Inv-loop μ-loop
-shared-slice-copy-out-to c = omega (arith, c .loop-test .taken, c .before .before .area .ensures, c .before .before .before .pre .1 .1)
+shared-slice-copy-out-to c = omega (arith, c .loop-test .taken, c .before .before .area .ensures, c .before .before .before .pre .1 .0)
 
 slice-set-from-to : tie.Need-slice-set-from-to Inv-loop μ-loop
 slice-set-from-to c =
-    omega (arith, c .before .loop-test .taken, c .before .before .before .area .ensures, c .before .before .before .before .pre .1 .0, c .before .before .loop .inv .long)
+    omega (arith, c .before .loop-test .taken, c .before .before .before .area .ensures, c .before .before .before .before .pre .1 .1, c .before .before .loop .inv .long)
 
 loop-again : tie.Need-loop-again Inv-loop μ-loop
 loop-again c =
     copied-more (c .before .before .loop .inv)
-    (omega (arith, c .before .loop-test .taken, c .before .before .before .area .ensures, c .before .before .before .before .pre .1 .0)) (search needs)
+    (omega (arith, c .before .loop-test .taken, c .before .before .before .area .ensures, c .before .before .before .before .pre .1 .1)) (search needs)
 
 returns : tie.Need-returns Inv-loop μ-loop
 returns c = copied-to (c .before .loop .inv) _ (omega (arith, c .loop-test .left, c .before .before .area .ensures))

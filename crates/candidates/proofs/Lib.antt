@@ -1,3 +1,3 @@
-pub mod Columns
-pub mod Pruned
-pub mod Tries
+pub mod Lists
+pub mod Keeping
+pub mod NodeLoop

@@ -1,85 +1,23 @@
-// One candidate of a width's walk: a generator after a node. It is skipped, or appended as the next node, or the width is saturated
-// (SPECIFICATION 6.5 to 6.8). The order of the tests matters: a fingerprint is looked up before the count is held against the entry limit, so
-// that a full width is saturated only by a candidate that it lacks.
+// The candidates of one node: each generator after it, in order (SPECIFICATION 6.4 to 6.8). The node's matrix is formed once.
 ghost use mathlib.Core.Path.{_≡_};
 ghost use mathlib.Core.Bool.{true};
-ghost use Prim.Native.Nat.{_≤_, _<_};
+ghost use Prim.Native.Nat.{suc, _≤_, _<_};
 ghost use lib.ListN.{length};
 ghost use Rattle.circuit.specs.Codes.{valid};
+ghost use Rattle.generators.specs.Generators.{generators};
 ghost use Rattle.exact.specs.Places.{held};
 ghost use Rattle.places.specs.Places.{places};
 ghost use Rattle.matrix.specs.Step.{Ready};
-ghost use Rattle.candidates.specs.Arrays.{Room};
-ghost use Rattle.candidates.specs.Candidates.{prunedAt, Appended, CandidateTried};
-use circuit::LibraryGate;
+ghost use Rattle.next_node.specs.Arrays.{Room, Live};
+ghost use Rattle.candidates.specs.Tries.{CandidateTried, NodeTried};
 use cyclotomic::Coefficient;
+use matrix::UnitaryMatrix;
+use next_node::Tried;
 use node_matrix::Candidate;
-use synthesis_arena::Found;
 use synthesis_arena::WidthLimits;
 
-// How many nodes there are now, and whether one more was wanted than there may be.
-pub struct Tried {
-    pub count: usize,
-    pub saturated: bool,
-}
-
-// Whether the gate is skipped after the node by the node's own gate: it inverts that gate, or shares no qubit with it and has the lower code.
-fn is_pruned(node: usize, gate: u32, codes: &[u32]) -> bool
-    requires there { ⌜ node < length (now codes) ⌝ }
-    ensures pruned { λ r. ⌜ r ≡ prunedAt (now (codes .entry)) node gate ⌝ }
-{
-    if node == 0 {
-        return false;
-    }
-    let last = codes[node];
-    if LibraryGate(gate).is_inverse_of(LibraryGate(last)) {
-        return true;
-    }
-    if !LibraryGate(gate).is_disjoint(LibraryGate(last)) {
-        return false;
-    }
-    gate < last
-}
-
-// A candidate that fits, by its fingerprint: a known one is skipped, an unknown one is appended, or saturates a width that is full.
-fn append(
-    limits: WidthLimits,
-    count: usize,
-    node: usize,
-    gate: u32,
-    print: u64,
-    fingerprints: &mut [u64],
-    parents: &mut [u32],
-    codes: &mut [u32],
-) -> Tried
-    requires room { ⌜ Room limits count node (now fingerprints) (now parents) (now codes) ⌝ }
-    ensures appended { λ r. ⌜ Appended limits count node gate print
-        (now (fingerprints .entry)) (now (parents .entry)) (now (codes .entry))
-        (now (fingerprints .exit)) (now (parents .exit)) (now (codes .exit)) r ⌝ }
-{
-    let Found::NotFound = synthesis_arena::node_for(fingerprints, count, 0, print) else {
-        return Tried {
-            count,
-            saturated: false, // known, also at count E
-        };
-    };
-    if count == limits.entries {
-        return Tried {
-            count,
-            saturated: true,
-        };
-    }
-    fingerprints[count] = print;
-    parents[count] = node as u32;
-    codes[count] = gate;
-    Tried {
-        count: count + 1,
-        saturated: false,
-    }
-}
-
 // One candidate: a generator after a node, whose matrix is at hand.
-pub fn try_candidate(
+fn try_candidate(
     limits: WidthLimits,
     count: usize,
     node: usize,
@@ -101,7 +39,7 @@ pub fn try_candidate(
         (now (fingerprints .exit)) (now (parents .exit)) (now (codes .exit)) r ⌝ }
     ensures long { λ _. ⌜ length (now (scratch .exit)) ≡ places ⌝ }
 {
-    if is_pruned(node, gate, codes) {
+    if next_node::is_pruned(node, gate, codes) {
         return Tried {
             count,
             saturated: false,
@@ -119,7 +57,7 @@ pub fn try_candidate(
             saturated: false, // a candidate that does not fit
         };
     };
-    append(
+    next_node::append(
         limits,
         count,
         node,
@@ -129,4 +67,56 @@ pub fn try_candidate(
         parents,
         codes,
     )
+}
+
+// One node: each generator, in order.
+pub fn try_node(
+    limits: WidthLimits,
+    count: usize,
+    node: usize,
+    gates: &[u32],
+    fingerprints: &mut [u64],
+    parents: &mut [u32],
+    codes: &mut [u32],
+) -> Tried
+    requires bounds { ⌜ ((limits .width) ≤ 5) × (node < count) × ((limits .entries) ≤ 1000000) ⌝ }
+    requires generators { ⌜ now gates ≡ generators (limits .width) (limits .basis) ⌝ }
+    requires live { ⌜ Live limits (now fingerprints) (now parents) (now codes) count node (suc node) ⌝ }
+    ensures tried { λ r. ⌜ NodeTried limits count node
+        (now (fingerprints .entry)) (now (parents .entry)) (now (codes .entry))
+        (now (fingerprints .exit)) (now (parents .exit)) (now (codes .exit)) r ⌝ }
+{
+    let l = limits;
+    let one = UnitaryMatrix::identity(l.width as usize);
+    let mut data = one.data;
+    let k = node_matrix::form_node(l, node, parents, codes, &mut data);
+    let mut scratch = one.data;
+    let mut n = count;
+    let mut j = 0;
+    while j < gates.len() {
+        let t = try_candidate(
+            l,
+            n,
+            node,
+            gates[j],
+            k,
+            fingerprints,
+            parents,
+            codes,
+            &data,
+            &mut scratch,
+        );
+        n = t.count;
+        if t.saturated {
+            return Tried {
+                count: n,
+                saturated: true,
+            };
+        }
+        j += 1;
+    }
+    Tried {
+        count: n,
+        saturated: false,
+    }
 }

@@ -13,10 +13,10 @@ use Rattle.ints.specs.Lists.{pick}
 use Rattle.walk.specs.Walk.{Rules, Node, State, Build, root, listAt, layer, settled, deeper, ended, depths, begin}
 use Rattle.walk.proofs.Grown.{Grown, alone, ParentsTo}
 use Rattle.synthesis_arena.specs.declared.WidthLimits.{WidthLimits}
-use Rattle.candidates.specs.Arrays.{rules, unsaturated, Columns, Long, Live, After}
+use Rattle.next_node.specs.Arrays.{rules, unsaturated, Columns, Long, Live, After}
 use Rattle.width_table.specs.declared.WidthTable.{WidthTable}
 use Rattle.width_table.specs.Table.{Start, Whole}
-use Rattle.width_table.proofs.Keeping.{Kept, kept-layer}
+use Rattle.candidates.proofs.Keeping.{Kept, kept-layer}
 
 -- what a width has come to, by its three numbers
 abbrev pub row : ℕ → ℕ → Bool → WidthTable

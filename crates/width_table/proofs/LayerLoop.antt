@@ -11,8 +11,8 @@ use Rattle.generators.specs.Generators.{generators}
 use Rattle.walk.specs.Walk.{Rules, Node, State, tryAll, layer}
 use Rattle.walk.proofs.Candidates.{layer-saturated}
 use Rattle.synthesis_arena.specs.declared.WidthLimits.{WidthLimits}
-use Rattle.candidates.specs.Arrays.{rules, unsaturated, Columns, Long, Live, After}
-use Rattle.width_table.proofs.Keeping.{Kept, kept-node, unfilled}
+use Rattle.next_node.specs.Arrays.{rules, unsaturated, Columns, Long, Live, After}
+use Rattle.candidates.proofs.Keeping.{Kept, kept-node, unfilled}
 
 module _ (lim : WidthLimits) (hi d : ℕ) (f0 u0 c0 : List ℕ) (goal : State) where
   abbrev R : Rules

@@ -15,8 +15,8 @@ use Rattle.exact.proofs.Listed.{product-nil}
 use Rattle.walk.specs.Walk.{Rules, Build, root, gate, begin, depths, isNil, walk}
 use Rattle.walk.specs.AtWidth.{printOf, parentOf}
 use Rattle.synthesis_arena.specs.declared.WidthLimits.{WidthLimits}
-use Rattle.candidates.specs.Arrays.{rules, Column, Columns, Long}
-use Rattle.candidates.proofs.Columns.{column-root}
+use Rattle.next_node.specs.Arrays.{rules, Column, Columns, Long}
+use Rattle.next_node.proofs.Columns.{column-root}
 use Rattle.width_table.specs.declared.WidthTable.{WidthTable}
 use Rattle.width_table.specs.Table.{Start, Whole}
 use Rattle.width_table.proofs.DepthLoop.{row}

@@ -7,16 +7,9 @@ use Prim.Native.Nat.{ℕ, suc, _-_, _<_}
 use Rattle.generators.specs.Generators.{generators}
 use Rattle.walk.specs.Walk.{Build, root, tryAll, layer, begin, depths}
 use Rattle.synthesis_arena.specs.declared.WidthLimits.{WidthLimits}
-use Rattle.candidates.specs.Arrays.{rules, unsaturated, Columns, Long, Live, After}
-use Rattle.candidates.specs.declared.Tried.{Tried}
+use Rattle.next_node.specs.Arrays.{rules, unsaturated, Columns, Long, Live, After}
+use Rattle.next_node.specs.declared.Tried.{Tried}
 use Rattle.width_table.specs.declared.WidthTable.{WidthTable}
-
--- every generator was tried after the node, in order: from whatever nodes the arrays held, they hold those that the walk's `tryAll` leaves
-abbrev pub NodeTried : WidthLimits → ℕ → ℕ → List ℕ → List ℕ → List ℕ → List ℕ → List ℕ → List ℕ → Tried → Type 0
-NodeTried lim count node f u c f′ u′ c′ r =
-    (h : Live lim f u c count node (suc node))
-    → After lim (h .f0) (h .u0) (h .c0)
-    (tryAll (rules lim) (lim .entries) (unsaturated (h .ns)) node (generators (lim .width) (lim .basis))) f′ u′ c′ (r .count) (r .saturated)
 
 -- the nodes from first up to the count were tried, in order: from whatever nodes the arrays held, they hold those that the walk's `layer` leaves
 abbrev pub LayerTried : WidthLimits → ℕ → ℕ → List ℕ → List ℕ → List ℕ → List ℕ → List ℕ → List ℕ → Tried → Type 0

@@ -9,17 +9,15 @@
 // with the lower code first is kept. Each skipped list thus has the product of one that is not longer and nearer to being kept, and going on from
 // that list comes to an end at one that the walk tried. The model proves it (walk/proofs/Completeness); no table shows it, since a known
 // fingerprint is skipped in any case: the rules save work.
-//
-// A node keeps no matrix: it is formed anew, once for each node that is tried.
 ghost use mathlib.Core.Path.{_≡_};
-ghost use Prim.Native.Nat.{_≤_, _<_, suc};
+ghost use Prim.Native.Nat.{_≤_, _<_};
 ghost use Rattle.generators.specs.Generators.{generators};
 ghost use Rattle.walk.specs.AtWidth.{built};
-ghost use Rattle.candidates.specs.Arrays.{Long, Live};
-ghost use Rattle.width_table.specs.Table.{NodeTried, LayerTried, Start, Deepened, Whole};
-use candidates::Tried;
+ghost use Rattle.next_node.specs.Arrays.{Long, Live};
+ghost use Rattle.width_table.specs.Table.{LayerTried, Start, Deepened, Whole};
 use circuit::GateSet;
 use matrix::UnitaryMatrix;
+use next_node::Tried;
 use synthesis_arena::MARK;
 use synthesis_arena::WidthLimits;
 
@@ -28,58 +26,6 @@ pub struct WidthTable {
     pub count: usize,
     pub depth: usize,
     pub saturated: bool,
-}
-
-// One node: each generator, in order.
-fn try_node(
-    limits: WidthLimits,
-    count: usize,
-    node: usize,
-    gates: &[u32],
-    fingerprints: &mut [u64],
-    parents: &mut [u32],
-    codes: &mut [u32],
-) -> Tried
-    requires bounds { ⌜ ((limits .width) ≤ 5) × (node < count) × ((limits .entries) ≤ 1000000) ⌝ }
-    requires generators { ⌜ now gates ≡ generators (limits .width) (limits .basis) ⌝ }
-    requires live { ⌜ Live limits (now fingerprints) (now parents) (now codes) count node (suc node) ⌝ }
-    ensures tried { λ r. ⌜ NodeTried limits count node
-        (now (fingerprints .entry)) (now (parents .entry)) (now (codes .entry))
-        (now (fingerprints .exit)) (now (parents .exit)) (now (codes .exit)) r ⌝ }
-{
-    let l = limits;
-    let one = UnitaryMatrix::identity(l.width as usize);
-    let mut data = one.data;
-    let k = node_matrix::form_node(l, node, parents, codes, &mut data);
-    let mut scratch = one.data;
-    let mut n = count;
-    let mut j = 0;
-    while j < gates.len() {
-        let t = candidates::try_candidate(
-            l,
-            n,
-            node,
-            gates[j],
-            k,
-            fingerprints,
-            parents,
-            codes,
-            &data,
-            &mut scratch,
-        );
-        n = t.count;
-        if t.saturated {
-            return Tried {
-                count: n,
-                saturated: true,
-            };
-        }
-        j += 1;
-    }
-    Tried {
-        count: n,
-        saturated: false,
-    }
 }
 
 // One depth: each node of the last layer in order, from number `first` up to the count.
@@ -103,7 +49,7 @@ fn deepen(
     let mut n = count;
     let mut node = first;
     while node < count {
-        let t = try_node(l, n, node, gates, fingerprints, parents, codes);
+        let t = candidates::try_node(l, n, node, gates, fingerprints, parents, codes);
         n = t.count;
         if t.saturated {
             return Tried {

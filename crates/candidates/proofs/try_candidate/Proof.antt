@@ -3,7 +3,7 @@ use mathlib.Core.Path.{sym, ap, _∙_}
 use borrow.Author.Needs.{needs}
 use Rattle.node_matrix.specs.Matrices.{toldCandidate}
 use Rattle.node_matrix.proofs.Prints.{print-given, print-refused, fits-alike, prints-alike}
-use Rattle.candidates.proofs.Tries.{pruned-is, skip-pruned, skip-unfit, keep}
+use Rattle.next_node.proofs.Tries.{pruned-is, skip-pruned, skip-unfit, keep}
 use Rattle.candidates.proofs.try_candidate.Statement.{statement}
 use Rattle.candidates.proofs.try_candidate.Tie as tie
 

@@ -5,7 +5,7 @@ use Prim.Native.Nat.{_-_, _≤_}
 use native.Mathlib.Omega.{arith}
 use lib.ListN.{length}
 use Rattle.walk.specs.Walk.{layer}
-use Rattle.candidates.specs.Arrays.{rules, unsaturated, Live}
+use Rattle.next_node.specs.Arrays.{rules, unsaturated, Live}
 use Rattle.width_table.proofs.LayerLoop.{LayerRun, layer-run-start, layer-run-live, layer-run-lt, layer-run-next, layer-run-full, layer-run-end}
 use Rattle.width_table.proofs.deepen.Statement.{statement}
 use Rattle.width_table.proofs.deepen.Tie as tie

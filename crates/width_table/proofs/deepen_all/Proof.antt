@@ -5,7 +5,7 @@ use Prim.Native.Nat.{_-_, _≤_}
 use native.Mathlib.Omega.{arith}
 use lib.ListN.{length}
 use Rattle.walk.specs.Walk.{begin, depths}
-use Rattle.candidates.specs.Arrays.{rules}
+use Rattle.next_node.specs.Arrays.{rules}
 use Rattle.width_table.specs.Table.{Start}
 use Rattle.width_table.proofs.DepthLoop.{DepthRun, depth-run-start, depth-run-live, depth-run-next, depth-run-none, depth-run-full, depth-run-end}
 use Rattle.width_table.proofs.deepen_all.Statement.{statement}

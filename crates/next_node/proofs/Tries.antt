@@ -20,9 +20,9 @@ use Rattle.walk.proofs.Candidates.{filled, grownBy}
 use Rattle.walk.proofs.Exactly.{print-is}
 use Rattle.walk.proofs.Sequences.{bool, any-true, any-at, length-snoc}
 use Rattle.synthesis_arena.specs.declared.WidthLimits.{WidthLimits}
-use Rattle.candidates.specs.Arrays.{rules, unsaturated, Column, Long, Room, Live, After}
-use Rattle.candidates.specs.Candidates.{prunedAt}
-use Rattle.candidates.proofs.Columns.{column-at, column-length, column-snoc}
+use Rattle.next_node.specs.Arrays.{rules, unsaturated, Column, Long, Room, Live, After}
+use Rattle.next_node.specs.Append.{prunedAt}
+use Rattle.next_node.proofs.Columns.{column-at, column-length, column-snoc}
 
 module _ {lim : WidthLimits} {f u c : List ℕ} {count k top : ℕ} (h : Live lim f u c count k top) where
   pub live-count : count ≤ lim .entries

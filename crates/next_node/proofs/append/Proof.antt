@@ -2,9 +2,9 @@
 use native.Mathlib.Omega.{arith}
 use borrow.Author.Needs.{needs}
 use Rattle.synthesis_arena.proofs.Told.{found-lowest, found-nowhere}
-use Rattle.candidates.proofs.Tries.{skip-found, skip-not, keep, grow, fill}
-use Rattle.candidates.proofs.append.Statement.{statement}
-use Rattle.candidates.proofs.append.Tie as tie
+use Rattle.next_node.proofs.Tries.{skip-found, skip-not, keep, grow, fill}
+use Rattle.next_node.proofs.append.Statement.{statement}
+use Rattle.next_node.proofs.append.Tie as tie
 
 returns : tie.Need-returns
 returns c h e q y = keep h _ (skip-found h _ _ y e q _ (found-lowest _ _ _ _ (c .before .before .node-for .ensures) (c .enum-told2 .given .1)))

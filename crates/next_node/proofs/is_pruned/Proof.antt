@@ -2,9 +2,9 @@
 use mathlib.Core.Path.{sym, _∙_}
 use borrow.Author.Tests.{not-true, not-false}
 use borrow.Author.Needs.{needs}
-use Rattle.candidates.proofs.Pruned.{pruned-inverse, pruned-shares, pruned-lower}
-use Rattle.candidates.proofs.is_pruned.Statement.{statement}
-use Rattle.candidates.proofs.is_pruned.Tie as tie
+use Rattle.next_node.proofs.Pruned.{pruned-inverse, pruned-shares, pruned-lower}
+use Rattle.next_node.proofs.is_pruned.Statement.{statement}
+use Rattle.next_node.proofs.is_pruned.Tie as tie
 
 returns-2 : tie.Need-returns-2
 returns-2 c = pruned-inverse _ _ _ (c .before .before .before .if1 .left) (sym (c .before .is-inverse-of .ensures) ∙ c .if2 .taken)

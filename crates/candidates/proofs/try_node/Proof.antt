@@ -8,13 +8,13 @@ use borrow.Author.Needs.{needs}
 use Rattle.generators.specs.Generators.{generators}
 use Rattle.places.specs.Places.{places}
 use Rattle.walk.specs.Walk.{listAt, tryAll}
-use Rattle.candidates.specs.Arrays.{rules, unsaturated, Live}
-use Rattle.candidates.proofs.Tries.{live-room}
-use Rattle.width_table.proofs.Lists.{live-readable, formed-ready, formed-is}
-use Rattle.width_table.proofs.Keeping.{generator-valid}
-use Rattle.width_table.proofs.NodeLoop.{NodeRun, node-run-start, node-run-live, node-run-lt, node-run-next, node-run-full, node-run-end}
-use Rattle.width_table.proofs.try_node.Statement.{statement}
-use Rattle.width_table.proofs.try_node.Tie as tie
+use Rattle.next_node.specs.Arrays.{rules, unsaturated, Live}
+use Rattle.next_node.proofs.Tries.{live-room}
+use Rattle.candidates.proofs.Lists.{live-readable, formed-ready, formed-is}
+use Rattle.candidates.proofs.Keeping.{generator-valid}
+use Rattle.candidates.proofs.NodeLoop.{NodeRun, node-run-start, node-run-live, node-run-lt, node-run-next, node-run-full, node-run-end}
+use Rattle.candidates.proofs.try_node.Statement.{statement}
+use Rattle.candidates.proofs.try_node.Tie as tie
 
 abbrev Inv-loop : tie.InvT-loop
 Inv-loop count node gates fingerprints₀ parents₀ codes₀ l m k scratch₀ n₀ j₀ fingerprints parents codes scratch n j =

@@ -8,7 +8,7 @@ use lib.ListN.{length, getD, drop, set, length-append, length-drop, length-map, 
 use lib.Seq.{set-at, drop-cons}
 use Rattle.walk.specs.Walk.{Node, root}
 use Rattle.walk.proofs.Held.{map-at}
-use Rattle.candidates.specs.Arrays.{Column}
+use Rattle.next_node.specs.Arrays.{Column}
 
 map-snoc : (p : Node → ℕ) (ns : List Node) (m : Node) → map p (ns ++ (m ∷ [])) ≡ map p ns ++ (p m ∷ [])
 map-snoc p [] m = refl

@@ -15,7 +15,7 @@ use Rattle.walk.specs.Walk.{Rules, Node, State, root, listAt, child, try, tryAl
 use Rattle.walk.proofs.Grown.{Grown, more, ParentsTo}
 use Rattle.walk.proofs.Sequences.{length-snoc, all-snoc, prefix-snoc, prefix-at}
 use Rattle.walk.proofs.Candidates.{try-cases, layer-keeps}
-use Rattle.candidates.specs.Arrays.{unsaturated}
+use Rattle.next_node.specs.Arrays.{unsaturated}
 
 pub mem-at : (gs : List ℕ) (j : ℕ) → j < length gs → List·Memᴰ (getD gs j 0) gs
 mem-at [] j h = absurd (not-suc-le-zero h)

@@ -13,8 +13,8 @@ use Rattle.walk.specs.Walk.{Rules, Node, State, root, listAt, try, tryAll}
 use Rattle.walk.proofs.Sequences.{prefix-at}
 use Rattle.walk.proofs.Candidates.{try-later, tryAll-saturated}
 use Rattle.synthesis_arena.specs.declared.WidthLimits.{WidthLimits}
-use Rattle.candidates.specs.Arrays.{rules, unsaturated, Columns, Long, Live, After}
-use Rattle.width_table.proofs.Keeping.{mem-at, Kept, kept-try, unfilled}
+use Rattle.next_node.specs.Arrays.{rules, unsaturated, Columns, Long, Live, After}
+use Rattle.candidates.proofs.Keeping.{mem-at, Kept, kept-try, unfilled}
 
 module _ (lim : WidthLimits) (k d : ℕ) (f0 u0 c0 own : List ℕ) (goal : State) where
   abbrev R : Rules

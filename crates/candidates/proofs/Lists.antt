@@ -29,8 +29,8 @@ use Rattle.walk.proofs.Held.{HoldsChains, chain-is}
 use Rattle.walk.proofs.Rechecks.{recheck-exactly}
 use Rattle.synthesis_arena.specs.declared.WidthLimits.{WidthLimits}
 use Rattle.node_matrix.specs.Matrices.{Readable}
-use Rattle.candidates.specs.Arrays.{rules, Live}
-use Rattle.candidates.proofs.Tries.{live-count, live-long, gate-at, parent-at}
+use Rattle.next_node.specs.Arrays.{rules, Live}
+use Rattle.next_node.proofs.Tries.{live-count, live-long, gate-at, parent-at}
 
 module _ (n basis : ℕ) (small : n ≤ 5) where
   -- every step of a list that the walk has fits

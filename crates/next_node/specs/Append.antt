@@ -1,4 +1,4 @@
--- What one candidate leaves: the contracts of `is_pruned`, `append` and `try_candidate`. Assumes nothing.
+-- What becomes of one candidate: the contracts of `is_pruned` and `append`. Assumes nothing.
 use mathlib.Core.Path.{_≡_}
 use mathlib.Core.Bool.{Bool, true, false, _||_, _&&_}
 use mathlib.Core.List.{List}
@@ -6,14 +6,12 @@ use Prim.Native.Nat.{ℕ, zero, suc}
 use lib.Dec.{ltb}
 use lib.ListN.{getD}
 use Rattle.circuit.specs.Pairs.{inverse, disjoint}
-use Rattle.exact.specs.Matrix.{Exact}
-use Rattle.exact.proofs.Words.{Equal}
 use Rattle.exact.specs.Fingerprint.{fingerprint}
 use Rattle.walk.specs.Walk.{listAt, prod, pruned, candidate, try}
 use Rattle.walk.specs.AtWidth.{fitsBy}
 use Rattle.synthesis_arena.specs.declared.WidthLimits.{WidthLimits}
-use Rattle.candidates.specs.Arrays.{rules, unsaturated, Live, After}
-use Rattle.candidates.specs.declared.Tried.{Tried}
+use Rattle.next_node.specs.Arrays.{rules, unsaturated, Live, After}
+use Rattle.next_node.specs.declared.Tried.{Tried}
 
 -- the two skip rules (SPECIFICATION 6.5) by the code that the array has for the node; node 0 has no gate
 abbrev pub prunedAt : List ℕ → ℕ → ℕ → Bool
@@ -30,12 +28,4 @@ Appended lim count node g y f u c f′ u′ c′ r =
     → pruned (rules lim) g (listAt (h .ns) node) ≡ false
     → fitsBy (lim .width) g (prod (rules lim) (listAt (h .ns) node)) ≡ true
     → y ≡ fingerprint (lim .width) (candidate (rules lim) (h .ns) node g)
-    → After lim (h .f0) (h .u0) (h .c0) (try (rules lim) (lim .entries) (unsaturated (h .ns)) node g) f′ u′ c′ (r .count) (r .saturated)
-
--- x is the node's matrix. Then from whatever nodes the arrays held, they hold those that the walk's `try` leaves after the gate g (SPECIFICATION
--- 6.5 to 6.8), and the answer is their count and whether the width is saturated
-abbrev pub CandidateTried : WidthLimits → ℕ → ℕ → ℕ → Exact → List ℕ → List ℕ → List ℕ → List ℕ → List ℕ → List ℕ → Tried → Type 0
-CandidateTried lim count node g x f u c f′ u′ c′ r =
-    (h : Live lim f u c count node (suc node))
-    → Equal (lim .width) x (prod (rules lim) (listAt (h .ns) node))
     → After lim (h .f0) (h .u0) (h .c0) (try (rules lim) (lim .entries) (unsaturated (h .ns)) node g) f′ u′ c′ (r .count) (r .saturated)

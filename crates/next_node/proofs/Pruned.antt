@@ -6,7 +6,7 @@ use Prim.Native.Nat.{ℕ, zero, suc}
 use lib.Dec.{ltb}
 use lib.ListN.{getD}
 use Rattle.circuit.specs.Pairs.{inverse, disjoint}
-use Rattle.candidates.specs.Candidates.{prunedAt}
+use Rattle.next_node.specs.Append.{prunedAt}
 
 module _ (codes : List ℕ) (node g : ℕ) (p : node ≡ 0 → ⊥) where
   abbrev last : ℕ

@@ -49,13 +49,14 @@ pub fn append(
         (now (fingerprints .entry)) (now (parents .entry)) (now (codes .entry))
         (now (fingerprints .exit)) (now (parents .exit)) (now (codes .exit)) r ⌝ }
 {
+    let entries = limits.entries;
     let Found::NotFound = synthesis_arena::node_for(fingerprints, count, 0, print) else {
         return Tried {
             count,
             saturated: false, // known, also at count E
         };
     };
-    if count == limits.entries {
+    if count == entries {
         return Tried {
             count,
             saturated: true,

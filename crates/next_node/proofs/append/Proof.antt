@@ -11,12 +11,12 @@ returns c h e q y = keep h _ (skip-found h _ _ y e q _ (found-lowest _ _ _ _ (c 
 
 returns-2 : tie.Need-returns-2
 returns-2 c h e q y =
-    fill h _ (skip-not h _ _ y e q (found-nowhere _ _ _ _ (c .before .before .before .before .node-for .ensures) (c .before .before .enum-told .given .1))) (omega (arith, c .if1 .taken))
+    fill h _ (skip-not h _ _ y e q (found-nowhere _ _ _ _ (c .before .before .before .node-for .ensures) (c .before .enum-told .given .1))) (omega (arith, c .if1 .taken))
 
 returns-3 : tie.Need-returns-3
 returns-3 c h e q y =
-    let room = c .before .before .before .before .before .before .before .before .before .pre in
-    grow h _ _ y (skip-not h _ _ y e q (found-nowhere _ _ _ _ (c .before .before .before .before .node-for .ensures) (c .before .before .enum-told .given .1))) (omega (arith, room .few, c .if1 .left))
+    let room = c .before .before .before .before .before .before .before .before .pre in
+    grow h _ _ y (skip-not h _ _ y e q (found-nowhere _ _ _ _ (c .before .before .before .node-for .ensures) (c .before .enum-told .given .1))) (omega (arith, room .few, c .if1 .left))
 
 pub append-spec : {M : Type 1} → statement M
 append-spec =

@@ -7,7 +7,7 @@ use denote.Ref.{now}
 use Rattle.generators.specs.Generators.{generators}
 use Rattle.exact.proofs.Prints.{fingerprint-equal}
 use Rattle.places.proofs.Placed.{area-le}
-use Rattle.width_table.proofs.Loops.{root-start, none-whole, some-whole, gates-room, gates-are}
+use Rattle.width_table.proofs.Root.{root-start, none-whole, some-whole, gates-room, gates-are}
 use Rattle.width_table.proofs.build_width.Statement.{statement}
 use Rattle.width_table.proofs.build_width.Tie as tie
 
@@ -23,7 +23,7 @@ returns c =
     let p = s .pre in
     let f = c .before in
     let i = c .before .before .before .before in
-    none-whole (s .args .limits .width) (s .args .limits .basis) (s .args .limits .entries) (s .args .limits .gates) (now (s .args .fingerprints)) (now (s .args .parents)) (now (s .args .codes)) (p .0 .2) (p .1 .0) (p .1 .1) (p .1 .2) (f .unitary-fingerprint .result) (f .unitary-fingerprint .ensures ∙ fingerprint-equal (s .args .limits .width) (i .identity .ensures .0 .holds .equal)) (sym (c .before .before .before .before .before .before .library-gates .ensures .0) ∙ c .if1 .taken)
+    none-whole (s .args .limits) (now (s .args .fingerprints)) (now (s .args .parents)) (now (s .args .codes)) (p .0 .2) (p .1) (f .unitary-fingerprint .result) (f .unitary-fingerprint .ensures ∙ fingerprint-equal (s .args .limits .width) (i .identity .ensures .0 .holds .equal)) (sym (c .before .before .before .before .before .before .library-gates .ensures .0) ∙ c .if1 .taken)
 
 part-deepen-all-end : tie.Need-part-deepen-all-end
 part-deepen-all-end c =
@@ -38,7 +38,7 @@ deepen-all-requires c κs =
     let f = c .before .before .before .before .before .before in
     let i = c .before .before .before .before .before .before .before .before .before in
     let g = c .before .before .before .before .before .before .before .before .before .before .before .library-gates .ensures in
-    ((p .0 .0, p .0 .1, p .0 .3), (gates-are _ _ (g .1 .0) (g .1 .1 .1) (g .0), root-start (s .args .limits .width) (s .args .limits .basis) (s .args .limits .entries) (s .args .limits .gates) (now (s .args .fingerprints)) (now (s .args .parents)) (now (s .args .codes)) (p .0 .2) (p .1 .0) (p .1 .1) (p .1 .2) (f .unitary-fingerprint .result) (f .unitary-fingerprint .ensures ∙ fingerprint-equal (s .args .limits .width) (i .identity .ensures .0 .holds .equal))))
+    ((p .0 .0, p .0 .1, p .0 .3), (gates-are _ _ (g .1 .0) (g .1 .1 .1) (g .0), root-start (s .args .limits) (now (s .args .fingerprints)) (now (s .args .parents)) (now (s .args .codes)) (p .0 .2) (p .1) (f .unitary-fingerprint .result) (f .unitary-fingerprint .ensures ∙ fingerprint-equal (s .args .limits .width) (i .identity .ensures .0 .holds .equal))))
 
 same-length-4 : tie.Need-same-length-4
 same-length-4 c = c .before .before .before .before .before .before .deepen-all .kept .1 .1 .0 ∙ simp length-set
@@ -56,8 +56,8 @@ returns-2 c =
     let f = c .before .before .before .before .before .before .before .before .before .before .before .before .before in
     let i = c .before .before .before .before .before .before .before .before .before .before .before .before .before .before .before .before in
     let g = c .before .before .before .before .before .before .before .before .before .before .before .before .before .before .before .before .before .before .library-gates .ensures in
-    some-whole (s .args .limits .width) (s .args .limits .basis) (s .args .limits .entries) (s .args .limits .gates) (now (s .args .fingerprints)) (now (s .args .parents)) (now (s .args .codes)) (p .0 .2) (p .1 .0) (p .1 .1) (p .1 .2) (f .unitary-fingerprint .result) (f .unitary-fingerprint .ensures ∙ fingerprint-equal (s .args .limits .width) (i .identity .ensures .0 .holds .equal)) (λ z. c .before .before .before .before .before .before .before .before .before .before .before .before .if1 .left (g .0 ∙ z)) refl
-    (c .before .before .before .before .before .before .deepen-all .ensures (root-start (s .args .limits .width) (s .args .limits .basis) (s .args .limits .entries) (s .args .limits .gates) (now (s .args .fingerprints)) (now (s .args .parents)) (now (s .args .codes)) (p .0 .2) (p .1 .0) (p .1 .1) (p .1 .2) (f .unitary-fingerprint .result) (f .unitary-fingerprint .ensures ∙ fingerprint-equal (s .args .limits .width) (i .identity .ensures .0 .holds .equal))))
+    some-whole (s .args .limits) (now (s .args .fingerprints)) (now (s .args .parents)) (now (s .args .codes)) (p .0 .2) (p .1) (f .unitary-fingerprint .result) (f .unitary-fingerprint .ensures ∙ fingerprint-equal (s .args .limits .width) (i .identity .ensures .0 .holds .equal)) (λ z. c .before .before .before .before .before .before .before .before .before .before .before .before .if1 .left (g .0 ∙ z))
+    (c .before .before .before .before .before .before .deepen-all .ensures (root-start (s .args .limits) (now (s .args .fingerprints)) (now (s .args .parents)) (now (s .args .codes)) (p .0 .2) (p .1) (f .unitary-fingerprint .result) (f .unitary-fingerprint .ensures ∙ fingerprint-equal (s .args .limits .width) (i .identity .ensures .0 .holds .equal))))
 
 pub build-width-spec : {M : Type 1} → statement M
 build-width-spec =

@@ -4,8 +4,8 @@ use native.Mathlib.Omega.{arith}
 use borrow.Author.Tests.{lt-leb, le-leb, eq-eqb, ne-eqb}
 use lib.ListN.{length, getD}
 use borrow.Author.Needs.{needs}
-use Rattle.circuits_lines.proofs.is_query.Statement.{statement}
-use Rattle.circuits_lines.proofs.is_query.Tie as tie
+use Rattle.circuits_input.proofs.is_query.Statement.{statement}
+use Rattle.circuits_input.proofs.is_query.Tie as tie
 
 returns : tie.Need-returns
 returns c = rw (lt-leb 2 (length (c .before .args .numbers .now)) (c .if1 .taken))

@@ -1,5 +1,5 @@
--- The program takes exactly the inputs that document 01 allows: its lines are the input's, its line one is asked for its four numbers, and
--- its queries are the lines of a width, a count up to 256 and that many codes. Assumes nothing.
+-- The program takes exactly the inputs that are allowed: its lines are the input's, its line one is asked for its four numbers, and its queries
+-- are the lines of a width, a count up to 256 and that many codes. Assumes nothing.
 use mathlib.Core.Bool.{Bool, true, false}
 use mathlib.Core.List.{List, [], _∷_, _++_}
 use mathlib.Core.Path.{_≡_, refl, sym, ap, _∙_, subst}
@@ -10,15 +10,14 @@ use lib.Dec.{eqb, leb, ltb}
 use lib.ListN.{length, getD, drop}
 use Rattle.ints.specs.Lists.{pick, elem}
 use Rattle.ints.proofs.Bools.{clash, both-true, neither}
-use Rattle.tables.specs.Checks.{limitsOf, Arrays}
-use Rattle.tables.specs.Tables.{Table}
+use Rattle.tables.specs.Checks.{Limits, limitsOf}
 use Rattle.circuits_text.specs.Reading.{newline, words, allNumbers, numbers}
 use Rattle.circuits_text.specs.Allowed.{AllowedLine}
 use Rattle.circuits_text.proofs.Accepts.{accepts, accepted, line-unbroken}
-use Rattle.circuits_lines.specs.Program.{InputLine, ended, cut, longerLine, linesOf, readLine, brokenText, listText, isQuery, queryText}
-use Rattle.circuits_output.specs.Output.{Input, tooLong, broken, asks, firstLimits, linesInput, inputOf}
-use Rattle.circuits_output.specs.Allowed.{Lines, noLine, unended, newlined, FirstLine, Comes, long, asked, stopped, QueryLine}
-use Rattle.circuits_output.proofs.Inputs.{input-long}
+use Rattle.circuits_input.specs.Input.{Read, gives, refused, broken, InputLine, ended, cut, longerLine, linesOf, limitsIn, lineOne, withLater}
+use Rattle.circuits_input.specs.Input.{Wanted, wanted, linesInput, inputOf, askedList, isQuery, questionOf}
+use Rattle.circuits_input.specs.Allowed.{Lines, noLine, unended, newlined, FirstLine, Comes, long, asked, stopped, QueryLine}
+use Rattle.circuits_input.proofs.Inputs.{input-long}
 
 -- ---- the lines of an input
 
@@ -77,8 +76,8 @@ lines-unique (newlined {l} {bytes} u r) = ap (λ (ls : List InputLine). ended l 
 -- four numbers on line one are asked for
 first-asks :
     {q g e b : ℕ} {rest input : List ℕ} → length input ≤ 16384 → FirstLine q g e b rest input →
-    inputOf input ≡ asks (limitsOf q g e b) (linesOf rest)
-unfolding inputOf
+    inputOf input ≡ gives (wanted (limitsOf q g e b) (linesOf rest))
+unfolding inputOf lineOne
 first-asks {q} {g} {e} {b} {rest} {input} h f =
     let a = accepted (f .says) in
     let ls = ap linesOf (f .place) ∙ lines-first (f .line) rest (line-unbroken (f .says)) in
@@ -98,12 +97,13 @@ asks-nothing h e = stopped h (λ q g n b rest f. let z : _≡_ {A = ℕ} 0 1 = c
 
 -- by its lines
 lines-come : {input : List ℕ} {ls : List InputLine} → length input ≤ 16384 → Lines input ls → inputOf input ≡ linesInput ls → Comes input (linesInput ls)
+unfolding lineOne
 lines-come h noLine e = asks-nothing h e
 lines-come h (unended n u) e = asks-nothing h e
 lines-come h (newlined {l} {bytes} {ls} u r) e = by (allNumbers (words l)) (eqb (length (numbers (words l))) 4) refl refl e
   where
-    comes : Bool → Bool → Input
-    comes s t = pick s (pick t (asks (firstLimits (numbers (words l))) ls) broken) broken
+    comes : Bool → Bool → Read Wanted
+    comes s t = withLater ls (pick s (pick t (gives (limitsIn (numbers (words l)))) broken) broken)
 
     by :
         (s t : Bool) → allNumbers (words l) ≡ s → eqb (length (numbers (words l))) 4 ≡ t → inputOf (l ++ (10 ∷ bytes)) ≡ comes s t →
@@ -119,17 +119,17 @@ pub input-comes : (input : List ℕ) → Comes input (inputOf input)
 unfolding inputOf
 input-comes input = by (ltb 16384 (length input)) refl
   where
-    by : (t : Bool) → ltb 16384 (length input) ≡ t → Comes input (pick t tooLong (linesInput (linesOf input)))
+    by : (t : Bool) → ltb 16384 (length input) ≡ t → Comes input (pick t (refused 15 0) (linesInput (linesOf input)))
     by true e = long (ltb-true 16384 (length input) e)
     by false e = lines-come (ltb-false 16384 (length input) e) (lines-are input) (rw e)
 
 -- and to nothing else
-pub comes-unique : {input : List ℕ} {x : Input} → Comes input x → x ≡ inputOf input
+pub comes-unique : {input : List ℕ} {x : Read Wanted} → Comes input x → x ≡ inputOf input
 comes-unique {input} (long h) = input-long input h
-comes-unique (asked {q} {g} {e} {b} h f r) = ap (asks (limitsOf q g e b)) (lines-unique r) ∙ sym (first-asks h f)
+comes-unique (asked {q} {g} {e} {b} h f r) = ap (λ (ls : List InputLine). gives (wanted (limitsOf q g e b) ls)) (lines-unique r) ∙ sym (first-asks h f)
 comes-unique {input} (stopped h f) = by (input-comes input)
   where
-    by : {x : Input} → Comes input x → broken ≡ x
+    by : {x : Read Wanted} → Comes input x → broken ≡ x
     by (long g) = absurd (omega arith)
     by (asked g d r) = absurd (f _ _ _ _ _ d)
     by (stopped g d) = refl
@@ -167,28 +167,26 @@ query-accepted {width} {codes} {l} q =
     let a = accepted (q .says) in
     (a .0, ap isQuery (a .1) ∙ shape-query width codes (q .few), a .1)
 
-module _ (t : Table) (m : Arrays) where
-  -- it prints what the table answers to its codes
-  pub query-prints :
-      {width : ℕ} {codes l : List ℕ} → QueryLine width codes l → readLine brokenText (ended l) (queryText t m) ≡ listText t m width codes
-  unfolding queryText
-  query-prints {width} {codes} {l} q =
-      let a = query-accepted q in
-      rw (a .0, a .2, shape-query width codes (q .few))
+-- it asks its codes at its width
+pub query-asks : {width : ℕ} {codes l : List ℕ} → QueryLine width codes l → questionOf (ended l) ≡ gives (askedList width codes)
+unfolding questionOf
+query-asks {width} {codes} {l} q =
+    let a = query-accepted q in
+    rw (a .0, a .2, shape-query width codes (q .few))
 
-  -- "A line that breaks this prints `refused 14 0`"
-  pub other-prints :
-      (l : List ℕ) → ((width : ℕ) (codes : List ℕ) → QueryLine width codes l → ⊥) → readLine brokenText (ended l) (queryText t m) ≡ brokenText
-  unfolding queryText
-  other-prints l h = by (allNumbers (words l)) (isQuery (numbers (words l))) refl refl
-    where
-      by :
-          (s b : Bool) → allNumbers (words l) ≡ s → isQuery (numbers (words l)) ≡ b →
-          pick s (pick b (listText t m (getD (numbers (words l)) 0 0) (drop 2 (numbers (words l)))) brokenText) brokenText ≡ brokenText
-      by true true a g = absurd (h _ _ (query-accepts l a g))
-      by true false a g = refl
-      by false b a g = refl
+-- any other line is broken
+pub other-broken : (l : List ℕ) → ((width : ℕ) (codes : List ℕ) → QueryLine width codes l → ⊥) → questionOf (ended l) ≡ broken
+unfolding questionOf
+other-broken l h = by (allNumbers (words l)) (isQuery (numbers (words l))) refl refl
+  where
+    by :
+        (s b : Bool) → allNumbers (words l) ≡ s → isQuery (numbers (words l)) ≡ b →
+        pick s (pick b (gives (askedList (getD (numbers (words l)) 0 0) (drop 2 (numbers (words l))))) broken) broken ≡ broken
+    by true true a g = absurd (h _ _ (query-accepts l a g))
+    by true false a g = refl
+    by false b a g = refl
 
-  -- a line that is not ended breaks it too
-  pub cut-prints : (l : List ℕ) → readLine brokenText (cut l) (queryText t m) ≡ brokenText
-  cut-prints l = refl
+-- and so is a line that is not ended
+pub cut-broken : (l : List ℕ) → questionOf (cut l) ≡ broken
+unfolding questionOf
+cut-broken l = refl

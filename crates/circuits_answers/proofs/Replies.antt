@@ -1,37 +1,55 @@
--- A text by what an entry answered: the answer's case decides it. Assumes nothing.
-use mathlib.Core.List.{List}
-use mathlib.Core.Path.{_≡_, sym, ap, _∙_}
-use Prim.Native.Nat.{ℕ}
-use lib.IntN.{ℤ}
+-- Laws of the coefficients lent for a list's matrix, and of an answer by its cases. Assumes nothing.
+use mathlib.Core.List.{List, _∷_}
+use mathlib.Core.Path.{_≡_, refl, sym, ap, _∙_}
+use Prim.Native.Nat.{ℕ, zero, suc, _≤_}
+use native.Mathlib.Omega.{arith}
+use lib.IntN.{ℤ, pos}
+use lib.ListN.{length, take, replicate, length-replicate}
+use lib.Seq.{length-take-le}
 use Rattle.tables.specs.Checks.{Arrays}
-use Rattle.tables.specs.Tables.{Table, query, synthesized}
-use Rattle.width_answer.specs.Answers as a
+use Rattle.tables.specs.Tables.{Table}
 use Rattle.murm.specs.declared.Listed.{Listed}
-use Rattle.murm.specs.declared.Synthesized.{Synthesized}
-use Rattle.murm.specs.Entries.{Outcome, outcome, toldListed, toldSynthesized}
-use Rattle.circuits_text.specs.Writing.{Put}
-use Rattle.circuits_text.proofs.Placing.{put-as}
-use Rattle.circuits_lines.specs.Program.{replyText, answerText, lentList, matrixText, listedText, outcomeText}
+use Rattle.murm.specs.Entries.{Outcome, outcome, toldListed, listed}
+use Rattle.circuits_input.specs.declared.Question.{Question}
+use Rattle.circuits_input.specs.Input.{InputLine, questionOf}
+use Rattle.circuits_input.specs.Told.{toldQuestion}
+use Rattle.circuits_answers.specs.Replies.{lentCount, lentCoefficients, lentMost, formedReply, listReply, askedReply, lineReply}
 
--- what a table answered is the case s
-pub reply-as :
-    (list : List ℕ) {at p : ℕ} {xs ys : List ℕ} {r s : Synthesized} →
-    r ≡ s → Put at (replyText (toldSynthesized s) list) p xs ys → Put at (replyText (toldSynthesized r) list) p xs ys
-reply-as list e d = put-as (ap (λ (x : Synthesized). replyText (toldSynthesized x) list) (sym e)) d
+-- ---- the coefficients lent
 
--- the answer to a matrix, with a list lent as it was made
-pub matrix-as :
-    (t : Table) (m : Arrays) (width exponent : ℕ) (bytes : List ℤ) (r : Synthesized) (old after : List ℕ) {at p : ℕ} {xs ys : List ℕ} →
-    old ≡ lentList → a.outcome (toldSynthesized r) after ≡ synthesized t m (query width exponent bytes) old →
-    Put at (replyText (toldSynthesized r) after) p xs ys → Put at (matrixText t m width exponent bytes) p xs ys
-unfolding matrixText
-matrix-as t m width exponent bytes r old after e h d =
-    put-as (ap answerText h ∙ ap (λ (l : List ℕ). answerText (synthesized t m (query width exponent bytes) l)) e) d
+take-replicate : (n k : ℕ) (x : ℤ) → n ≤ k → take n (replicate k x) ≡ replicate n x
+take-replicate zero k x h = refl
+take-replicate (suc n) zero x h = absurd (omega arith)
+take-replicate (suc n) (suc k) x h = ap (λ (l : List ℤ). x ∷ l) (take-replicate n k x (omega arith))
 
--- the answer to a list is the case s
-pub listed-as :
-    (t : Table) (m : Arrays) (width : ℕ) (after : List ℤ) {at p : ℕ} {xs ys : List ℕ} {o : Outcome} {r s : Listed} →
-    r ≡ s → outcome (toldListed r) after ≡ o →
-    Put at (listedText t m width (toldListed s) after) p xs ys → Put at (outcomeText t m width o) p xs ys
-listed-as t m width after e h d =
-    put-as (ap (λ (x : Listed). listedText t m width (toldListed x) after) (sym e) ∙ ap (outcomeText t m width) h) d
+module _ {n : ℕ} {space : List ℤ} (few : n ≤ 4096) (all : space ≡ lentMost) where
+  -- a part of the coefficients of the largest matrix
+  pub lent-part : (width : ℕ) → n ≡ lentCount width → take n space ≡ lentCoefficients width
+  unfolding lentCoefficients lentMost
+  lent-part width e = ap (take n) all ∙ (take-replicate n 4096 (pos 0) few ∙ ap (λ (k : ℕ). replicate k (pos 0)) e)
+
+  pub lent-length : n ≡ length (take n space)
+  unfolding lentMost
+  lent-length =
+      let l : length space ≡ 4096 = ap length all ∙ length-replicate {0} {A = ℤ} 4096 (pos 0) in
+      sym (length-take-le n space (omega arith))
+
+-- ---- by the case of the answer
+
+module _ (t : Table) (m : Arrays) (out : List ℕ) where
+  -- the answer to a list is the case s
+  pub list-reply :
+      (width : ℕ) (codes : List ℕ) {r s : Listed} {lent coefficients : List ℤ} → r ≡ s → lent ≡ lentCoefficients width →
+      outcome (toldListed r) coefficients ≡ listed width codes lent →
+      formedReply t m width out (toldListed s) coefficients ≡ listReply t m width codes out
+  unfolding listReply
+  list-reply width codes {r} {s} {lent} {coefficients} e l h =
+      ap (λ (x : Listed). formedReply t m width out (toldListed x) coefficients) (sym e)
+      ∙ ap (λ (o : Outcome). formedReply t m width out (o .answer) (o .bytes)) (h ∙ ap (listed width codes) l)
+
+  -- what a line asks is the case s
+  pub line-reply :
+      (line : InputLine) (numbers : List ℕ) {r s : Question} → r ≡ s → toldQuestion numbers r ≡ questionOf line →
+      askedReply t m out (toldQuestion numbers s) ≡ lineReply t m line out
+  unfolding lineReply
+  line-reply line numbers e h = ap (λ (x : Question). askedReply t m out (toldQuestion numbers x)) (sym e) ∙ ap (askedReply t m out) h

@@ -3,17 +3,20 @@ use mathlib.Core.Bool.{false}
 use mathlib.Core.List.{List, [], _∷_, _++_}
 use mathlib.Core.Path.{_≡_, refl, sym, ap, _∙_}
 use Prim.Native.Nat.{ℕ, zero, suc, _+_, _-_, _*_, _≤_, _<_}
-use native.Mathlib.Nat.{suc-mul}
+use native.Mathlib.Nat.{suc-mul, mul-le-mul}
+use native.Mathlib.Numerals.{add-one}
 use native.Mathlib.Omega.{arith}
 use borrow.Author.Tests.{le-ltb}
-use lib.ListN.{length, take, drop}
+use lib.ListN.{length, getD, take, drop}
+use lib.Seq.{getD-take}
 use Rattle.ints.specs.Lists.{range, each}
 use Rattle.ints.proofs.Runs.{range-snoc, each-append}
 use Rattle.tables.specs.Checks.{arrays, placesOf}
-use Rattle.tables.specs.Tables.{Width, Table, widthAt, partOf, recordRow}
+use Rattle.tables.specs.Tables.{Width, Table, widthAt, recordRow}
 use Rattle.murm.proofs.Parts.{Part, part}
-use Rattle.circuits_lines.specs.Program.{rowText, widthText, widthTexts}
+use Rattle.circuits_lines.specs.Lines.{tableLine, nodeLine, nodeLines}
 use Rattle.circuits_lines.proofs.Each.{each-one}
+use Rattle.circuits_output.specs.Texts.{rowText, widthText, widthTexts}
 
 -- where a width's part lies
 pub lies :
@@ -24,43 +27,58 @@ lies t parents codes w r hu hc p q =
     part t (arrays parents parents codes) w r
     (rw (le-ltb (length parents) (placesOf (t .limits)) hu, le-ltb (length codes) (placesOf (t .limits)) hc)) p q
 
-pub row-part :
-    (w : ℕ) (row : Width) (start e : ℕ) (parents codes : List ℕ) →
-    rowText w row (take (start + e - start) (drop start parents)) (take (start + e - start) (drop start codes))
-    ≡ rowText w row (take e (drop start parents)) (take e (drop start codes))
-row-part w row start e parents codes =
-    let h : start + e - start ≡ e = omega arith in
-    ap (λ (k : ℕ). rowText w row (take k (drop start parents)) (take k (drop start codes))) h
+-- ---- a width
 
--- the row is the record's
+-- two runs of texts are the same where each text is
+pub each-same : (i count : ℕ) (f g : ℕ → List ℕ) → ((j : ℕ) → i ≤ j → j < i + count → f j ≡ g j) → each (range i count) f ≡ each (range i count) g
+unfolding each range
+each-same i zero f g h = refl
+each-same i (suc count) f g h =
+    ap (λ (l : List ℕ). l ++ each (range (suc i) count) f) (h i (omega arith) (omega arith))
+    ∙ ap (λ (l : List ℕ). g i ++ l) (each-same (suc i) count f g (λ j p q. h j (omega arith) (omega arith)))
+
+-- the nodes that are counted stand within the first e places
+nodes-part : (e count : ℕ) (parents codes : List ℕ) → count ≤ e → nodeLines parents codes count ≡ nodeLines (take e parents) (take e codes) count
+unfolding nodeLines
+nodes-part e count parents codes h =
+    each-same 0 count _ _
+    (λ j _ l. let u : getD parents j 0 ≡ getD (take e parents) j 0 = sym (getD-take e parents j 0 (omega arith)) in
+    let v : getD codes j 0 ≡ getD (take e codes) j 0 = sym (getD-take e codes j 0 (omega arith)) in
+    ap (λ (x : ℕ). nodeLine j x (getD codes j 0)) u ∙ ap (λ (x : ℕ). nodeLine j (getD (take e parents) j 0) x) v)
+
+-- the row is the record's, and the nodes are those of the width's part
 pub width-as :
-    (t : Table) (parents codes : List ℕ) (w : ℕ) {row : Width} → row ≡ widthAt t w →
-    rowText w row (partOf w (t .limits .entries) parents) (partOf w (t .limits .entries) codes) ≡ widthText t parents codes w
-unfolding widthText
-width-as t parents codes w h =
-    ap (λ (row : Width). rowText w row (partOf w (t .limits .entries) parents) (partOf w (t .limits .entries) codes)) h
+    (t : Table) (parents codes : List ℕ) (w : ℕ) {row : Width} → row ≡ widthAt t w → widthAt t w .count ≤ t .limits .entries →
+    tableLine w (row .count) (row .depth) (row .saturated)
+    ++ nodeLines (drop ((w - 1) * t .limits .entries) parents) (drop ((w - 1) * t .limits .entries) codes) (row .count)
+    ≡ widthText t parents codes w
+unfolding widthText rowText
+width-as t parents codes w {row} e h =
+    let n = widthAt t w .count in
+    let u = drop ((w - 1) * t .limits .entries) parents in
+    let v = drop ((w - 1) * t .limits .entries) codes in
+    ap (λ (x : Width). tableLine w (x .count) (x .depth) (x .saturated) ++ nodeLines u v (x .count)) e
+    ∙ ap (λ (l : List ℕ). tableLine w n (widthAt t w .depth) (widthAt t w .saturated) ++ l) (nodes-part (t .limits .entries) n u v h)
+
+-- ---- one after the other
 
 pub widths-none : (t : Table) (parents codes : List ℕ) → [] ≡ widthTexts t parents codes 0
 unfolding widthTexts each range
 widths-none t parents codes = refl
 
-each-next : (k : ℕ) (f : ℕ → List ℕ) → each (range 1 k) f ++ f (suc k) ≡ each (range 1 (suc k)) f
-each-next k f =
-    let e : 1 + k ≡ suc k = omega arith in
-    sym (ap (λ (l : List ℕ). each l f) (range-snoc 1 k)
-    ∙ (each-append (range 1 k) ((1 + k) ∷ []) f ∙ ap (λ (l : List ℕ). each (range 1 k) f ++ l) (each-one (1 + k) f ∙ ap f e)))
-
 pub widths-more :
-    (t : Table) (parents codes : List ℕ) (q : ℕ) → 0 < q →
-    widthTexts t parents codes (q - 1) ++ widthText t parents codes q ≡ widthTexts t parents codes q
+    (t : Table) (parents codes : List ℕ) (w : ℕ) → widthTexts t parents codes w ++ widthText t parents codes (w + 1) ≡ widthTexts t parents codes (w + 1)
 unfolding widthTexts
-widths-more t parents codes zero h = absurd (omega arith)
-widths-more t parents codes (suc k) h =
-    let e : suc k - 1 ≡ k = omega arith in
-    ap (λ (n : ℕ). each (range 1 n) (widthText t parents codes) ++ widthText t parents codes (suc k)) e ∙ each-next k (widthText t parents codes)
+widths-more t parents codes w =
+    let f = widthText t parents codes in
+    let e : 1 + w ≡ w + 1 = omega arith in
+    sym (ap (λ (n : ℕ). each (range 1 n) f) (add-one w)
+    ∙ (ap (λ (l : List ℕ). each l f) (range-snoc 1 w)
+    ∙ (each-append (range 1 w) ((1 + w) ∷ []) f ∙ ap (λ (l : List ℕ). each (range 1 w) f ++ l) (each-one (1 + w) f ∙ ap f e))))
 
-pub more-room : (q x : ℕ) → 0 < q → (q - 1) * x + x ≡ q * x
-more-room zero x h = absurd (omega arith)
-more-room (suc k) x h =
-    let e : suc k - 1 ≡ k = omega arith in
-    ap (λ (n : ℕ). n * x + x) e ∙ sym (suc-mul k x)
+-- room for one width more
+pub more-room : (w q x : ℕ) → w < q → (w * x + x ≡ (w + 1) * x) × ((w + 1) * x ≤ q * x)
+more-room w q x h =
+    let l : w + 1 ≤ q = omega arith in
+    let r : x ≤ x = omega arith in
+    (sym (ap (λ (n : ℕ). n * x) (add-one w) ∙ suc-mul w x), mul-le-mul l r)

@@ -1,8 +1,8 @@
 -- `list_space` meets its contract. Assumes nothing.
 use mathlib.Core.Path.{refl}
-use Rattle.circuits_lines.specs.Program.{lentList}
-use Rattle.circuits_lines.proofs.list_space.Statement.{statement}
-use Rattle.circuits_lines.proofs.list_space.Tie as tie
+use Rattle.circuits_output.specs.Texts.{lentList}
+use Rattle.circuits_output.proofs.list_space.Statement.{statement}
+use Rattle.circuits_output.proofs.list_space.Tie as tie
 
 returns : tie.Need-returns
 unfolding lentList

@@ -1,4 +1,4 @@
-// The program `circuits`, document 01, "The program circuits": reads standard input, and writes what circuits_output::circuits makes of it.
+// The program `circuits`: reads standard input, and writes what circuits_output::circuits makes of it.
 ghost use mathlib.Core.Path.{_≡_};
 ghost use Prim.Native.Nat.{_≤_};
 ghost use lib.ListN.{length};
@@ -16,7 +16,7 @@ fn input_space() -> [u8; 16385]
 }
 
 // Places for the fingerprints of a table.
-fn print_space() -> [u64; 2048]
+fn fingerprint_space() -> [u64; 2048]
     ensures { λ r. ⌜ r ≡ lentPlaces ⌝ }
 {
     [0u64; 2048]
@@ -34,10 +34,10 @@ fn answer(input: &[u8], out: &mut [u8]) -> usize
     requires { ⌜ roomFor 2048 ≤ length (now out) ⌝ }
     ensures { λ r. ⌜ Put 0 (output (now (input .entry))) r (now (out .entry)) (now (out .exit)) ⌝ }
 {
-    let mut prints = print_space();
+    let mut fingerprints = fingerprint_space();
     let mut parents = node_space();
     let mut codes = node_space();
-    match circuits_output::circuits(input, &mut prints, &mut parents, &mut codes, out) {
+    match circuits_output::circuits(input, &mut fingerprints, &mut parents, &mut codes, out) {
         Printed::Text(n) => n,
         Printed::NoRoom => 0,
     }

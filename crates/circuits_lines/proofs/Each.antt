@@ -5,24 +5,32 @@ use Prim.Native.Nat.{ℕ, _+_, _≤_, _<_}
 use native.Mathlib.Nat.{add-zero}
 use native.Mathlib.Numerals.{add-one}
 use native.Mathlib.Omega.{arith}
-use lib.ListN.{length, getD, take, take-append-drop}
-use lib.Seq.{take-suc}
+use lib.ListN.{length, getD, take, drop, length-append, take-append-drop}
+use lib.Seq.{take-suc, getD-drop}
 use Rattle.ints.specs.Lists.{each}
 use Rattle.ints.proofs.Runs.{each-none, each-more, each-append}
-use Rattle.circuits_text.specs.Writing.{Put}
-use Rattle.circuits_text.proofs.Placing.{put-as, then-put}
-use Rattle.circuits_lines.specs.Lines.{nodeLine, nodeLines, spacedCode, spacedCodes}
+use Rattle.circuits_text.specs.Writing.{decimal, Put}
+use Rattle.circuits_text.proofs.Placing.{put-as, then-put, decimal-short}
+use Rattle.circuits_lines.specs.Lines.{numberThen, nodeLine, nodeLines, spacedCode, spacedCodes}
+
+-- ---- a 32-bit number has at most ten digits
+pub short : (n after : ℕ) {at p : ℕ} {old xs : List ℕ} → n < 4294967296 → Put at (numberThen n after) p old xs → p ≤ at + 11
+short n after h d = omega (arith, decimal-short 9 n (omega (arith, h)), d .after, length-append (decimal n) (after ∷ []))
 
 -- ---- one line, one code more
 pub nodes-none : (parents codes : List ℕ) → [] ≡ nodeLines parents codes 0
 unfolding nodeLines
 nodes-none parents codes = sym (each-none _)
 
+-- the nodes stand from a place on
 pub nodes-more :
-    (parents codes : List ℕ) (i : ℕ) →
-    nodeLines parents codes i ++ nodeLine i (getD parents i 0) (getD codes i 0) ≡ nodeLines parents codes (i + 1)
+    (parents codes : List ℕ) (start i : ℕ) →
+    nodeLines (drop start parents) (drop start codes) i ++ nodeLine i (getD parents (start + i) 0) (getD codes (start + i) 0)
+    ≡ nodeLines (drop start parents) (drop start codes) (i + 1)
 unfolding nodeLines
-nodes-more parents codes i = sym (each-more i (λ j. nodeLine j (getD parents j 0) (getD codes j 0)))
+nodes-more parents codes start i =
+    rw (← getD-drop start parents i 0, ← getD-drop start codes i 0)
+    (sym (each-more i (λ j. nodeLine j (getD (drop start parents) j 0) (getD (drop start codes) j 0))))
 
 pub each-one : (x : ℕ) (f : ℕ → List ℕ) → each (x ∷ []) f ≡ f x
 unfolding each

@@ -13,42 +13,44 @@ use Rattle.circuits_text.specs.Reading.{newline, before}
 use Rattle.circuits_text.specs.Writing.{Put}
 use Rattle.circuits_text.proofs.Split.{before-take}
 use Rattle.circuits_text.proofs.Placing.{put-as, then-put}
-use Rattle.circuits_lines.specs.Program.{InputLine, ended, cut, linesOf, readLine, brokenText, queryText, queryTexts}
-use Rattle.circuits_output.proofs.InputLines.{lines-none, lines-more, lines-last}
-use Rattle.circuits_output.proofs.Rooms.{query-room}
+use Rattle.circuits_lines.specs.Lines.{refusedLine}
+use Rattle.circuits_input.specs.Input.{InputLine, ended, cut, linesOf}
+use Rattle.circuits_input.proofs.InputLines.{lines-none, lines-more, lines-last}
+use Rattle.circuits_output.specs.Texts.{queryText, queryTexts}
+use Rattle.circuits_output.proofs.Rooms.{cut-text, query-room}
 
 module _ (t : Table) (m : Arrays) where
   texts-none : queryTexts t m [] ≡ []
   unfolding queryTexts
   texts-none = refl
 
-  texts-more : (l : InputLine) (ls : List InputLine) → queryTexts t m (l ∷ ls) ≡ readLine brokenText l (queryText t m) ++ queryTexts t m ls
+  texts-more : (l : InputLine) (ls : List InputLine) → queryTexts t m (l ∷ ls) ≡ queryText t m l ++ queryTexts t m ls
   unfolding queryTexts
   texts-more l ls = refl
 
-pub record Asking (t : Table) (m : Arrays) (input : List ℕ) (from at : ℕ) (old xs : List ℕ) (p i : ℕ) : Type 0 where
+pub record Asking (t : Table) (m : Arrays) (input : List ℕ) (at : ℕ) (old xs : List ℕ) (p i : ℕ) : Type 0 where
   pub text : List ℕ
   pub put : Put at text p old xs
-  pub splits : queryTexts t m (linesOf (drop from input)) ≡ text ++ queryTexts t m (linesOf (drop i input))
+  pub splits : queryTexts t m (linesOf input) ≡ text ++ queryTexts t m (linesOf (drop i input))
   pub size : length xs ≡ length old
-  pub room : p + 187 * from ≤ at + 187 * i
+  pub room : p ≤ at + 187 * i
   pub place : i ≤ length input
 
 -- no line is passed
 pub asking-none :
-    (t : Table) (m : Arrays) {input old : List ℕ} {from at : ℕ} → at ≤ length old → from ≤ length input → Asking t m input from at old old at from
-asking-none t m {input} {old} {from} {at} h g = record {
+    (t : Table) (m : Arrays) (input : List ℕ) {old : List ℕ} {at : ℕ} → at ≤ length old → Asking t m input at old old at 0
+asking-none t m input {old} {at} h = record {
   text = [];
   put = record { is = sym (rw add-zero (take-append-drop at old)); after = omega arith; room = h };
   splits = refl;
   size = refl;
   room = omega arith;
-  place = g;
+  place = omega arith;
 }
 
-module _ {t : Table} {m : Arrays} {input old xs : List ℕ} {from at p i : ℕ} (a : Asking t m input from at old xs p i) where
+module _ {t : Table} {m : Arrays} {input old xs : List ℕ} {at p i : ℕ} (a : Asking t m input at old xs p i) where
   -- none is left
-  pub asking-done : length input ≤ i → Put at (queryTexts t m (linesOf (drop from input))) p old xs
+  pub asking-done : length input ≤ i → Put at (queryTexts t m (linesOf input)) p old xs
   asking-done h =
       let e : queryTexts t m (linesOf (drop i input)) ≡ [] =
       ap (λ (bs : List ℕ). queryTexts t m (linesOf bs)) (drop-of-length-le input {i = i} h) ∙ (ap (queryTexts t m) lines-none ∙ texts-none t m) in
@@ -59,19 +61,20 @@ module _ {t : Table} {m : Arrays} {input old xs : List ℕ} {from at p i : ℕ} 
     left = length-drop i input
 
     -- the last lacks its newline
-    pub asking-cut : {q : ℕ} {ys : List ℕ} → length input ≤ e → Put p brokenText q xs ys → Put at (queryTexts t m (linesOf (drop from input))) q old ys
+    pub asking-cut : {q : ℕ} {ys : List ℕ} → length input ≤ e → Put p (refusedLine 14 0) q xs ys → Put at (queryTexts t m (linesOf input)) q old ys
     asking-cut h d =
         let c : linesOf (drop i input) ≡ cut (before newline (drop i input)) ∷ [] =
         lines-last (drop i input) (omega (arith, left)) (omega (arith, left)) in
-        let f : queryTexts t m (linesOf (drop i input)) ≡ brokenText =
+        let f : queryTexts t m (linesOf (drop i input)) ≡ refusedLine 14 0 =
         ap (queryTexts t m) c ∙ (texts-more t m (cut (before newline (drop i input))) []
-        ∙ (ap (λ (bs : List ℕ). brokenText ++ bs) (texts-none t m) ∙ append-nil brokenText)) in
+        ∙ (ap (λ (bs : List ℕ). queryText t m (cut (before newline (drop i input))) ++ bs) (texts-none t m)
+        ∙ (append-nil (queryText t m (cut (before newline (drop i input)))) ∙ cut-text t m (before newline (drop i input))))) in
         put-as (sym (a .splits ∙ ap (λ (bs : List ℕ). a .text ++ bs) f)) (then-put (a .put) d)
 
     -- one line more
     pub asking-on :
-        {q : ℕ} {ys : List ℕ} → e < length input → Put p (readLine brokenText (ended (take (e - i) (drop i input))) (queryText t m)) q xs ys →
-        q ≤ p + 746 → length ys ≡ length xs → Asking t m input from at old ys q (e + 1)
+        {q : ℕ} {ys : List ℕ} → e < length input → Put p (queryText t m (ended (take (e - i) (drop i input)))) q xs ys →
+        q ≤ p + 746 → length ys ≡ length xs → Asking t m input at old ys q (e + 1)
     asking-on {q} {ys} h d b s =
         let n = length (before newline (drop i input)) in
         let c : e - i ≡ n = omega arith in
@@ -81,10 +84,10 @@ module _ {t : Table} {m : Arrays} {input old xs : List ℕ} {from at p i : ℕ} 
         lines-more (drop i input) (omega (arith, left)) in
         let u : i + suc n ≡ e + 1 = omega arith in
         let r : drop (suc n) (drop i input) ≡ drop (e + 1) input = drop-drop (suc n) i input ∙ ap (λ (k : ℕ). drop k input) u in
-        let w = readLine brokenText (ended (take (e - i) (drop i input))) (queryText t m) in
+        let w = queryText t m (ended (take (e - i) (drop i input))) in
         let f : queryTexts t m (linesOf (drop i input)) ≡ w ++ queryTexts t m (linesOf (drop (e + 1) input)) =
         ap (queryTexts t m) l ∙ (texts-more t m (ended (before newline (drop i input))) (linesOf (drop (suc n) (drop i input)))
-        ∙ (ap (λ (bs : List ℕ). readLine brokenText (ended bs) (queryText t m) ++ queryTexts t m (linesOf (drop (suc n) (drop i input)))) (sym line)
+        ∙ (ap (λ (bs : List ℕ). queryText t m (ended bs) ++ queryTexts t m (linesOf (drop (suc n) (drop i input)))) (sym line)
         ∙ ap (λ (bs : List ℕ). w ++ queryTexts t m (linesOf bs)) r)) in
         let k = query-room t m (take (e - i) (drop i input)) (omega (arith, d .after)) in
         let z : length (take (e - i) (drop i input)) ≡ e - i = ap length line ∙ sym c in

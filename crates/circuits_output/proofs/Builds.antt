@@ -11,7 +11,7 @@ use Rattle.murm.specs.Entries.{toldBuilding}
 use Rattle.murm.specs.declared.Building.{Building}
 use Rattle.circuits_text.specs.Writing.{Put}
 use Rattle.circuits_text.proofs.Placing.{put-as}
-use Rattle.circuits_lines.specs.Program.{InputLine}
+use Rattle.circuits_input.specs.Input.{InputLine}
 use Rattle.circuits_output.specs.Output.{replyThen, Ready, builtText}
 
 module _ (l : Limits) (lent : Arrays) {after : Arrays} where

@@ -1,8 +1,8 @@
-pub mod InputLines
+pub mod Widths
 pub mod Rooms
 pub mod Asking
 pub mod Builds
-pub mod Inputs
+pub mod Replies
+pub mod Runs
 pub mod Whole
 pub mod ProgramDemand3
-pub mod Accepts

@@ -51,12 +51,16 @@ use Rattle.circuits_text.specs.Writing.{decimal}
 use Rattle.circuits_text.specs.Allowed.{AllowedLine, alone, spaced}
 use Rattle.circuits_text.proofs.Accepts.{decimal-spelled}
 use Rattle.circuits_lines.specs.Lines.{tableLine, nodeLine, nodeLines, spacedCodes, answerLine}
-use Rattle.circuits_lines.specs.Program.{answerText, lentList, matrixText, listedText, lentCount, lentBytes, listText, queryTexts, rowText, widthText, widthTexts, tableText}
+use Rattle.circuits_input.specs.Input.{Read, ended, Wanted, AskedList}
+use Rattle.circuits_input.specs.Allowed.{QueryLine}
+use Rattle.circuits_input.proofs.Accepts.{query-asks}
+use Rattle.circuits_answers.specs.Replies.{lentCount, lentCoefficients, formedReply, listReply, askedReply, lineReply}
+use Rattle.circuits_output.specs.Texts.{rowText, widthText, widthTexts, tableText, answerText, lentList, listText, queryText, queryTexts}
 use Rattle.circuits_output.specs.Output.{inputText, outputWith, lentArrays, output}
 use Rattle.circuits_output.specs.ProgramDemand3.{SameUpToPower, Condition, ReadsAs, ListRefused, wide, not-valid, too-large}
 use Rattle.circuits_output.specs.ProgramDemand3.{LineMeans, a-list, no-list, refused, walkText, ProgramDemand3}
 use Rattle.circuits_output.proofs.Builds.{text-is}
-use Rattle.circuits_output.proofs.Accepts.{query-prints}
+use Rattle.circuits_output.proofs.Widths.{each-same}
 
 -- ---- an answer's line is read as its list
 
@@ -95,8 +99,8 @@ module _ (w : ℕ) (l : Limits) (m : List ℕ) (of-basis : ListOf w (l .basis) m
 
 -- ---- the list's own refusals
 
-bytes-count : (w : ℕ) → w ≤ 5 → length (lentBytes w) ≡ byteCount w
-unfolding lentBytes
+bytes-count : (w : ℕ) → w ≤ 5 → length (lentCoefficients w) ≡ byteCount w
+unfolding lentCoefficients
 bytes-count w h = length-replicate {0} {A = ℤ} (lentCount w) (pos 0) ∙ rw (le-ltb 5 w h)
 
 -- what a refusal of a list says
@@ -104,39 +108,39 @@ abbrev Own : ℕ → List ℕ → Answer → Type 0
 Own w asked (given k) = true ≡ true
 Own w asked (e.refused number position) = ListRefused w asked number position
 
-own : (w : ℕ) (asked : List ℕ) → Own w asked (listed w asked (lentBytes w) .answer)
+own : (w : ℕ) (asked : List ℕ) → Own w asked (listed w asked (lentCoefficients w) .answer)
 unfolding listed listAnswer
 own w asked = by-width (ltb 5 w) refl
   where
     by-steps : (s : Steps) → w ≤ 5 → length asked ≤ firstInvalid w asked → steps w asked ≡ s
-        → Own w asked (formed w asked (lentBytes w) (bySteps (product w asked .k) s) .answer)
+        → Own w asked (formed w asked (lentCoefficients w) (bySteps (product w asked .k) s) .answer)
     by-steps allFit h v x = refl
     by-steps (unfitAt i) h v x =
         let a = all-valid w asked v in
-        too-large i h a (demand-2 w asked (lentBytes w) .too-large h (bytes-count w h) a i .0
-        (rw (le-ltb 5 w h, eq-eqb (length (lentBytes w)) (byteCount w) (bytes-count w h), le-ltb (firstInvalid w asked) (length asked) v, x)))
+        too-large i h a (demand-2 w asked (lentCoefficients w) .too-large h (bytes-count w h) a i .0
+        (rw (le-ltb 5 w h, eq-eqb (length (lentCoefficients w)) (byteCount w) (bytes-count w h), le-ltb (firstInvalid w asked) (length asked) v, x)))
 
     by-codes : (b : Bool) → ltb (firstInvalid w asked) (length asked) ≡ b → w ≤ 5
-        → Own w asked (pick b (outcome (e.refused 7 (firstInvalid w asked)) (lentBytes w)) (formed w asked (lentBytes w) (listAnswer w asked)) .answer)
+        → Own w asked (pick b (outcome (e.refused 7 (firstInvalid w asked)) (lentCoefficients w)) (formed w asked (lentCoefficients w) (listAnswer w asked)) .answer)
     by-codes true x h = not-valid h (ltb-true (firstInvalid w asked) (length asked) x)
     by-codes false x h = by-steps (steps w asked) h (ltb-false (firstInvalid w asked) (length asked) x) refl
 
-    by-width : (b : Bool) → ltb 5 w ≡ b → Own w asked (listed w asked (lentBytes w) .answer)
+    by-width : (b : Bool) → ltb 5 w ≡ b → Own w asked (listed w asked (lentCoefficients w) .answer)
     by-width true x = rw x (wide (ltb-true 5 w x))
     by-width false x =
         let h = ltb-false 5 w x in
-        rw (x, eq-eqb (length (lentBytes w)) (byteCount w) (bytes-count w h)) (by-codes (ltb (firstInvalid w asked) (length asked)) refl h)
+        rw (x, eq-eqb (length (lentCoefficients w)) (byteCount w) (bytes-count w h)) (by-codes (ltb (firstInvalid w asked) (length asked)) refl h)
 
 -- ---- a list whose matrix is asked
 
 module _ (t : Table) (m : Arrays) (b : Built t m) (w : ℕ) (asked : List ℕ) (k : ℕ) (bytes : List ℤ)
-    (e : listed w asked (lentBytes w) ≡ outcome (given k) bytes) where
+    (e : listed w asked (lentCoefficients w) ≡ outcome (given k) bytes) where
   abbrev q : Query
   q = query w k bytes
 
   -- the matrix asked is the product of the list asked
   asked-is : PowerOf w (paperProduct w asked) (held w k bytes)
-  asked-is = power-of w (demand-2 w asked (lentBytes w) .value k bytes e)
+  asked-is = power-of w (demand-2 w asked (lentCoefficients w) .value k bytes e)
 
   paper : (l : List ℕ) → PowerOf w (product w l) (paperProduct w l)
   paper l = power-sym w (power-of w (paper-value w l))
@@ -160,7 +164,7 @@ module _ (t : Table) (m : Arrays) (b : Built t m) (w : ℕ) (asked : List ℕ) (
   unfolding firstRow
   not-refused =
       never-refused t m q lentList b
-      (firstRow-append (queryRows w k bytes) (listRow t lentList ∷ []) (numbered-query w k bytes) (accepted-allowed w asked (lentBytes w) k bytes e)
+      (firstRow-append (queryRows w k bytes) (listRow t lentList ∷ []) (numbered-query w k bytes) (accepted-allowed w asked (lentCoefficients w) k bytes e)
       ∙ first-past (listRow t lentList) [] list-short)
 
   complete : Condition (t .limits) w → Complete t m q
@@ -169,15 +173,15 @@ module _ (t : Table) (m : Arrays) (b : Built t m) (w : ℕ) (asked : List ℕ) (
 
   -- its text
   text : listText t m w asked ≡ answerText (synthesized t m q lentList)
-  unfolding listText matrixText
-  text = ap (λ (o : ListOutcome). listedText t m w (o .answer) (o .bytes)) e
+  unfolding listText listReply
+  text = ap (λ (o : ListOutcome). answerText (formedReply t m w lentList (o .answer) (o .bytes))) e
 
   given-text : (l : List ℕ) → Gives t m q lentList l → listText t m w asked ≡ answerLine l
   given-text l g = text ∙ (ap answerText g ∙ ap answerLine (take-at l (drop (length l) lentList) (length l) refl))
 
 -- a larger table gives the same list
 module _ (t t′ : Table) (m m′ : Arrays) (b : Built t m) (b′ : Built t′ m′) (s : NoSmaller (t .limits) (t′ .limits)) where
-  larger-text : (w : ℕ) (asked : List ℕ) (k : ℕ) (bytes : List ℤ) → listed w asked (lentBytes w) ≡ outcome (given k) bytes → (l : List ℕ)
+  larger-text : (w : ℕ) (asked : List ℕ) (k : ℕ) (bytes : List ℤ) → listed w asked (lentCoefficients w) ≡ outcome (given k) bytes → (l : List ℕ)
       → Gives t m (query w k bytes) lentList l → listText t′ m′ w asked ≡ answerLine l
   larger-text w asked k bytes e l g =
       ⊎-elim
@@ -186,7 +190,7 @@ module _ (t t′ : Table) (m m′ : Arrays) (b : Built t m) (b′ : Built t′ m
       (demand .larger t t′ m m′ b b′ s (query w k bytes) lentList lentList l g)
 
 module _ (t : Table) (m : Arrays) (b : Built t m) (w : ℕ) (asked : List ℕ) where
-  matrix-means : (k : ℕ) (bytes : List ℤ) → listed w asked (lentBytes w) ≡ outcome (given k) bytes → LineMeans (t .limits) w asked (listText t m w asked)
+  matrix-means : (k : ℕ) (bytes : List ℤ) → listed w asked (lentCoefficients w) ≡ outcome (given k) bytes → LineMeans (t .limits) w asked (listText t m w asked)
   matrix-means k bytes e = by (demand .decided t m (query w k bytes) lentList)
     where
       by : Decided t m (query w k bytes) lentList → LineMeans (t .limits) w asked (listText t m w asked)
@@ -204,28 +208,21 @@ module _ (t : Table) (m : Arrays) (b : Built t m) (w : ℕ) (asked : List ℕ) w
           (not-refused t m b w asked k bytes e) .0 g o (from t m b w asked k bytes e o z) h)
       by (d.a-refusal r n) = absurd (not-refused t m b w asked k bytes e r n)
 
-  refused-means : (number position : ℕ) (bytes : List ℤ) → listed w asked (lentBytes w) ≡ outcome (e.refused number position) bytes
+  refused-means : (number position : ℕ) (bytes : List ℤ) → listed w asked (lentCoefficients w) ≡ outcome (e.refused number position) bytes
       → LineMeans (t .limits) w asked (listText t m w asked)
-  unfolding listText
+  unfolding listText listReply
   refused-means number position bytes x =
-      refused number position (ap (λ (o : ListOutcome). listedText t m w (o .answer) (o .bytes)) x)
+      refused number position (ap (λ (o : ListOutcome). answerText (formedReply t m w lentList (o .answer) (o .bytes))) x)
       (subst (Own w asked) (ap (λ (o : ListOutcome). o .answer) x) (own w asked))
 
   line-means : LineMeans (t .limits) w asked (listText t m w asked)
-  line-means = by (listed w asked (lentBytes w) .answer) (listed w asked (lentBytes w) .bytes) refl
+  line-means = by (listed w asked (lentCoefficients w) .answer) (listed w asked (lentCoefficients w) .bytes) refl
     where
-      by : (a : Answer) (bytes : List ℤ) → listed w asked (lentBytes w) ≡ outcome a bytes → LineMeans (t .limits) w asked (listText t m w asked)
+      by : (a : Answer) (bytes : List ℤ) → listed w asked (lentCoefficients w) ≡ outcome a bytes → LineMeans (t .limits) w asked (listText t m w asked)
       by (given k) bytes x = matrix-means k bytes x
       by (e.refused number position) bytes x = refused-means number position bytes x
 
 -- ---- a table's text: the nodes of the walk
-
-each-same : (i count : ℕ) (f g : ℕ → List ℕ) → ((j : ℕ) → i ≤ j → j < i + count → f j ≡ g j) → each (range i count) f ≡ each (range i count) g
-unfolding each range
-each-same i zero f g h = refl
-each-same i (suc count) f g h =
-    ap (λ (l : List ℕ). l ++ each (range (suc i) count) f) (h i (omega arith) (omega arith))
-    ∙ ap (λ (l : List ℕ). g i ++ l) (each-same (suc i) count f g (λ j p q. h j (omega arith) (omega arith)))
 
 module _ (t : Table) (m : Arrays) (b : Built t m) (w : ℕ) (p : 0 < w) (u : w ≤ t .limits .qubits) where
   -- place j of a width's part is place (w - 1) × E + j of the array
@@ -256,6 +253,11 @@ unfolding widthTexts
 table-text t m b = each-same 1 (t .limits .qubits) _ _ (λ w p u. width-text t m b w (omega (arith, p)) (omega (arith, u)))
 
 -- ---- the whole
+
+-- a query's line prints the text of its list
+query-prints : (t : Table) (m : Arrays) {w : ℕ} {asked line : List ℕ} → QueryLine w asked line → queryText t m (ended line) ≡ listText t m w asked
+unfolding queryText lineReply listText
+query-prints t m h = ap (λ (q : Read AskedList). answerText (askedReply t m lentList q)) (query-asks h)
 
 row-is : (t : Table) (m : Arrays) → Built t m → (l : Limits) → t .limits ≡ l → (w : ℕ) → 0 < w → w ≤ l .qubits → widthAt t w ≡ widthOf (walkOf l w)
 row-is t m b l e w p u =

@@ -1,5 +1,6 @@
 -- With three arrays of 2,048 zeros lent, the text is the program's output. Assumes nothing.
 use mathlib.Core.List.{List, _++_}
+use mathlib.Core.Option.{none, some}
 use mathlib.Core.Path.{_≡_, refl, sym, ap, _∙_, subst}
 use Prim.Native.Nat.{ℕ, _+_, _≤_}
 use native.Mathlib.Omega.{arith}
@@ -10,7 +11,8 @@ use Rattle.tables.specs.Checks.{Arrays, arrays}
 use Rattle.circuits_text.specs.Writing.{Put}
 use Rattle.circuits_output.specs.declared.Printed.{Printed}
 use Rattle.circuits_output.specs.declared.Printed.the-variants.{Text, NoRoom}
-use Rattle.circuits_output.specs.Output.{arraysAfter, lentPlaces, lentArrays, output, roomFor, Run, run, textRun, programOf}
+use Rattle.circuits_output.specs.Output.{arraysAfter, lentPlaces, lentArrays, output, roomFor, toldPrinted}
+use Rattle.circuits_output.specs.Output.{holding, Run, run, textRun, programOf, Ran}
 
 pub places-count : {l : List ℕ} → l ≡ lentPlaces → 2048 ≡ length l
 unfolding lentPlaces
@@ -30,22 +32,24 @@ over-fits : (new old : List ℕ) → length (over new old) ≡ length old → le
 over-fits new old e = omega (arith, e, length-append new (drop (length new) old), length-drop (length new) old)
 
 module _ (input old xs : List ℕ) {lent after : Arrays} {printed : Printed} (zeros : lent ≡ lentArrays) (room : roomFor 2048 ≤ length old)
-    (e : run printed xs after ≡ programOf input lent old) where
-  made : run printed xs after ≡ textRun (output input) old (arraysAfter lentArrays input)
+    (e : Ran input (holding lent old) (holding after xs) printed) where
+  made : run (toldPrinted printed) (holding after xs) ≡ textRun (output input) old (arraysAfter lentArrays input)
   unfolding programOf output
-  made = e ∙ (ap (λ (a : Arrays). programOf input a old) zeros ∙ rw (le-ltb (length old) (roomFor (length lentPlaces)) (subst (λ (k : ℕ). roomFor k ≤ length old) (places-count refl) room)))
+  made = e .is ∙ (ap (λ (a : Arrays). programOf input (holding a old)) zeros ∙ rw (le-ltb (length old) (roomFor (length lentPlaces)) (subst (λ (k : ℕ). roomFor k ≤ length old) (places-count refl) room)))
 
   pub some-text : printed ≡ NoRoom → ⊥
   some-text f =
-      let g : printed ≡ Text (length (output input)) = ap (λ (r : Run). r .printed) made in
+      let g : toldPrinted printed ≡ some (length (output input)) = ap (λ (r : Run). r .printed) made in
+      let h : toldPrinted printed ≡ none = ap toldPrinted f in
       let z : _≡_ {A = ℕ} 0 1 = cc in
       absurd (omega (arith, z))
 
   pub text-put : (n : ℕ) → length xs ≡ length old → printed ≡ Text n → Put 0 (output input) n old xs
   text-put n same f =
-      let g : printed ≡ Text (length (output input)) = ap (λ (r : Run). r .printed) made in
+      let g : toldPrinted printed ≡ some (length (output input)) = ap (λ (r : Run). r .printed) made in
+      let h : toldPrinted printed ≡ some n = ap toldPrinted f in
       let m : n ≡ length (output input) = cc in
-      let x : xs ≡ over (output input) old = ap (λ (r : Run). r .out) made in
+      let x : xs ≡ over (output input) old = ap (λ (r : Run). r .left .out) made in
       let z : length (output input) ≡ 0 + length (output input) = omega arith in
       record {
         is = x ∙ ap (λ (k : ℕ). output input ++ drop k old) z;

@@ -1,3 +1,3 @@
+pub mod Texts
 pub mod Output
 pub mod ProgramDemand3
-pub mod Allowed

@@ -1,43 +1,23 @@
--- What the program `circuits` prints, for every input. Document 01, "The program circuits". Assumes nothing.
+-- What the program `circuits` prints, for every input. Assumes nothing.
 use mathlib.Core.Bool.{true, false}
 use mathlib.Core.Path.{_≡_}
-use mathlib.Core.List.{List, [], _∷_, _++_}
+use mathlib.Core.List.{List, _++_}
+use mathlib.Core.Option.{Option, none, some}
 use Prim.Native.Nat.{ℕ, _+_, _*_, _≤_, min}
-use lib.Dec.{eqb, ltb}
-use lib.ListN.{length, getD, replicate}
+use denote.Ref.{RefT, now}
+use lib.Dec.{ltb}
+use lib.ListN.{length, replicate}
 use Rattle.ints.specs.Lists.{pick, over}
-use Rattle.tables.specs.Checks.{Limits, limitsOf, Arrays, arrays, placesOf}
+use Rattle.tables.specs.Checks.{Limits, Arrays, arrays, placesOf}
 use Rattle.tables.specs.Tables.{BuildReply, table, refusal, buildOf, recordRow}
 use Rattle.circuits_lines.specs.Lines.{refusedLine}
-use Rattle.circuits_lines.specs.Program.{InputLine, linesOf, readLine, brokenText, queryTexts, tableText}
+use Rattle.circuits_input.specs.Input.{Read, gives, refused, InputLine, Wanted, inputOf}
+use Rattle.circuits_answers.specs.Replies.{lent}
 use Rattle.circuits_output.specs.declared.Printed.{Printed}
 use Rattle.circuits_output.specs.declared.Printed.the-variants.{Text, NoRoom}
+use Rattle.circuits_output.specs.Texts.{queryTexts, tableText}
 
--- ---- line one
-
--- what an input asks: nothing, because of its length or of its line one; or a table of four limits, and then its later lines
-pub data Input : Type 0 where
-  tooLong : Input
-  broken : Input
-  asks : Limits → List InputLine → Input
-
--- "Line one: Q G E B."
-abbrev pub firstLimits : List ℕ → Limits
-firstLimits ns = limitsOf (getD ns 0 0) (getD ns 1 0) (getD ns 2 0) (getD ns 3 0)
-
-abbrev pub firstNumbers : List InputLine → List ℕ → Input
-firstNumbers ls ns = pick (eqb (length ns) 4) (asks (firstLimits ns) ls) broken
-
--- "on line one, and for empty input, the program stops there"
-abbrev pub linesInput : List InputLine → Input
-linesInput [] = broken
-linesInput (l ∷ ls) = readLine broken l (firstNumbers ls)
-
--- "It reads up to 16,384 bytes"
-unfoldable pub inputOf : List ℕ → Input
-inputOf bytes = pick (ltb 16384 (length bytes)) tooLong (linesInput (linesOf bytes))
-
--- "A refused build prints its refusal and stops too."
+-- a build's table and then the queries; a build that is refused prints its refusal alone
 abbrev pub replyThen : BuildReply → Arrays → List InputLine → List ℕ
 replyThen (table t) m ls = tableText t (m .parents) (m .codes) ++ queryTexts t m ls
 replyThen (refusal number position) m ls = refusedLine number position
@@ -50,28 +30,26 @@ Ready (refusal number position) parents codes = true ≡ true
 
 -- a table is built in the lent arrays
 unfoldable pub builtText : Arrays → List InputLine → Limits → List ℕ
-builtText lent ls l = replyThen (buildOf l lent .reply) (buildOf l lent .arrays) ls
+builtText a ls l = replyThen (buildOf l a .reply) (buildOf l a .arrays) ls
 
--- "more prints `refused 15 0` alone"
-abbrev pub inputText : Arrays → Input → List ℕ
-inputText lent tooLong = refusedLine 15 0
-inputText lent broken = brokenText
-inputText lent (asks l ls) = builtText lent ls l
+-- an input that is refused prints its refusal alone
+abbrev pub inputText : Arrays → Read Wanted → List ℕ
+inputText a (gives w) = builtText a (w .later) (w .limits)
+inputText a (refused number position) = refusedLine number position
 
 -- what the lent arrays then hold
-abbrev pub inputArrays : Arrays → Input → Arrays
-inputArrays lent tooLong = lent
-inputArrays lent broken = lent
-inputArrays lent (asks l ls) = buildOf l lent .arrays
+abbrev pub inputArrays : Arrays → Read Wanted → Arrays
+inputArrays a (gives w) = buildOf (w .limits) a .arrays
+inputArrays a (refused number position) = a
 
 -- what is printed with these arrays lent
 unfoldable pub outputWith : Arrays → List ℕ → List ℕ
-outputWith lent input = inputText lent (inputOf input)
+outputWith a input = inputText a (inputOf input)
 
 unfoldable pub arraysAfter : Arrays → List ℕ → Arrays
-arraysAfter lent input = inputArrays lent (inputOf input)
+arraysAfter a input = inputArrays a (inputOf input)
 
--- "Q × E above 2048 meets refusal 5": each array has 2,048 places
+-- the program lends arrays of 2,048 places each, so that a table that needs more is refused by 5
 unfoldable pub lentPlaces : List ℕ
 lentPlaces = replicate 2048 0
 
@@ -89,20 +67,40 @@ output input = outputWith lentArrays input
 unfoldable pub roomFor : ℕ → ℕ
 roomFor places = 33 * min places 5000000 + 3066000
 
--- what it answers, and what the lent bytes and arrays then hold
-pub record Run : Type 0 where
-  pub printed : Printed
-  pub out : List ℕ
-  pub arrays : Arrays
+-- how many bytes the text has; none where the lent bytes are too few
+abbrev pub toldPrinted : Printed → Option ℕ
+toldPrinted (Text n) = some n
+toldPrinted NoRoom = none
 
-abbrev pub run : Printed → List ℕ → Arrays → Run
-run p out a = record { printed = p; out = out; arrays = a }
+-- the memory lent: three arrays, and bytes for the text
+pub record Memory : Type 0 where
+  pub arrays : Arrays
+  pub out : List ℕ
+
+abbrev pub holding : Arrays → List ℕ → Memory
+holding a out = record { arrays = a; out = out }
+
+abbrev pub memory : RefT (List ℕ) → RefT (List ℕ) → RefT (List ℕ) → RefT (List ℕ) → Memory
+memory fingerprints parents codes out = holding (lent fingerprints parents codes) (now out)
+
+-- what is answered, and what the memory then holds
+pub record Run : Type 0 where
+  pub printed : Option ℕ
+  pub left : Memory
+
+abbrev pub run : Option ℕ → Memory → Run
+run p m = record { printed = p; left = m }
 
 -- the text is in the first bytes; later ones keep what they held
 abbrev pub textRun : List ℕ → List ℕ → Arrays → Run
-textRun text old a = run (Text (length text)) (over text old) a
+textRun text old a = run (some (length text)) (holding a (over text old))
 
 -- bytes that are too few are refused, and nothing is changed
-unfoldable pub programOf : List ℕ → Arrays → List ℕ → Run
-programOf input lent old =
-    pick (ltb (length old) (roomFor (length (lent .parents)))) (run NoRoom old lent) (textRun (outputWith lent input) old (arraysAfter lent input))
+unfoldable pub programOf : List ℕ → Memory → Run
+programOf input m =
+    pick (ltb (length (m .out)) (roomFor (length (m .arrays .parents)))) (run none m)
+    (textRun (outputWith (m .arrays) input) (m .out) (arraysAfter (m .arrays) input))
+
+-- the program ran on an input, with the memory as it was before and after
+pub record Ran (input : List ℕ) (before after : Memory) (answer : Printed) : Type 0 where
+  pub is : run (toldPrinted answer) after ≡ programOf input before

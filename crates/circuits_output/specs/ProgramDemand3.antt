@@ -20,9 +20,10 @@ use Rattle.tables.specs.Demand3.{NoSmaller}
 use Rattle.tables.specs.Lists.{firstInvalid}
 use Rattle.circuits_text.specs.Allowed.{AllowedLine}
 use Rattle.circuits_lines.specs.Lines.{refusedLine, noneLine, answerLine}
-use Rattle.circuits_lines.specs.Program.{InputLine, ended, readLine, brokenText, queryText, queryTexts, listText, rowText}
-use Rattle.circuits_output.specs.Output.{asks, inputOf, lentArrays, output}
-use Rattle.circuits_output.specs.Allowed.{QueryLine}
+use Rattle.circuits_input.specs.Input.{gives, InputLine, ended, wanted, inputOf}
+use Rattle.circuits_input.specs.Allowed.{QueryLine}
+use Rattle.circuits_output.specs.Texts.{rowText, listText, queryText, queryTexts}
+use Rattle.circuits_output.specs.Output.{lentArrays, output}
 
 -- "has a product equal to a power of omega times the matrix asked": the paper's products, and the list is of the basis
 pub record SameUpToPower (l : Limits) (w : ℕ) (asked m : List ℕ) : Type 0 where
@@ -80,10 +81,10 @@ pub record OutputMeans (input : List ℕ) (l : Limits) (ls : List InputLine) (t 
   -- with its completed depth as the gate limit, and the other limits as they are, a width is not saturated
   pub again : (w : ℕ) → walkOf (limitsOf (l .qubits) (walkOf l w .depth) (l .entries) (l .basis)) w .saturated ≡ false
   -- a query's line prints the text of its list, and this is what that means
-  pub prints : (w : ℕ) (asked line : List ℕ) → QueryLine w asked line → readLine brokenText (ended line) (queryText t m) ≡ listText t m w asked
+  pub prints : (w : ℕ) (asked line : List ℕ) → QueryLine w asked line → queryText t m (ended line) ≡ listText t m w asked
   pub means : (w : ℕ) (asked : List ℕ) → LineMeans l w asked (listText t m w asked)
 
 -- every input that is not refused as a whole, and every line of it
 pub record ProgramDemand3 : Type 0 where
-  pub printed : (input : List ℕ) (l : Limits) (ls : List InputLine) (t : Table) (m : Arrays) → inputOf input ≡ asks l ls
+  pub printed : (input : List ℕ) (l : Limits) (ls : List InputLine) (t : Table) (m : Arrays) → inputOf input ≡ gives (wanted l ls)
       → buildOf l lentArrays ≡ left (table t) m → OutputMeans input l ls t m

@@ -1,22 +1,23 @@
-// The output of the program `circuits`, made in a lent array of bytes. Document 01, "The program circuits".
-ghost use mathlib.Core.List.{_++_};
+// The output of the program `circuits`, made in a lent array of bytes: the table of line one, then a line for each later line.
+ghost use mathlib.Core.Bool.{false};
 ghost use mathlib.Core.Path.{_≡_};
-ghost use Prim.Native.Nat.{_+_, _*_, _≤_, _<_};
-ghost use lib.ListN.{length, drop};
-ghost use Rattle.tables.specs.Checks.{arrays};
-ghost use Rattle.tables.specs.Tables.{buildOf};
+ghost use Prim.Native.Nat.{_+_, _*_, _<_, _≤_};
+ghost use lib.ListN.{length};
+ghost use Rattle.tables.specs.Checks.{placesOf};
+ghost use Rattle.tables.specs.Tables.{recordRow};
 ghost use Rattle.tables.specs.Tables as t;
-ghost use Rattle.murm.specs.Entries.{toldBuilding};
+ghost use Rattle.murm.specs.Entries.{toldBuilding, toldSynthesized};
 ghost use Rattle.murm_config.specs.Told.{toldConfig, toldMurm};
 ghost use Rattle.circuits_text.specs.Writing.{Put};
-ghost use Rattle.circuits_lines.specs.Program.{ended, linesOf, readLine, queryTexts, tableText};
-ghost use Rattle.circuits_output.specs.Output.{broken, firstLimits, firstNumbers, Ready, replyThen, builtText, inputText, inputArrays, roomFor, run, programOf};
-use circuit::GateSet;
-use circuits_text::Line;
+ghost use Rattle.circuits_input.specs.Input.{ended, linesOf};
+ghost use Rattle.circuits_answers.specs.Replies.{lent};
+ghost use Rattle.circuits_output.specs.Texts.{widthText, tableText, replyText, lentList, queryText, queryTexts};
+ghost use Rattle.circuits_output.specs.Output.{Ready, replyThen, roomFor, memory, Ran};
+use circuits_input::Request;
 use circuits_text::NEWLINE;
 use murm::Building;
+use murm::Synthesized;
 use murm_config::Murm;
-use murm_config::MurmConfig;
 use refusal::Refusal;
 
 // What was made: a text of that many bytes, or none, since the lent bytes are too few.
@@ -25,148 +26,143 @@ pub enum Printed {
     NoRoom,
 }
 
-// The queries, from a place of the input on: at most 187 bytes for each byte of the input, where 756 more are left.
-fn put_queries(
-    out: &mut [u8],
-    at: usize,
+// A width of a table: at most 90 bytes and 33 for each of its places, and 10 more are left.
+fn put_width(
     table: Murm,
-    prints: &[u64],
+    width: u32,
     parents: &[u32],
     codes: &[u32],
-    input: &[u8],
-    from: usize,
+    out: &mut [u8],
+    at: usize,
 ) -> usize
-    requires { ⌜ (from ≤ length (now input)) × (at + 187 * length (now input) + 756 ≤ length (now out)) ⌝ }
-    ensures { λ r. ⌜ Put at (queryTexts (toldMurm table) (arrays (now (prints .entry)) (now (parents .entry)) (now (codes .entry))) (linesOf (drop from (now (input .entry))))) r (now (out .entry)) (now (out .exit)) ⌝ }
+    requires { ⌜ (0 < width) × (width ≤ table .config .«max_qubits») ⌝ }
+    requires { ⌜ Ready (t.table (toldMurm table)) (now parents) (now codes) ⌝ }
+    requires { ⌜ at + 33 * table .config .«max_entries_per_qubit» + 100 ≤ length (now out) ⌝ }
+    ensures text { λ r. ⌜ Put at (widthText (toldMurm table) (now (parents .entry)) (now (codes .entry)) width) r (now (out .entry)) (now (out .exit)) ⌝ }
+    ensures most { λ r. ⌜ r ≤ at + 33 * table .config .«max_entries_per_qubit» + 90 ⌝ }
 {
-    let murm = table;
+    let e = table.config.max_entries_per_qubit as usize;
+    let start = (width as usize - 1) * e;
+    let row = murm_config::width_table(table, width);
+    let next = circuits_lines::put_table_line(out, at, width, row);
+    circuits_lines::put_nodes(start, row.count, parents, codes, out, next)
+}
+
+// The widths of a table, rising.
+fn put_widths(table: Murm, parents: &[u32], codes: &[u32], out: &mut [u8]) -> usize
+    requires { ⌜ Ready (t.table (toldMurm table)) (now parents) (now codes) ⌝ }
+    requires { ⌜ table .config .«max_qubits» * (33 * table .config .«max_entries_per_qubit» + 90) + 10 ≤ length (now out) ⌝ }
+    ensures text { λ r. ⌜ Put 0 (tableText (toldMurm table) (now (parents .entry)) (now (codes .entry))) r (now (out .entry)) (now (out .exit)) ⌝ }
+    ensures most { λ r. ⌜ r ≤ table .config .«max_qubits» * (33 * table .config .«max_entries_per_qubit» + 90) ⌝ }
+{
+    let t = table;
+    let q = t.config.max_qubits;
+    let mut p = 0;
+    let mut w = 0;
+    while w < q {
+        p = put_width(t, w + 1, parents, codes, out, p);
+        w += 1;
+    }
+    p
+}
+
+// What a table answered, with the list lent to it: at most 746 bytes, where 756 are left.
+fn put_reply(answer: Synthesized, list: &[u32], out: &mut [u8], at: usize) -> usize
+    requires { ⌜ (at + 756 ≤ length (now out)) × (length (now list) ≤ 64) ⌝ }
+    ensures text { λ r. ⌜ Put at (replyText (toldSynthesized answer) (now (list .entry))) r (now (out .entry)) (now (out .exit)) ⌝ }
+    ensures most { λ r. ⌜ r ≤ at + 746 ⌝ }
+{
+    match answer {
+        Synthesized::Circuit(m) => {
+            if list.len() < m {
+                return circuits_lines::put_answer(out, at, list);
+            }
+            circuits_lines::put_answer(out, at, &list[..m])
+        }
+        Synthesized::Nothing => circuits_text::put_bytes(out, at, b"none\n"),
+        Synthesized::Refused(r) => circuits_lines::put_refused(out, at, r),
+    }
+}
+
+// The list lent to an answer.
+fn list_space() -> [u32; 64]
+    ensures { λ r. ⌜ r ≡ lentList ⌝ }
+{
+    [0; 64]
+}
+
+// A query's line, given without its newline, is answered: at most 746 bytes, where 756 are left.
+fn put_query(
+    table: Murm,
+    fingerprints: &[u64],
+    parents: &[u32],
+    codes: &[u32],
+    line: &[u8],
+    out: &mut [u8],
+    at: usize,
+) -> usize
+    requires { ⌜ at + 756 ≤ length (now out) ⌝ }
+    ensures text { λ r. ⌜ Put at (queryText (toldMurm table) (lent (fingerprints .entry) (parents .entry) (codes .entry)) (ended (now (line .entry)))) r (now (out .entry)) (now (out .exit)) ⌝ }
+    ensures most { λ r. ⌜ r ≤ at + 746 ⌝ }
+{
+    let mut list = list_space();
+    let answer = circuits_answers::answer_line(
+        table,
+        fingerprints,
+        parents,
+        codes,
+        line,
+        &mut list,
+    );
+    put_reply(answer, &list, out, at)
+}
+
+// Each later line: at most 187 bytes for each byte of them, where 756 more are left.
+fn put_queries(
+    table: Murm,
+    fingerprints: &[u64],
+    parents: &[u32],
+    codes: &[u32],
+    later: &[u8],
+    out: &mut [u8],
+    at: usize,
+) -> usize
+    requires { ⌜ at + 187 * length (now later) + 756 ≤ length (now out) ⌝ }
+    ensures { λ r. ⌜ Put at (queryTexts (toldMurm table) (lent (fingerprints .entry) (parents .entry) (codes .entry)) (linesOf (now (later .entry)))) r (now (out .entry)) (now (out .exit)) ⌝ }
+{
+    let t = table;
     let mut p = at;
-    let mut i = from;
-    while i < input.len() {
-        let e = circuits_text::find(input, i, NEWLINE);
-        if input.len() <= e {
+    let mut i = 0;
+    while i < later.len() {
+        let e = circuits_text::find(later, i, NEWLINE);
+        if later.len() <= e {
             return circuits_lines::put_refused(out, p, Refusal::BrokenLine);
         }
-        p = circuits_lines::put_query_line(out, p, murm, prints, parents, codes, &input[i..e]);
+        p = put_query(t, fingerprints, parents, codes, &later[i..e], out, p);
         i = e + 1;
     }
     p
 }
 
-// A built table, and the queries from a place of the input on.
-fn put_table(
-    out: &mut [u8],
-    table: Murm,
-    prints: &[u64],
-    parents: &[u32],
-    codes: &[u32],
-    input: &[u8],
-    from: usize,
-) -> usize
-    requires { ⌜ Ready (t.table (toldMurm table)) (now parents) (now codes) ⌝ }
-    requires { ⌜ (from ≤ length (now input)) × (length (now input) ≤ 16384) × (roomFor (length (now parents)) ≤ length (now out)) ⌝ }
-    ensures { λ r. ⌜ Put 0 (tableText (toldMurm table) (now (parents .entry)) (now (codes .entry)) ++ queryTexts (toldMurm table) (arrays (now (prints .entry)) (now (parents .entry)) (now (codes .entry))) (linesOf (drop from (now (input .entry))))) r (now (out .entry)) (now (out .exit)) ⌝ }
-{
-    let next = circuits_lines::put_widths(out, 0, table, table.config.max_qubits, parents, codes);
-    put_queries(out, next, table, prints, parents, codes, input, from)
-}
-
-// What a build came to: its table and the queries, or its refusal.
-fn put_building(
-    out: &mut [u8],
+// What a build came to: its table and the later lines, or its refusal.
+fn put_built(
     built: Building,
-    prints: &[u64],
+    fingerprints: &[u64],
     parents: &[u32],
     codes: &[u32],
-    input: &[u8],
-    from: usize,
+    later: &[u8],
+    out: &mut [u8],
 ) -> usize
     requires { ⌜ Ready (toldBuilding built) (now parents) (now codes) ⌝ }
-    requires { ⌜ (from ≤ length (now input)) × (length (now input) ≤ 16384) × (roomFor (length (now parents)) ≤ length (now out)) ⌝ }
-    ensures { λ r. ⌜ Put 0 (replyThen (toldBuilding built) (arrays (now (prints .entry)) (now (parents .entry)) (now (codes .entry))) (linesOf (drop from (now (input .entry))))) r (now (out .entry)) (now (out .exit)) ⌝ }
+    requires { ⌜ (length (now later) ≤ 16384) × (roomFor (length (now parents)) ≤ length (now out)) ⌝ }
+    ensures { λ r. ⌜ Put 0 (replyThen (toldBuilding built) (lent (fingerprints .entry) (parents .entry) (codes .entry)) (linesOf (now (later .entry)))) r (now (out .entry)) (now (out .exit)) ⌝ }
 {
     match built {
-        Building::Table(table) => put_table(out, table, prints, parents, codes, input, from),
+        Building::Table(table) => {
+            let next = put_widths(table, parents, codes, out);
+            put_queries(table, fingerprints, parents, codes, later, out, next)
+        }
         Building::Refused(r) => circuits_lines::put_refused(out, 0, r),
-    }
-}
-
-// A table is built in the lent arrays, and it and the queries are put, or the refusal.
-fn put_build(
-    out: &mut [u8],
-    config: MurmConfig,
-    prints: &mut [u64],
-    parents: &mut [u32],
-    codes: &mut [u32],
-    input: &[u8],
-    from: usize,
-) -> usize
-    requires { ⌜ (from ≤ length (now input)) × (length (now input) ≤ 16384) × (roomFor (length (now parents)) ≤ length (now out)) ⌝ }
-    ensures { λ r. ⌜ Put 0 (builtText (arrays (now (prints .entry)) (now (parents .entry)) (now (codes .entry))) (linesOf (drop from (now (input .entry)))) (toldConfig config)) r (now (out .entry)) (now (out .exit)) ⌝ }
-    ensures { λ _. ⌜ arrays (now (prints .exit)) (now (parents .exit)) (now (codes .exit)) ≡ buildOf (toldConfig config) (arrays (now (prints .entry)) (now (parents .entry)) (now (codes .entry))) .arrays ⌝ }
-{
-    let built = murm::build(config, prints, parents, codes);
-    put_building(out, built, prints, parents, codes, input, from)
-}
-
-// The limits of line one.
-fn config_of(numbers: &[u32]) -> MurmConfig
-    requires { ⌜ 4 ≤ length (now numbers) ⌝ }
-    ensures { λ r. ⌜ toldConfig r ≡ firstLimits (now (numbers .entry)) ⌝ }
-{
-    MurmConfig {
-        max_qubits: numbers[0],
-        max_gates: numbers[1],
-        max_entries_per_qubit: numbers[2],
-        basis: GateSet(numbers[3]),
-    }
-}
-
-// Line one by its numbers.
-fn put_numbers(
-    out: &mut [u8],
-    numbers: &[u32],
-    prints: &mut [u64],
-    parents: &mut [u32],
-    codes: &mut [u32],
-    input: &[u8],
-    from: usize,
-) -> usize
-    requires { ⌜ (from ≤ length (now input)) × (length (now input) ≤ 16384) × (roomFor (length (now parents)) ≤ length (now out)) ⌝ }
-    ensures { λ r. ⌜ Put 0 (inputText (arrays (now (prints .entry)) (now (parents .entry)) (now (codes .entry))) (firstNumbers (linesOf (drop from (now (input .entry)))) (now (numbers .entry)))) r (now (out .entry)) (now (out .exit)) ⌝ }
-    ensures { λ _. ⌜ arrays (now (prints .exit)) (now (parents .exit)) (now (codes .exit)) ≡ inputArrays (arrays (now (prints .entry)) (now (parents .entry)) (now (codes .entry))) (firstNumbers (linesOf (drop from (now (input .entry)))) (now (numbers .entry))) ⌝ }
-{
-    if numbers.len() != 4 {
-        return circuits_lines::put_refused(out, 0, Refusal::BrokenLine);
-    }
-    put_build(out, config_of(numbers), prints, parents, codes, input, from)
-}
-
-// Places for the numbers of line one.
-fn number_space() -> [u32; 4]
-    ensures { λ r. ⌜ 4 ≡ length r ⌝ }
-{
-    [0; 4]
-}
-
-// Line one, given without its newline, and the later lines, from a place of the input on.
-fn put_first_line(
-    out: &mut [u8],
-    line: &[u8],
-    prints: &mut [u64],
-    parents: &mut [u32],
-    codes: &mut [u32],
-    input: &[u8],
-    from: usize,
-) -> usize
-    requires { ⌜ (from ≤ length (now input)) × (length (now input) ≤ 16384) × (roomFor (length (now parents)) ≤ length (now out)) ⌝ }
-    ensures { λ r. ⌜ Put 0 (inputText (arrays (now (prints .entry)) (now (parents .entry)) (now (codes .entry))) (readLine broken (ended (now (line .entry))) (firstNumbers (linesOf (drop from (now (input .entry))))))) r (now (out .entry)) (now (out .exit)) ⌝ }
-    ensures { λ _. ⌜ arrays (now (prints .exit)) (now (parents .exit)) (now (codes .exit)) ≡ inputArrays (arrays (now (prints .entry)) (now (parents .entry)) (now (codes .entry))) (readLine broken (ended (now (line .entry))) (firstNumbers (linesOf (drop from (now (input .entry)))))) ⌝ }
-{
-    let mut numbers = number_space();
-    match circuits_text::numbers(line, &mut numbers) {
-        Line::Numbers(n) => put_numbers(out, &numbers[..n], prints, parents, codes, input, from),
-        Line::Broken => circuits_lines::put_refused(out, 0, Refusal::BrokenLine),
     }
 }
 
@@ -184,22 +180,21 @@ fn room(places: usize) -> usize
 // held. Lent bytes that are too few are refused, and nothing is changed.
 pub fn circuits(
     input: &[u8],
-    prints: &mut [u64],
+    fingerprints: &mut [u64],
     parents: &mut [u32],
     codes: &mut [u32],
     out: &mut [u8],
 ) -> Printed
-    ensures { λ r. ⌜ run r (now (out .exit)) (arrays (now (prints .exit)) (now (parents .exit)) (now (codes .exit))) ≡ programOf (now (input .entry)) (arrays (now (prints .entry)) (now (parents .entry)) (now (codes .entry))) (now (out .entry)) ⌝ }
+    ensures { λ r. ⌜ Ran (now (input .entry)) (memory (fingerprints .entry) (parents .entry) (codes .entry) (out .entry)) (memory (fingerprints .exit) (parents .exit) (codes .exit) (out .exit)) r ⌝ }
 {
     if out.len() < room(parents.len()) {
         return Printed::NoRoom;
     }
-    if 16384 < input.len() {
-        return Printed::Text(circuits_lines::put_refused(out, 0, Refusal::LongInput));
+    match circuits_input::read_input(input) {
+        Request::Table(config, from) => {
+            let built = murm::build(config, fingerprints, parents, codes);
+            Printed::Text(put_built(built, fingerprints, parents, codes, &input[from..], out))
+        }
+        Request::Refused(r) => Printed::Text(circuits_lines::put_refused(out, 0, r)),
     }
-    let e = circuits_text::find(input, 0, NEWLINE);
-    if input.len() <= e {
-        return Printed::Text(circuits_lines::put_refused(out, 0, Refusal::BrokenLine));
-    }
-    Printed::Text(put_first_line(out, &input[..e], prints, parents, codes, input, e + 1))
 }

@@ -1,6 +1,7 @@
 -- Reading and writing agree: the decimal digits of a number, up to 4294967295, are a word that is that number. Assumes nothing.
 use mathlib.Core.Bool.{Bool, true, false}
 use mathlib.Core.List.{List, [], _∷_, _++_}
+use mathlib.Core.Option.{some}
 use mathlib.Core.Path.{_≡_, refl, _∙_}
 use Prim.Native.Nat.{ℕ, zero, suc, _+_, _-_, _*_, _/_, _%_, _≤_, _<_}
 use native.Mathlib.Omega.{arith}
@@ -9,7 +10,6 @@ use lib.Dec.{ltb}
 use lib.ListN.{length, length-append}
 use Rattle.ints.specs.Lists.{pick, all}
 use Rattle.ints.proofs.Bools.{both-true}
-use Rattle.circuits_text.specs.declared.Word.the-variants.{Number}
 use Rattle.circuits_text.specs.Reading.{isDigit, valueFrom, value, isNumber, wordOf}
 use Rattle.circuits_text.specs.Writing.{glyph, decimalIn, decimal}
 use Rattle.circuits_text.proofs.Placing.{decimal-short}
@@ -68,7 +68,7 @@ back-in (suc m) n h = by (ltb n 10) refl (λ (l : n / 10 < m). back-in m (n / 10
         let g = ltb-false n 10 e in
         back-more n (decimalIn m (n / 10)) (rest (omega arith))
 
-pub read-back : (n : ℕ) → n ≤ 4294967295 → wordOf (decimal n) ≡ Number n
+pub read-back : (n : ℕ) → n ≤ 4294967295 → wordOf (decimal n) ≡ some n
 unfolding decimal wordOf isNumber
 read-back n h =
     let b = back-in (suc n) n (omega arith) in

@@ -1,6 +1,7 @@
 -- Laws of reading: where a byte is found, what digits write, how a line falls into words. Assumes nothing.
 use mathlib.Core.Bool.{Bool, true, false, _&&_, and-false}
 use mathlib.Core.List.{List, [], _∷_, _++_, append-assoc, append-nil}
+use mathlib.Core.Option.{Option, none, some}
 use mathlib.Core.Path.{_≡_, refl, sym, ap, _∙_}
 use Prim.Native.Nat.{ℕ, suc, _+_, _-_, _*_, _^_, _≤_, _<_}
 use native.Mathlib.Nat.{pow-suc, pow-le-pow-right}
@@ -12,9 +13,6 @@ use lib.ListN.{length, getD, set, take, drop, length-append, length-drop, length
 use lib.Seq.{drop-cons, take-at, take-all, set-at, drop-drop}
 use Rattle.ints.specs.Lists.{pick, all, over}
 use Rattle.ints.proofs.Bools.{clash, both-true, and-left, and-right}
-use Rattle.circuits_text.specs.declared.Word.the-variants.{Number, Other}
-use Rattle.circuits_text.specs.declared.Line.{Line}
-use Rattle.circuits_text.specs.declared.Line.the-variants.{Numbers, Broken}
 use Rattle.circuits_text.specs.Reading.{space, before, sameBytes, longer, words, ReadInto}
 use Rattle.circuits_text.specs.Reading.{isDigit, valueFrom, value, isNumber, wordOf, allNumbers, numbers, lineOf}
 
@@ -123,16 +121,16 @@ pub record Numbering (w : List ℕ) (v i : ℕ) : Type 0 where
   pub same : value w ≡ valueFrom v (drop i w)
   pub digits : all isDigit w ≡ all isDigit (drop i w)
 
-pub word-short : (w : List ℕ) → length w < 1 → wordOf w ≡ Other
+pub word-short : (w : List ℕ) → length w < 1 → wordOf w ≡ none
 unfolding wordOf isNumber
 word-short w h = rw (lt-leb 1 (length w) h)
 
-pub word-long : (w : List ℕ) → 1 ≤ length w → 10 < length w → wordOf w ≡ Other
+pub word-long : (w : List ℕ) → 1 ≤ length w → 10 < length w → wordOf w ≡ none
 unfolding wordOf isNumber
 word-long w g h = rw (le-leb 1 (length w) g, lt-leb (length w) 10 h)
 
 module _ {w : List ℕ} {v i : ℕ} (n : Numbering w v i) where
-  pub word-other : all isDigit (drop i w) ≡ false → wordOf w ≡ Other
+  pub word-other : all isDigit (drop i w) ≡ false → wordOf w ≡ none
   unfolding wordOf isNumber
   word-other h = rw (le-leb 1 (length w) (n .some), le-leb (length w) 10 (n .few), n .digits, h)
 
@@ -144,7 +142,7 @@ module _ {w : List ℕ} {v i : ℕ} (n : Numbering w v i) where
   unfolding valueFrom
   is-value h = n .same ∙ rw (drop-of-length-le w {i = i} h)
 
-  pub word-large : length w ≤ i → 4294967295 < v → wordOf w ≡ Other
+  pub word-large : length w ≤ i → 4294967295 < v → wordOf w ≡ none
   unfolding wordOf isNumber
   word-large h g = rw (le-leb 1 (length w) (n .some), le-leb (length w) 10 (n .few), all-digits h, is-value h, lt-leb v 4294967295 g)
 
@@ -159,7 +157,7 @@ module _ {w : List ℕ} {v i : ℕ} (n : Numbering w v i) where
         digits = n .digits ∙ digit-more w v i h lo hi;
       }
 
-  pub word-number : length w ≤ i → v ≤ 4294967295 → wordOf w ≡ Number v
+  pub word-number : length w ≤ i → v ≤ 4294967295 → wordOf w ≡ some v
   unfolding wordOf isNumber
   word-number h g = rw (le-leb 1 (length w) (n .some), le-leb (length w) 10 (n .few), all-digits h, is-value h, le-leb v 4294967295 g)
 
@@ -211,19 +209,19 @@ words-some (b ∷ bs) = by (eqb b space) (words bs)
     by false [] = omega arith
     by false (w ∷ ws) = omega arith
 
-pub number-is : (w : List ℕ) (v : ℕ) → wordOf w ≡ Number v → (isNumber w ≡ true) × (value w ≡ v)
+pub number-is : (w : List ℕ) (v : ℕ) → wordOf w ≡ some v → (isNumber w ≡ true) × (value w ≡ v)
 unfolding wordOf
 number-is w v h = by (isNumber w) h
   where
-    by : (t : Bool) → pick t (Number (value w)) Other ≡ Number v → (t ≡ true) × (value w ≡ v)
+    by : (t : Bool) → pick t (some (value w)) none ≡ some v → (t ≡ true) × (value w ≡ v)
     by true g = (refl, cc)
     by false g = let z : _≡_ {A = ℕ} 0 1 = cc in absurd (omega arith)
 
-other-is : (w : List ℕ) → wordOf w ≡ Other → isNumber w ≡ false
+other-is : (w : List ℕ) → wordOf w ≡ none → isNumber w ≡ false
 unfolding wordOf
 other-is w h = by (isNumber w) h
   where
-    by : (t : Bool) → pick t (Number (value w)) Other ≡ Other → t ≡ false
+    by : (t : Bool) → pick t (some (value w)) none ≡ none → t ≡ false
     by true g = let z : _≡_ {A = ℕ} 0 1 = cc in absurd (omega arith)
     by false g = refl
 
@@ -291,28 +289,28 @@ unfolding allNumbers numbers
 read-none bytes old =
     record { passed = []; splits = refl; good = refl; count = refl; holds = refl; place = omega arith; room = omega arith; size = refl }
 
-line-whole : (n : ℕ) (ws : List (List ℕ)) → allNumbers ws ≡ true → length ws ≤ n → lineOf n ws ≡ Numbers (length ws)
+line-whole : (n : ℕ) (ws : List (List ℕ)) → allNumbers ws ≡ true → length ws ≤ n → lineOf n ws ≡ some (length ws)
 unfolding lineOf
 line-whole n ws h l = rw (h, le-leb (length ws) n l)
 
-line-other : (n : ℕ) (ws : List (List ℕ)) → allNumbers ws ≡ false → lineOf n ws ≡ Broken
+line-other : (n : ℕ) (ws : List (List ℕ)) → allNumbers ws ≡ false → lineOf n ws ≡ none
 unfolding lineOf
 line-other n ws h = rw h
 
-line-long : (n : ℕ) (ws : List (List ℕ)) → n < length ws → lineOf n ws ≡ Broken
+line-long : (n : ℕ) (ws : List (List ℕ)) → n < length ws → lineOf n ws ≡ none
 unfolding lineOf
 line-long n ws l = rw (lt-leb (length ws) n l, and-false)
 
-line-fits-for : (n m k : ℕ) (t : Bool) → pick (t && leb m n) (Numbers m) Broken ≡ Numbers k → k ≤ n
+line-fits-for : (n m k : ℕ) (t : Bool) → pick (t && leb m n) (some m) none ≡ some k → k ≤ n
 line-fits-for n m k true h = by (leb m n) refl h
   where
-    by : (s : Bool) → leb m n ≡ s → pick s (Numbers m) Broken ≡ Numbers k → k ≤ n
+    by : (s : Bool) → leb m n ≡ s → pick s (some m) none ≡ some k → k ≤ n
     by true e g = let z : m ≡ k = cc in omega (arith, leb-true m n e)
     by false e g = let z : _≡_ {A = ℕ} 0 1 = cc in absurd (omega arith)
 line-fits-for n m k false h = let z : _≡_ {A = ℕ} 0 1 = cc in absurd (omega arith)
 
 -- as many numbers as were read had places
-pub line-fits : {bytes old now : List ℕ} {r : Line} {k : ℕ} → ReadInto bytes old now r → r ≡ Numbers k → k ≤ length old
+pub line-fits : {bytes old now : List ℕ} {r : Option ℕ} {k : ℕ} → ReadInto bytes old now r → r ≡ some k → k ≤ length old
 unfolding lineOf
 line-fits {bytes} {old} {now} {r} {k} h e = line-fits-for (length old) (length (words bytes)) k (allNumbers (words bytes)) (sym (h .is) ∙ e)
 
@@ -321,7 +319,7 @@ module _ {bytes old xs : List ℕ} {p k : ℕ} (r : Reading bytes old xs p k) wh
   held = numbers-length (r .passed) (r .good) ∙ r .count
 
   -- no place is left
-  pub read-full : length xs ≤ k → ReadInto bytes old xs Broken
+  pub read-full : length xs ≤ k → ReadInto bytes old xs none
   read-full h =
       let s = words-some (drop p bytes) in
       let n : length (words bytes) ≡ length (r .passed) + length (words (drop p bytes)) =
@@ -345,7 +343,7 @@ module _ {bytes old xs : List ℕ} {p k : ℕ} (r : Reading bytes old xs p k) wh
         ap (λ (n : ℕ). take n (drop p bytes)) m ∙ before-take space (drop p bytes)
 
     -- the next word is no number
-    pub read-other : wordOf (take (e - p) (drop p bytes)) ≡ Other → ReadInto bytes old xs Broken
+    pub read-other : wordOf (take (e - p) (drop p bytes)) ≡ none → ReadInto bytes old xs none
     read-other h =
         let w = before space (drop p bytes) in
         let o : isNumber w ≡ false = other-is w (sym (ap wordOf part) ∙ h) in
@@ -365,7 +363,7 @@ module _ {bytes old xs : List ℕ} {p k : ℕ} (r : Reading bytes old xs p k) wh
               (sym (ap (take (length old)) m ∙ take-all (length old) (numbers (r .passed)) (omega (arith, held, r .room))));
         }
 
-    module _ (v : ℕ) (free : k < length xs) (is : wordOf (take (e - p) (drop p bytes)) ≡ Number v) where
+    module _ (v : ℕ) (free : k < length xs) (is : wordOf (take (e - p) (drop p bytes)) ≡ some v) where
       abbrev read : List (List ℕ)
       read = r .passed ++ (before space (drop p bytes) ∷ [])
 
@@ -390,13 +388,13 @@ module _ {bytes old xs : List ℕ} {p k : ℕ} (r : Reading bytes old xs p k) wh
           ∙ (over-more (numbers (r .passed)) v old (omega (arith, held, r .size)) ∙ ap (λ (l : List ℕ). over l old) (sym read-numbers)))
 
       -- it is a number, and the line ends
-      pub read-last : length bytes ≤ e → ReadInto bytes old (set xs k v) (Numbers (k + 1))
+      pub read-last : length bytes ≤ e → ReadInto bytes old (set xs k v) (some (k + 1))
       read-last h =
           let l : words (drop p bytes) ≡ before space (drop p bytes) ∷ [] = words-last (drop p bytes) (omega (arith, length-drop p bytes)) in
           let s : words bytes ≡ read = r .splits ∙ ap (λ (ws : List (List ℕ)). r .passed ++ ws) l in
           let n : k + 1 ≤ length old = omega (arith, r .size) in
           record {
-            is = sym (ap (lineOf (length old)) s ∙ (line-whole (length old) read read-good (omega (arith, read-count)) ∙ ap Numbers read-count));
+            is = sym (ap (lineOf (length old)) s ∙ (line-whole (length old) read read-good (omega (arith, read-count)) ∙ ap some read-count));
             holds =
                 read-holds
                 ∙ ap (λ (l : List ℕ). over l old)

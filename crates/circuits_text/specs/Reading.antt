@@ -2,6 +2,7 @@
 -- up to 4294967295, at most ten digits, one space between, every line ended by a newline." Assumes nothing.
 use mathlib.Core.Bool.{Bool, true, false, _&&_}
 use mathlib.Core.List.{List, [], _∷_}
+use mathlib.Core.Option.{Option, none, some}
 use mathlib.Core.Path.{_≡_}
 use Prim.Native.Nat.{ℕ, _+_, _-_, _*_}
 use lib.Dec.{eqb, leb}
@@ -58,9 +59,14 @@ value = valueFrom 0
 unfoldable pub isNumber : List ℕ → Bool
 isNumber w = leb 1 (length w) && (leb (length w) 10 && (all isDigit w && leb (value w) 4294967295))
 
--- what a word is
-unfoldable pub wordOf : List ℕ → Word
-wordOf w = pick (isNumber w) (Number (value w)) Other
+-- what a word says: its number; none where it is anything else
+unfoldable pub wordOf : List ℕ → Option ℕ
+wordOf w = pick (isNumber w) (some (value w)) none
+
+-- the number of each case
+abbrev pub toldWord : Word → Option ℕ
+toldWord (Number n) = some n
+toldWord Other = none
 
 -- every word is a number
 unfoldable pub allNumbers : List (List ℕ) → Bool
@@ -72,11 +78,16 @@ unfoldable pub numbers : List (List ℕ) → List ℕ
 numbers [] = []
 numbers (w ∷ ws) = pick (isNumber w) (value w ∷ numbers ws) []
 
--- what a line is, for a list with that many places: numbers alone, as many as it has words, or broken
-unfoldable pub lineOf : ℕ → List (List ℕ) → Line
-lineOf places ws = pick (allNumbers ws && leb (length ws) places) (Numbers (length ws)) Broken
+-- how many numbers a line is, for a list with that many places: as many as it has words; none where a word is no number, or a place lacks
+unfoldable pub lineOf : ℕ → List (List ℕ) → Option ℕ
+lineOf places ws = pick (allNumbers ws && leb (length ws) places) (some (length ws)) none
+
+-- how many numbers each case has
+abbrev pub toldLine : Line → Option ℕ
+toldLine (Numbers n) = some n
+toldLine Broken = none
 
 -- a line's bytes were read into a list: it holds the numbers up to the first word that is none, as far as it has places
-pub record ReadInto (bytes old now : List ℕ) (line : Line) : Type 0 where
+pub record ReadInto (bytes old now : List ℕ) (line : Option ℕ) : Type 0 where
   pub is : line ≡ lineOf (length old) (words bytes)
   pub holds : now ≡ over (take (length old) (numbers (words bytes))) old

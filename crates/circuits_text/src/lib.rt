@@ -6,7 +6,7 @@ ghost use mathlib.Core.Path.{_≡_};
 ghost use Prim.Native.Nat.{_+_, _<_, _≤_};
 ghost use lib.IntN.{natAbs};
 ghost use lib.ListN.{length, drop};
-ghost use Rattle.circuits_text.specs.Reading.{before, sameBytes, wordOf, ReadInto};
+ghost use Rattle.circuits_text.specs.Reading.{before, sameBytes, wordOf, toldWord, toldLine, ReadInto};
 ghost use Rattle.circuits_text.specs.Writing.{digitOf, decimal, signed, hex, Put};
 ghost use Rattle.circuits_text.specs.Writing.{glyph as glyphOf};
 
@@ -61,7 +61,7 @@ pub fn same_bytes(a: &[u8], b: &[u8]) -> bool
 
 // The number that a word writes.
 pub fn number(word: &[u8]) -> Word
-    ensures { λ r. ⌜ r ≡ wordOf (now (word .entry)) ⌝ }
+    ensures { λ r. ⌜ toldWord r ≡ wordOf (now (word .entry)) ⌝ }
 {
     if word.len() < 1 {
         return Word::Other;
@@ -91,7 +91,7 @@ pub fn number(word: &[u8]) -> Word
 // The numbers of a line, given without its newline, into the first places of the lent list. In a broken line the numbers before the
 // first other word are there, as far as there are places.
 pub fn numbers(line: &[u8], list: &mut [u32]) -> Line
-    ensures { λ r. ⌜ ReadInto (now (line .entry)) (now (list .entry)) (now (list .exit)) r ⌝ }
+    ensures { λ r. ⌜ ReadInto (now (line .entry)) (now (list .entry)) (now (list .exit)) (toldLine r) ⌝ }
 {
     let mut p = 0;
     let mut k = 0;

@@ -37,12 +37,12 @@ fn print_output(out: &[u8], n: usize) {
 // One run of the program. The arrays keep what the last run left there.
 fn replay(
     input: &[u8],
-    prints: &mut [u64],
+    fingerprints: &mut [u64],
     parents: &mut [u32],
     codes: &mut [u32],
     out: &mut [u8],
 ) {
-    match circuits_output::circuits(input, prints, parents, codes, out) {
+    match circuits_output::circuits(input, fingerprints, parents, codes, out) {
         Printed::Text(n) => print_output(out, n),
         Printed::NoRoom => broken(),
     }
@@ -67,7 +67,7 @@ fn long(n: u32) -> usize {
 fn replay_at(
     runs: &[u8],
     at: usize,
-    prints: &mut [u64],
+    fingerprints: &mut [u64],
     parents: &mut [u32],
     codes: &mut [u32],
     out: &mut [u8],
@@ -90,21 +90,21 @@ fn replay_at(
     if runs[end] != NEWLINE {
         return at;
     }
-    replay(&runs[start..end], prints, parents, codes, out);
+    replay(&runs[start..end], fingerprints, parents, codes, out);
     end + 1
 }
 
 // Each run.
 fn replay_all(
     runs: &[u8],
-    prints: &mut [u64],
+    fingerprints: &mut [u64],
     parents: &mut [u32],
     codes: &mut [u32],
     out: &mut [u8],
 ) {
     let mut at = 0;
     while at < runs.len() {
-        let next = replay_at(runs, at, prints, parents, codes, out);
+        let next = replay_at(runs, at, fingerprints, parents, codes, out);
         if next <= at {
             return broken();
         }
@@ -112,12 +112,12 @@ fn replay_all(
     }
 }
 
-// The arrays of a table, with 2,048 places each. "Q × E above 2048 meets refusal 5."
+// The arrays of a table, with as many places as the program lends.
 fn with_output(runs: &[u8], out: &mut [u8]) {
-    let mut prints = [0u64; 2048];
+    let mut fingerprints = [0u64; 2048];
     let mut parents = [0u32; 2048];
     let mut codes = [0u32; 2048];
-    replay_all(runs, &mut prints, &mut parents, &mut codes, out);
+    replay_all(runs, &mut fingerprints, &mut parents, &mut codes, out);
 }
 
 // Room for any output. It is a local, lent to a function, and so is the input: an array that a function returns may stand on the stack

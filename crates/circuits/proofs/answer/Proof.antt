@@ -5,7 +5,7 @@ use Rattle.circuits.proofs.answer.Statement.{statement}
 use Rattle.circuits.proofs.answer.Tie as tie
 
 slice-aggregate-circuits : tie.Need-slice-aggregate-circuits
-slice-aggregate-circuits c = places-count (c .before .before .before .print-space .ensures)
+slice-aggregate-circuits c = places-count (c .before .before .before .fingerprint-space .ensures)
 
 slice-aggregate-circuits-2 : tie.Need-slice-aggregate-circuits-2
 slice-aggregate-circuits-2 c = places-count (c .before .before .before .node-space .ensures)
@@ -20,14 +20,14 @@ returns : tie.Need-returns
 returns c =
     let s = c .before .before .before .before .before .before .before .before .before .before .before .before .before .before .before .before .before .before in
     let d = c .before .before .before .before .before .before .before .before .circuits in
-    let z = zeros-are (c .before .before .before .before .before .before .before .before .before .before .before .before .before .before .before .print-space .ensures) (c .before .before .before .before .before .before .before .before .before .before .before .before .before .before .node-space .ensures) (c .before .before .before .before .before .before .before .before .before .before .before .before .before .node-space2 .ensures) in
+    let z = zeros-are (c .before .before .before .before .before .before .before .before .before .before .before .before .before .before .before .fingerprint-space .ensures) (c .before .before .before .before .before .before .before .before .before .before .before .before .before .before .node-space .ensures) (c .before .before .before .before .before .before .before .before .before .before .before .before .before .node-space2 .ensures) in
     text-put (s .args .input .now) (s .args .out .now) _ z (s .pre) (d .ensures) _ (d .kept .1 .1 .1 .1 .0) (c .before .n .given .1)
 
 returns-2 : tie.Need-returns-2
 returns-2 c =
     let s = c .before .before .before .before .before .before .before .before .before .before .before .before .before .before .before .before .before in
     let d = c .before .before .before .before .before .before .before .circuits in
-    let z = zeros-are (c .before .before .before .before .before .before .before .before .before .before .before .before .before .before .print-space .ensures) (c .before .before .before .before .before .before .before .before .before .before .before .before .before .node-space .ensures) (c .before .before .before .before .before .before .before .before .before .before .before .before .node-space2 .ensures) in
+    let z = zeros-are (c .before .before .before .before .before .before .before .before .before .before .before .before .before .before .fingerprint-space .ensures) (c .before .before .before .before .before .before .before .before .before .before .before .before .before .node-space .ensures) (c .before .before .before .before .before .before .before .before .before .before .before .before .node-space2 .ensures) in
     absurd (some-text (s .args .input .now) (s .args .out .now) _ z (s .pre) (d .ensures) (c .enum-told .given .1))
 
 pub answer-spec : {M : Type 1} → statement M

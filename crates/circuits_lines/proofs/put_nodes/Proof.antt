@@ -1,5 +1,6 @@
 -- `put_nodes` meets its contract. Assumes nothing.
 use Prim.Native.Nat.{_+_, _-_, _*_, _≤_}
+use lib.ListN.{drop}
 use native.Mathlib.Omega.{arith}
 use borrow.Author.Needs.{needs}
 use mathlib.Core.Path.{_≡_, ap}
@@ -10,10 +11,10 @@ use Rattle.circuits_lines.proofs.put_nodes.Statement.{statement}
 use Rattle.circuits_lines.proofs.put_nodes.Tie as tie
 
 abbrev Inv-loop : tie.InvT-loop
-Inv-loop out₀ at parents codes count p₀ i₀ out p i = (i ≤ count) × (p ≤ at + 33 * i) × Laid (nodeLines parents codes i) at p out₀ out
+Inv-loop start count parents codes out₀ at p₀ i₀ out p i = (i ≤ count) × (p ≤ at + 33 * i) × Laid (nodeLines (drop start parents) (drop start codes) i) at p out₀ out
 
 abbrev μ-loop : tie.MeasureT-loop
-μ-loop out₀ at parents codes count p₀ i₀ out p i = count - i
+μ-loop start count parents codes out₀ at p₀ i₀ out p i = count - i
 
 loop-holds : tie.Need-loop-holds Inv-loop μ-loop
 loop-holds c = (omega arith, omega arith, laid-none (nodes-none _ _) (omega arith))
@@ -21,10 +22,11 @@ loop-holds c = (omega arith, omega arith, laid-none (nodes-none _ _) (omega arit
 loop-again : tie.Need-loop-again Inv-loop μ-loop
 loop-again c =
     let l = c .before .before .before .before .before .before .before .loop in
+    let a = c .before .before .before .before .before .before .before .before .before .before .before .args in
     let d = c .before .before .put-node in (
       omega (arith, c .before .before .before .before .before .before .loop-test .taken),
       omega (arith, l .inv .1, d .ensures .1),
-      laid-on (nodes-more _ _ (l .i)) (l .inv .2) (d .ensures .0) (d .kept .0),
+      laid-on (nodes-more (a .parents .now) (a .codes .now) (a .start) (l .i)) (l .inv .2) (d .ensures .0) (d .kept .0),
     )
 
 returns : tie.Need-returns Inv-loop μ-loop
@@ -41,6 +43,8 @@ put-nodes-spec =
     Inv-loop
     μ-loop
     loop-holds
+    (λ c. search needs)
+    (λ c. search needs)
     (λ c. search needs)
     (λ c. search needs)
     (λ c. search needs)

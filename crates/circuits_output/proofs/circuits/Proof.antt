@@ -1,62 +1,67 @@
--- `circuits` meets its contract. Assumes nothing.
-use mathlib.Core.Path.{refl, sym}
+-- `circuits` meets its contract: what the input asks decides. Assumes nothing.
+use mathlib.Core.Path.{refl, sym, ap, subst}
+use Prim.Native.Nat.{ℕ, _≤_}
 use native.Mathlib.Omega.{arith}
 use borrow.Author.Needs.{needs}
-use lib.ListN.{length}
-use lib.Seq.{length-take-le}
-use Rattle.tables.specs.Checks.{Arrays, arrays}
+use lib.ListN.{length, length-drop}
+use Rattle.tables.specs.Checks.{Arrays}
+use Rattle.murm_config.specs.Told.{toldConfig}
+use Rattle.circuits_answers.specs.Replies.{lent}
+use Rattle.circuits_output.specs.Output.{roomFor}
 use Rattle.circuits_output.proofs.Rooms.{some-room}
-use Rattle.circuits_output.proofs.Inputs.{came-as, input-long, input-cut, input-first, program-short, program-came}
+use Rattle.circuits_output.proofs.Builds.{arrays-are, ready}
+use Rattle.circuits_output.proofs.Runs.{placed-as, later-all, built-put, program-short, program-came}
 use Rattle.circuits_output.proofs.circuits.Statement.{statement}
 use Rattle.circuits_output.proofs.circuits.Tie as tie
 
-abbrev lent : tie.Start → Arrays
-lent c = arrays (c .args .prints .now) (c .args .parents .now) (c .args .codes .now)
+abbrev arrays : tie.Start → Arrays
+arrays c = lent (c .args .fingerprints) (c .args .parents) (c .args .codes)
 
 returns : tie.Need-returns
 returns c =
     let s = c .before .before .before .before .before .before .before in
-    program-short (s .args .input .now) (lent s) (s .args .out .now) (omega (arith, c .if1 .taken, c .before .room .ensures))
+    program-short (s .args .input .now) (arrays s) (s .args .out .now) (omega (arith, c .if1 .taken, c .before .room .ensures))
+
+-- the bytes are enough
+enough : (c : tie.Else1) → roomFor (length (c .before .before .before .before .before .before .before .args .parents .now)) ≤ length (c .before .before .before .before .before .before .before .args .out .now)
+enough c = omega (arith, c .if1 .left, c .before .room .ensures)
+
+sub-put-built : tie.Need-sub-put-built
+sub-put-built c = placed-as _ (c .before .before .before .before .before .before .before .before .before .before .before .before .before .before .config .given .1) (c .before .before .before .before .before .before .before .before .before .before .before .before .before .before .before .before .read-input .ensures .placed) .0
+
+part-put-built-start : tie.Need-part-put-built-start
+part-put-built-start c = placed-as _ (c .before .before .before .before .before .before .before .before .before .before .before .before .before .before .config .given .1) (c .before .before .before .before .before .before .before .before .before .before .before .before .before .before .before .before .read-input .ensures .placed) .0
+
+put-built-requires : tie.Need-put-built-requires
+put-built-requires c κs =
+    let s = c .before .before .before .before .before .before .before .before .before .before .before .before .before .before .before .before .before .before .before .before .before .before .before .before .before .before in
+    let b = c .before .before .before .before .before .before .before .before .before .before .before .build in
+    let from = c .before .before .before .before .before .before .before .before .before .before .before .before .before .before .before .before .config .given .0 .1 .0 in
+    let input = s .args .input .now in
+    let p = placed-as input (c .before .before .before .before .before .before .before .before .before .before .before .before .before .before .before .before .config .given .1) (c .before .before .before .before .before .before .before .before .before .before .before .before .before .before .before .before .before .before .read-input .ensures .placed) in (
+      ready (toldConfig (c .before .before .before .before .before .before .before .before .before .before .before .before .before .before .before .before .config .given .0 .0)) (arrays s) _ (b .ensures),
+      (omega (arith, p .1, length-drop from input, ap length (later-all input from)), subst (λ (n : ℕ). roomFor n ≤ length (s .args .out .now)) (sym (b .kept .1 .1 .0)) (enough (c .before .before .before .before .before .before .before .before .before .before .before .before .before .before .before .before .before .before .before))),
+    )
 
 put-refused-requires : tie.Need-put-refused-requires
-put-refused-requires c κs =
-    let s = c .before .before .before .before .before .before .before .before .before .args in
-    omega (arith, some-room (length (s .parents .now)) (length (s .out .now)) (omega (arith, c .before .before .if1 .left, c .before .before .before .room .ensures)))
+put-refused-requires c κs = omega (arith, some-room _ _ (enough (c .before .before .before .before .before)))
 
 returns-2 : tie.Need-returns-2
 returns-2 c =
-    let s = c .before .before .before .before .before .before .before .before .before .before .before .before in
+    let s = c .before .before .before .before .before .before .before .before .before .before .before .before .before .before .before .before .before .before .before .before .before .before .before .before .before .before .before .before .before in
+    let b = c .before .before .before .before .before .before .before .before .before .before .before .before .before .before .build in
+    let l = toldConfig (c .before .before .before .before .before .before .before .before .before .before .before .before .before .before .before .before .before .before .before .config .given .0 .0) in
+    let from = c .before .before .before .before .before .before .before .before .before .before .before .before .before .before .before .before .before .before .before .config .given .0 .1 .0 in
     let input = s .args .input .now in
-    program-came input (lent s) (s .args .out .now) (omega (arith, c .before .before .before .before .before .if1 .left, c .before .before .before .before .before .before .room .ensures))
-    (came-as (lent s) _ _ _ _ (input-long input (omega (arith, c .before .before .before .before .if2 .taken))) (c .before .before .put-refused .ensures .0, refl))
-
-put-refused-requires-2 : tie.Need-put-refused-requires-2
-put-refused-requires-2 c κs =
-    let s = c .before .before .before .before .before .before .before .before .before .before .before .args in
-    omega (arith, some-room (length (s .parents .now)) (length (s .out .now)) (omega (arith, c .before .before .before .before .if1 .left, c .before .before .before .before .before .room .ensures)))
+    program-came input (arrays s) (s .args .out .now) (enough (c .before .before .before .before .before .before .before .before .before .before .before .before .before .before .before .before .before .before .before .before .before .before)) (c .before .before .before .before .before .before .before .before .before .before .before .before .before .before .before .before .before .before .before .config .given .1) (c .before .before .before .before .before .before .before .before .before .before .before .before .before .before .before .before .before .before .before .before .before .read-input .ensures .is) (
+      built-put l (arrays s) input from (b .ensures) (c .before .before .put-built .ensures),
+      arrays-are l (arrays s) (b .ensures),
+    )
 
 returns-3 : tie.Need-returns-3
 returns-3 c =
-    let s = c .before .before .before .before .before .before .before .before .before .before .before .before .before .before in
-    let input = s .args .input .now in
-    program-came input (lent s) (s .args .out .now) (omega (arith, c .before .before .before .before .before .before .before .if1 .left, c .before .before .before .before .before .before .before .before .room .ensures))
-    (came-as (lent s) _ _ _ _ (input-cut input (omega (arith, c .before .before .before .before .before .before .if2 .left)) (omega (arith, c .before .before .before .before .if3 .taken, c .before .before .before .before .before .find .ensures .0)))
-    (c .before .before .put-refused2 .ensures .0, refl))
-
-slice-aggregate-put-first-line : tie.Need-slice-aggregate-put-first-line
-slice-aggregate-put-first-line c = sym (length-take-le (c .before .before .before .find .result) (c .before .before .before .before .before .before .before .before .before .before .before .before .args .input .now) (search needs))
-
-put-first-line-requires : tie.Need-put-first-line-requires
-put-first-line-requires c κs = (search needs, omega (arith, c .before .before .before .before .before .before .before .if2 .left), omega (arith, c .before .before .before .before .before .before .before .before .if1 .left, c .before .before .before .before .before .before .before .before .before .room .ensures))
-
-returns-4 : tie.Need-returns-4
-returns-4 c =
-    let s = c .before .before .before .before .before .before .before .before .before .before .before .before .before .before .before .before .before .before .before .before .before .before .before .before in
-    let input = s .args .input .now in
-    let f = c .before .before .before .before .before .before .before .before .before .before .before .before .before .before .before .find .ensures in
-    program-came input (lent s) (s .args .out .now) (omega (arith, c .before .before .before .before .before .before .before .before .before .before .before .before .before .before .before .before .before .if1 .left, c .before .before .before .before .before .before .before .before .before .before .before .before .before .before .before .before .before .before .room .ensures))
-    (came-as (lent s) _ _ _ _ (input-first input (c .before .before .before .before .before .before .before .before .before .before .before .before .before .before .before .find .result) (omega (arith, c .before .before .before .before .before .before .before .before .before .before .before .before .before .before .before .before .if2 .left)) (omega (arith, f .0)) (omega (arith, c .before .before .before .before .before .before .before .before .before .before .before .before .before .before .if3 .left)))
-    (c .before .before .before .before .before .before .before .before .put-first-line .ensures))
+    let s = c .before .before .before .before .before .before .before .before .before .before .before .before .before .before .before in
+    program-came (s .args .input .now) (arrays s) (s .args .out .now) (enough (c .before .before .before .before .before .before .before .before)) (c .before .before .before .before .before .r .given .1) (c .before .before .before .before .before .before .before .read-input .ensures .is) (c .before .before .put-refused .ensures .0, refl)
 
 pub circuits-spec : {M : Type 1} → statement M
 circuits-spec =
@@ -64,18 +69,19 @@ circuits-spec =
     (tie.spec
     (λ c κs. search needs)
     returns
+    (λ c κs. search needs)
+    (λ c. search needs)
+    (λ c κs. search needs)
+    sub-put-built
+    part-put-built-start
+    (λ c. search needs)
+    put-built-requires
+    (λ c. search needs)
     put-refused-requires
     (λ c. search needs)
+    (λ c. search needs)
+    (λ c. search needs)
+    (λ c. search needs)
     returns-2
-    (λ c κs. search needs)
-    put-refused-requires-2
     (λ c. search needs)
-    returns-3
-    slice-aggregate-put-first-line
-    (λ c. search needs)
-    put-first-line-requires
-    (λ c. search needs)
-    (λ c. search needs)
-    (λ c. search needs)
-    (λ c. search needs)
-    returns-4)
+    returns-3)

@@ -10,28 +10,24 @@ use Rattle.circuits_output.proofs.put_queries.Statement.{statement}
 use Rattle.circuits_output.proofs.put_queries.Tie as tie
 
 abbrev Inv-loop : tie.InvT-loop
-Inv-loop out₀ at prints parents codes input from murm p₀ i₀ out p i = Asking (toldMurm murm) (arrays prints parents codes) input from at out₀ out p i × (from ≤ length input) × (at + 187 * length input + 756 ≤ length out₀)
+Inv-loop fingerprints parents codes later out₀ at t p₀ i₀ out p i =
+    Asking (toldMurm t) (arrays fingerprints parents codes) later at out₀ out p i × (at + 187 * length later + 756 ≤ length out₀)
 
 abbrev μ-loop : tie.MeasureT-loop
-μ-loop out₀ at prints parents codes input from murm p₀ i₀ out p i = length input - i
+μ-loop fingerprints parents codes later out₀ at t p₀ i₀ out p i = length later - i
 
 loop-holds : tie.Need-loop-holds Inv-loop μ-loop
-loop-holds c = (asking-none _ _ (search needs) (search needs), search needs, search needs)
+loop-holds c = (asking-none _ _ _ (search needs), search needs)
 
 returns : tie.Need-returns Inv-loop μ-loop
-returns c =
-    let l = c .before .before .before .before .before .before .before .loop in
-    let f = c .before .before .before .before .before .find .ensures in
-    asking-cut (l .inv .0) _ (f .0) (search needs) (search needs) (c .before .before .put-refused .ensures .0)
+returns c = asking-cut (c .before .before .before .before .before .before .before .loop .inv .0) _ (c .before .before .before .before .before .find .ensures .0) (search needs) (search needs) (c .before .before .put-refused .ensures .0)
 
 loop-again : tie.Need-loop-again Inv-loop μ-loop
 loop-again c =
     let l = c .before .before .before .before .before .before .before .before .loop in
-    let f = c .before .before .before .before .before .before .find .ensures in
-    let d = c .before .before .put-query-line in (
-      asking-on (l .inv .0) _ (f .0) (search needs) (search needs) (d .ensures .0) (d .ensures .1) (d .kept .0),
+    let d = c .before .before .put-query in (
+      asking-on (l .inv .0) _ (c .before .before .before .before .before .before .find .ensures .0) (search needs) (search needs) (d .ensures .0) (d .ensures .1) (d .kept .1 .1 .1 .1 .1 .0),
       l .inv .1,
-      l .inv .2,
     )
 
 returns-2 : tie.Need-returns-2 Inv-loop μ-loop

@@ -1,0 +1,92 @@
+// A query of the program `circuits` is answered: its line is read, its list's matrix is formed, and the table is asked for it.
+ghost use mathlib.Core.Path.{_≡_};
+ghost use Prim.Native.Nat.{_≤_};
+ghost use lib.ListN.{length};
+ghost use Rattle.murm_config.specs.Told.{toldMurm};
+ghost use Rattle.circuits_input.specs.Input.{ended};
+ghost use Rattle.circuits_answers.specs.Replies.{lent, told, lentCount, lentMost, listReply, lineReply};
+use circuits_input::Question;
+use cyclotomic::Coefficient;
+use murm::Listed;
+use murm::Synthesized;
+use murm_config::Murm;
+
+// How many coefficients a list's matrix has; none for a width that is refused.
+pub fn coefficient_count(width: u32) -> usize
+    ensures count { λ r. ⌜ r ≡ lentCount width ⌝ }
+    ensures most { λ r. ⌜ r ≤ 4096 ⌝ }
+{
+    if 5 < width {
+        return 0;
+    }
+    4 * places::area(width as usize)
+}
+
+// Places for the largest matrix.
+pub fn coefficient_space() -> [Coefficient; 4096]
+    ensures { λ r. ⌜ r ≡ lentMost ⌝ }
+{
+    [0; 4096]
+}
+
+// A list's matrix is formed and asked of the table. The answer fills the first places of `list`.
+fn answer_list(
+    table: Murm,
+    width: u32,
+    fingerprints: &[u64],
+    parents: &[u32],
+    codes: &[u32],
+    gates: &[u32],
+    list: &mut [u32],
+) -> Synthesized
+    ensures { λ r. ⌜ told r (now (list .exit)) ≡ listReply (toldMurm table) (lent (fingerprints .entry) (parents .entry) (codes .entry)) width (now (gates .entry)) (now (list .entry)) ⌝ }
+{
+    let mut space = coefficient_space();
+    let n = coefficient_count(width);
+    match murm::library_circuit_matrix(width, gates, &mut space[..n]) {
+        Listed::Matrix(k) => murm::synthesize(
+            table,
+            fingerprints,
+            parents,
+            codes,
+            width,
+            k,
+            &space[..n],
+            list,
+        ),
+        Listed::Refused(r) => Synthesized::Refused(r),
+    }
+}
+
+// Places for the numbers of a query: a width, a count, 256 codes.
+fn number_space() -> [u32; 258]
+    ensures { λ r. ⌜ 258 ≡ length r ⌝ }
+{
+    [0; 258]
+}
+
+// A query's line, given without its newline, is read and answered.
+pub fn answer_line(
+    table: Murm,
+    fingerprints: &[u64],
+    parents: &[u32],
+    codes: &[u32],
+    line: &[u8],
+    list: &mut [u32],
+) -> Synthesized
+    ensures { λ r. ⌜ told r (now (list .exit)) ≡ lineReply (toldMurm table) (lent (fingerprints .entry) (parents .entry) (codes .entry)) (ended (now (line .entry))) (now (list .entry)) ⌝ }
+{
+    let mut numbers = number_space();
+    match circuits_input::read_query(line, &mut numbers) {
+        Question::List(width, end) => answer_list(
+            table,
+            width,
+            fingerprints,
+            parents,
+            codes,
+            &numbers[2..end],
+            list,
+        ),
+        Question::Refused(r) => Synthesized::Refused(r),
+    }
+}

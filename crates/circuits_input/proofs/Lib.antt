@@ -1,0 +1,5 @@
+pub mod InputLines
+pub mod LineReads
+pub mod Inputs
+pub mod Accepts
+pub mod Example

@@ -1,4 +1,4 @@
--- What a table answers to a list, and to a later line of the input. Assumes nothing.
+-- What a table answers to a list, and to a later line of the input (SPECIFICATION 10.6). Assumes nothing.
 use mathlib.Core.List.{List}
 use Prim.Native.Nat.{ℕ}
 use denote.Ref.{RefT, now}

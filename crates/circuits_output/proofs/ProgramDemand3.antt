@@ -1,4 +1,4 @@
--- Demand 3 of the program's lines, from demand 3 of the entries. Assumes nothing.
+-- Demand 3 of the program's lines, from demand 3 of the entries (SPECIFICATION 8.3 to 8.5). Assumes nothing.
 use mathlib.Core.Path.{_≡_, refl, sym, ap, _∙_, subst}
 use mathlib.Core.Bool.{Bool, true, false}
 use mathlib.Core.Logic.{_⊎_, ⊎-elim}

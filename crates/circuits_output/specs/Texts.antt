@@ -1,4 +1,4 @@
--- What a table and a query print. Assumes nothing.
+-- What a table and a query print (SPECIFICATION 10.5, 10.6). Assumes nothing.
 use mathlib.Core.List.{List, [], _∷_, _++_}
 use Prim.Native.Nat.{ℕ}
 use lib.ListN.{take, replicate}
@@ -40,7 +40,7 @@ replyText (a.refused number position) list = refusedLine number position
 abbrev pub answerText : a.Outcome → List ℕ
 answerText o = replyText (o .reply) (o .list)
 
--- the list that is lent to an answer: 64 places, as many as G is at most
+-- the list that is lent to an answer: 64 places, the largest gate limit (SPECIFICATION 6.1, 10.6)
 unfoldable pub lentList : List ℕ
 lentList = replicate 64 0
 

@@ -1,6 +1,5 @@
 // Lines of numbers as bytes: numbers are read from a line's words, and written as decimal, signed decimal and hexadecimal digits.
-// Document 01, "The program circuits": "Numbers are unsigned, up to 4294967295, at most ten digits, one space between, every line ended
-// by a newline."
+// What a number and a line are: SPECIFICATION 10.2.
 ghost use mathlib.Core.List.{[], _∷_};
 ghost use mathlib.Core.Path.{_≡_};
 ghost use Prim.Native.Nat.{_+_, _<_, _≤_};
@@ -88,8 +87,8 @@ pub fn number(word: &[u8]) -> Word
     Word::Number(v as u32)
 }
 
-// The numbers of a line, given without its newline, into the first places of the lent list. In a broken line the numbers before the
-// first other word are there, as far as there are places.
+// Reads the numbers of a line, given without its newline, into the lent list, from its first place on. Of a broken line it has the numbers
+// before the first other word, as far as there are places.
 pub fn numbers(line: &[u8], list: &mut [u32]) -> Line
     ensures { λ r. ⌜ ReadInto (now (line .entry)) (now (list .entry)) (now (list .exit)) (toldLine r) ⌝ }
 {

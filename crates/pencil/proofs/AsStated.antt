@@ -1,4 +1,4 @@
--- The table's one lemma: every row computes to what document 01 states. Assumes nothing.
+-- The table's one lemma: every row computes to what the specification states (SPECIFICATION 11.1). Assumes nothing.
 use mathlib.Core.Path.{_≡_, refl}
 use mathlib.Core.List.{map}
 use Rattle.ints.specs.Bits.{bit}

@@ -16,7 +16,7 @@ use next_node::Tried;
 use node_matrix::Candidate;
 use synthesis_arena::WidthLimits;
 
-// One candidate: a generator after a node, whose matrix is at hand.
+// One candidate: a generator after a node, whose matrix is handed over.
 fn try_candidate(
     limits: WidthLimits,
     count: usize,

@@ -1,4 +1,4 @@
--- The eleven kinds of gate and what each has: its number, its operands, the kind that undoes it. Assumes nothing.
+-- The eleven kinds of gate and what each has: its number, its operands, the kind that undoes it (SPECIFICATION 2.1). Assumes nothing.
 use mathlib.Core.Bool.{Bool}
 use mathlib.Core.List.{List, [], _∷_}
 use Prim.Native.Nat.{ℕ}

@@ -13,7 +13,7 @@ pub type Coefficient = i8;
 
 pub type Wide = i16;
 
-// The largest coefficient, either way.
+// The largest coefficient, and the negative of the least one.
 pub const LIMIT: Wide = 127;
 
 pub struct Cyclotomic {
@@ -113,7 +113,7 @@ fn narrowed(a: Wide, b: Wide, c: Wide, d: Wide) -> Checked
     })
 }
 
-// The size of a coefficient.
+// The size of a coefficient: its absolute value.
 fn size(x: Coefficient) -> Wide
     ensures { λ r. ⌜ r ≡ pos (natAbs x) ⌝ }
 {
@@ -316,7 +316,7 @@ impl Cyclotomic {
         }
     }
 
-    // Whether this comes before the other, compared as four signed numbers.
+    // Whether this comes before the other: by a, then b, then c, then d, as signed numbers.
     pub fn less_than(self, rhs: Cyclotomic) -> bool
         ensures { λ r. ⌜ r ≡ less self rhs ⌝ }
     {

@@ -106,7 +106,7 @@ fn h_rows(m: &mut [Coefficient; 4096], n: usize, t: usize)
     }
 }
 
-// H on bit t, the exponent left to the caller. A refusal leaves the places as they were.
+// H on bit t (SPECIFICATION 3.2), the exponent left to the caller. A refusal leaves the places as they were.
 pub fn apply_h_left(m: &mut [Coefficient; 4096], n: usize, t: usize) -> bool
     requires { ⌜ length (now m) ≡ places ⌝ }
     requires { ⌜ (n ≤ 5) × (t < n) ⌝ }

@@ -13,7 +13,7 @@ use circuit::LibraryGate;
 use cyclotomic::Coefficient;
 use matrix::Applied;
 
-// How a list ended: all its steps fit, and the exponent; or the position of the first that does not fit.
+// How a list ended: all its steps fit, and the exponent; or the position of the first that does not fit (SPECIFICATION 3.6).
 pub enum Walked {
     Fits(u16),
     UnfitAt(usize),

@@ -17,10 +17,10 @@ use circuit::LibraryGate;
 use cyclotomic::Coefficient;
 use cyclotomic::Cyclotomic;
 
-// The largest exponent, `mostK` of the definitions: "or k past 65535, is 'does not fit'".
+// The largest exponent, `mostK` of the definitions: a step whose raw result has a larger one does not fit (SPECIFICATION 3.4).
 const MOST_K: u16 = 65535;
 
-// What a gate left: the exponent, or that a coefficient or the exponent passes its limit.
+// What a gate left: the exponent, or that its step does not fit, by a coefficient or by the exponent (SPECIFICATION 3.4).
 pub enum Applied {
     Done(u16),
     DoesNotFit,
@@ -65,7 +65,7 @@ impl UnitaryMatrix {
     }
 }
 
-// While k > 0 and every entry is divisible by sqrt(2), all are divided and k falls by one. Returns k.
+// Lowering (SPECIFICATION 1.9): while k > 0 and every entry is divisible by sqrt(2), all are divided and k falls by one. Returns k.
 pub fn normalize_denominator(m: &mut [Coefficient; 4096], n: usize, k: u16) -> u16
     requires { ⌜ length (now m) ≡ places ⌝ }
     requires { ⌜ n ≤ 5 ⌝ }
@@ -120,7 +120,7 @@ fn h_step(m: &mut [Coefficient; 4096], n: usize, t: usize, k: u16) -> Applied
     Applied::Done(normalize_denominator(m, n, k + 1))
 }
 
-// The bit of a row's number that stands for qubit q: qubit 0 is the most significant.
+// The bit of a row's number that stands for qubit q: qubit 0 is the highest (SPECIFICATION 1.6).
 fn row_bit(n: usize, q: u32) -> usize
     ensures { λ r. ⌜ r ≡ bitOf n q ⌝ }
 {

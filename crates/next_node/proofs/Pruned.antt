@@ -1,4 +1,4 @@
--- The two skip rules, as the code goes. Assumes nothing.
+-- The two skip rules (SPECIFICATION 6.5), in each case of the code. Assumes nothing.
 use mathlib.Core.Path.{_≡_, refl, sym, _∙_}
 use mathlib.Core.Bool.{true, false, _||_, _&&_}
 use mathlib.Core.List.{List}

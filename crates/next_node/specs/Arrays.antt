@@ -25,13 +25,13 @@ pub record Columns (lim : WidthLimits) (f0 u0 c0 : List ℕ) (ns : List Node) (f
   pub parents : Column parentOf u0 ns u count
   pub gates : Column gate c0 ns c count
 
--- the arrays have room for all entries
+-- each array has room for as many nodes as the entry limit allows
 pub record Long (lim : WidthLimits) (f u c : List ℕ) : Type 0 where
   pub in-f : lim .entries ≤ length f
   pub in-u : lim .entries ≤ length u
   pub in-c : lim .entries ≤ length c
 
--- no more nodes than entries, the node at hand one of them, and room for all entries
+-- no more nodes than the entry limit, the node that is tried one of them, and room for all that the entry limit allows
 pub record Room (lim : WidthLimits) (count node : ℕ) (f u c : List ℕ) : Type 0 where
   pub few : count ≤ lim .entries
   pub there : node < count

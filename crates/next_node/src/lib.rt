@@ -9,7 +9,7 @@ use circuit::LibraryGate;
 use synthesis_arena::Found;
 use synthesis_arena::WidthLimits;
 
-// How many nodes there are now, and whether one more was wanted than there may be.
+// How many nodes there are now, and whether the width is saturated (SPECIFICATION 6.8).
 pub struct Tried {
     pub count: usize,
     pub saturated: bool,

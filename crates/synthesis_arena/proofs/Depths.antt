@@ -1,4 +1,4 @@
--- Laws of a node's depth: as the code goes, and as the specification has it. Assumes nothing.
+-- Laws of a node's depth: in each case of the code, and as the definition has it. Assumes nothing.
 use mathlib.Core.Path.{_≡_, refl, sym, ap, _∙_}
 use mathlib.Core.Bool.{true, false}
 use mathlib.Core.List.{List, [], _∷_}
@@ -37,7 +37,7 @@ module _ (n basis : ℕ) (parents codes : List ℕ) where
   pub depths : (limit node : ℕ) → Depths n basis limit parents codes node
   depths limit node = record { root-depth = λ l e. root-depth limit node e; one-more = λ l e. one-more limit node e }
 
-  -- ---- the depth, as the code goes
+  -- ---- the depth, in each case of the code
 
   module _ (limit node : ℕ) where
     refused-by : Fault n basis limit parents codes node → refused 13 0 ≡ depthOf (chain limit node)
@@ -74,7 +74,7 @@ module _ (n basis : ℕ) (parents codes : List ℕ) where
             by (good l) f = let z : _≡_ {A = ℕ} 0 1 = cc in absurd (omega arith)
             by bad f = refl
 
-    -- a depth is that of a good chain, within the limit
+    -- a depth is that of a good chain, within the gate limit
     pub record Deep (m : ℕ) : Type 0 where
       pub list : List ℕ
       pub is : chainOf n basis parents codes limit node ≡ good list

@@ -1,4 +1,4 @@
--- The gates of a good chain, written from the last place down while the walk goes along the parents. Assumes nothing.
+-- The gates of a good chain, written from the last place down along the way. Assumes nothing.
 use mathlib.Core.Path.{_≡_, refl, sym, ap, _∙_}
 use mathlib.Core.List.{List, [], _∷_, _++_, append-assoc, append-nil}
 use Prim.Native.Nat.{ℕ, suc, _+_, _-_, _≤_, _<_}
@@ -18,7 +18,7 @@ empty [] e = refl
 empty (x ∷ l) e = absurd (omega arith)
 
 module _ (n basis : ℕ) (parents codes : List ℕ) (limit node : ℕ) (old : List ℕ) where
-  -- i gates of the chain are written and stand behind the rest, whose last gate is that of the node `at`
+  -- i gates of the chain are written and stand after the rest, whose last gate is that of the node `at`
   pub record Writing (size i at : ℕ) (out : List ℕ) : Type 0 where
     pub rest : List ℕ
     pub done : List ℕ

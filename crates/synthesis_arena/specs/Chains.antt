@@ -10,7 +10,7 @@ use Rattle.synthesis_arena.specs.declared.NodeDepth.the-variants as d
 use Rattle.synthesis_arena.specs.declared.NodeCircuit.{NodeCircuit}
 use Rattle.synthesis_arena.specs.declared.NodeCircuit.the-variants as c
 
--- "The depth of a node": how many gates its list has
+-- the depth of a node: how many gates its list has; a bad chain is refused by 13 (SPECIFICATION 7.5)
 abbrev pub depthOf : Chain → Answer
 depthOf (good l) = given (length l)
 depthOf bad = refused 13 0
@@ -23,7 +23,8 @@ pub record ChainWritten : Type 0 where
 abbrev pub written : Answer → List ℕ → ChainWritten
 written a l = record { answer = a; list = l }
 
--- "An answer fills the first places of the lent list; later places .. keep their content"; a refusal "leaves lent memory unchanged"
+-- a good chain's gates fill the first places of the lent list, and the later places keep what they held; with a bad chain all do (SPECIFICATION
+-- 7.7)
 abbrev pub circuitOf : Chain → List ℕ → ChainWritten
 circuitOf (good l) out = written (given (length l)) (l ++ drop (length l) out)
 circuitOf bad out = written (refused 13 0) out
@@ -37,7 +38,7 @@ abbrev pub toldCircuit : NodeCircuit → Answer
 toldCircuit (c.Length m) = given m
 toldCircuit c.Bad = refused 13 0
 
--- "0 at the root and otherwise one more than its parent's"
+-- the depth of a node by its parent's: one more, and refused where that is
 abbrev pub oneMore : Answer → Answer
 oneMore (given m) = given (suc m)
 oneMore (refused r p) = refused r p

@@ -1,6 +1,6 @@
 // One width's part of a table, in three lent arrays: fingerprints, parents, gate codes. synthesis_arena.rs of the original, `WidthTable`:
-// a node is its last gate and the node that holds the rest, and its circuit is read by walking to node 0. Whatever the arrays hold is
-// decided: "Only caller-altered tables meet 13."
+// a node is its last gate and its parent, which has the gates before it, and its list is read along the parents to node 0 (SPECIFICATION 7.4,
+// 7.5). Whatever the arrays hold is decided; a chain is bad only where a caller made or altered the table.
 ghost use mathlib.Core.Path.{_≡_};
 ghost use mathlib.Core.Bool.{false};
 ghost use Prim.Native.Nat.{ℕ, _%_, _<_, _≤_};
@@ -12,7 +12,7 @@ ghost use Rattle.walk.specs.Chains.{marked, chainOf};
 use circuit::GateSet;
 use circuit::LibraryGate;
 
-// "Its parent and gate both read 4294967295."
+// The mark: node 0 has it in the place of a parent and of a code (SPECIFICATION 2.10).
 pub const MARK: u32 = 4294967295;
 
 // The limits of a width: its number, the basis as a set, the gate limit, the entry limit.
@@ -29,13 +29,13 @@ pub enum Found {
     NotFound,
 }
 
-// How deep a node lies, or that its chain is bad.
+// The depth of a node, or that its chain is bad.
 pub enum NodeDepth {
     At(usize),
     Bad,
 }
 
-// How many gates a node's circuit has, or that its chain is bad.
+// How many gates a node's list has, or that its chain is bad.
 pub enum NodeCircuit {
     Length(usize),
     Bad,
@@ -80,7 +80,7 @@ fn skip_blocks(fingerprints: &[u64], count: usize, from: usize, fingerprint: u64
     i
 }
 
-// "The lowest node of that width with its fingerprint", of those from a place on and below the count.
+// The lowest node that has the fingerprint, of those from a place on and below the count (SPECIFICATION 7.4).
 pub fn node_for(fingerprints: &[u64], count: usize, from: usize, fingerprint: u64) -> Found
     requires { ⌜ count ≤ length (now fingerprints) ⌝ }
     ensures { λ r. ⌜ toldFound r ≡ lowestFrom (now (fingerprints .entry)) count from fingerprint ⌝ }
@@ -109,8 +109,8 @@ fn is_marked(parents: &[u32], codes: &[u32]) -> bool
     codes[0] == MARK
 }
 
-// "The depth of a node is 0 at the root and otherwise one more than its parent's; it is worked by recursion on the node number", which
-// falls because a parent lies below its node. The limit falls by one with each gate, so that no more than limit + 1 calls are open.
+// The depth of a node: 0 for node 0, and for another one more than its parent's (SPECIFICATION 7.5). The recursion is on the node's number, which
+// falls because a parent lies below its node. The gate limit falls by one with each gate, so that no more than `limit` + 1 calls are open.
 pub fn depth(
     parents: &[u32],
     codes: &[u32],
@@ -144,8 +144,8 @@ pub fn depth(
     }
 }
 
-// "Its list is read by walking parents, oldest gate first." The gates fill the first places of `out`; later places, and on a bad chain all
-// of them, keep their content.
+// The list of a node, read along its parents, oldest gate first. The gates fill the first places of `out`; later places, and on a bad chain all
+// of them, keep what they held (SPECIFICATION 7.5, 7.7).
 pub fn circuit(
     parents: &[u32],
     codes: &[u32],

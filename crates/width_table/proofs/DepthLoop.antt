@@ -96,7 +96,7 @@ module _ (lim : WidthLimits) (f0 u0 c0 : List ℕ) (goal : Build) where
           sym (ap (λ (t : Bool). pick t (between (r .ns) lo d) (depths R E (settled (between (r .ns) lo d) next) (G - suc d))) e)
           ∙ ap (depths R E (between (r .ns) lo d)) z ∙ r .rest
 
-      -- the depth was cut off, or walked to its end
+      -- the width was saturated within the depth, or the depth was walked to its end
       abbrev cut : Build
       cut = record { nodes = next .nodes; last = lo; depth = d; saturated = true }
 

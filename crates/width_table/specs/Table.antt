@@ -1,5 +1,5 @@
--- What the loops of a width leave in the three arrays: the contracts of `try_node`, `deepen`, `deepen_all` and `build_width`. f, u, c are the
--- arrays of fingerprints, parents and codes before a call, f′, u′, c′ after it. Assumes nothing.
+-- What the loops of a width leave in the three arrays: the contracts of `deepen`, `deepen_all` and `build_width`. f, u, c are the arrays of
+-- fingerprints, parents and codes before a call, f′, u′, c′ after it. Assumes nothing.
 use mathlib.Core.Path.{_≡_}
 use mathlib.Core.Bool.{Bool}
 use mathlib.Core.List.{List, [], _∷_}

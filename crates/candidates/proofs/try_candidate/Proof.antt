@@ -1,4 +1,5 @@
--- `try_candidate` meets its contract: a candidate that is pruned or does not fit is skipped, and any other goes to `append`. Assumes nothing.
+-- `try_candidate` meets its contract: a candidate that meets a skip rule or does not fit is skipped, and any other goes to `append`. Assumes
+-- nothing.
 use mathlib.Core.Path.{sym, ap, _∙_}
 use borrow.Author.Needs.{needs}
 use Rattle.node_matrix.specs.Matrices.{toldCandidate}

@@ -1,4 +1,4 @@
--- `narrowed` meets its contract: each return follows the tests on the way to it, and past all four every coefficient is within the limit.
+-- `narrowed` meets its contract: each return follows the tests made before it, and after all four every coefficient is within the limit.
 use borrow.Author.Tests.{leb-true}
 use mathlib.Core.Path.{_≡_}
 use mathlib.Core.Bool.{true}

@@ -1,4 +1,4 @@
--- `append` meets its contract: each way out is a case of `try`. Assumes nothing.
+-- `append` meets its contract: each return is a case of `try`. Assumes nothing.
 use native.Mathlib.Omega.{arith}
 use borrow.Author.Needs.{needs}
 use Rattle.synthesis_arena.proofs.Told.{found-lowest, found-nowhere}

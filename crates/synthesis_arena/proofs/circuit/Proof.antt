@@ -1,4 +1,4 @@
--- `circuit` meets its contract: behind the place of the next gate stand the chain's last gates, and what is left of the chain is that of
+-- `circuit` meets its contract: after the place of the next gate stand the chain's last gates, and what is left of the chain is that of
 -- the node reached. The measure is how many gates are left. Assumes nothing.
 use mathlib.Core.Path.{_≡_}
 use Prim.Native.Nat.{ℕ, _-_}

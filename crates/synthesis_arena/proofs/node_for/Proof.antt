@@ -1,4 +1,4 @@
--- `node_for` meets its contract: the lookup from the node reached is the lookup from the start. The measure is how many nodes are left.
+-- `node_for` meets its contract: the look-up from the node reached is the look-up from the start. The measure is how many nodes are left.
 -- Assumes nothing.
 use mathlib.Core.Path.{_≡_, sym, _∙_}
 use Prim.Native.Nat.{_-_}

@@ -1,4 +1,4 @@
--- `skip_blocks` meets its contract: the lookup from the place reached is the lookup from the start. The measure is how many nodes are left.
+-- `skip_blocks` meets its contract: the look-up from the place reached is the look-up from the start. The measure is how many nodes are left.
 -- Assumes nothing.
 use mathlib.Core.Path.{_≡_, refl, _∙_}
 use Prim.Native.Nat.{_-_, _≤_}

@@ -1,4 +1,4 @@
--- `equals` meets its contract: each return follows the comparisons on the way to it.
+-- `equals` meets its contract: each return follows the comparisons made before it.
 use mathlib.Core.Path.{_≡_, _∙_}
 use Rattle.cyclotomic.specs.Zomega.{eqZ, eqω}
 use Rattle.cyclotomic.proofs.Number.{SizeKept, kept, fails, holds}

@@ -1,4 +1,4 @@
--- `less_than` meets its contract: each return follows the comparisons on the way to it, and the first pair that differs decides.
+-- `less_than` meets its contract: each return follows the comparisons made before it, and the first pair that differs decides.
 use mathlib.Core.Path.{_≡_, _∙_}
 use Rattle.cyclotomic.specs.Zomega.{eqZ, less}
 use Rattle.cyclotomic.proofs.Number.{SizeKept, kept, fails, holds}

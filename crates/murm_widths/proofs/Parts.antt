@@ -8,7 +8,7 @@ use borrow.Rule.Slice.PartMut.{midOf, putMid}
 use Rattle.ints.specs.Lists.{over}
 use Rattle.walk.specs.Walk.{Node, Build, gate}
 use Rattle.width_table.specs.declared.WidthTable.{WidthTable}
-use Rattle.width_table.specs.Table.{Column}
+use Rattle.next_node.specs.Arrays.{Column}
 use Rattle.walk.specs.AtWidth.{printOf, parentOf}
 use Rattle.tables.specs.Checks.{Limits}
 use Rattle.tables.specs.Tables.{walkOf, widthOf, printsOf, parentsOf, codesOf, within}

@@ -23,15 +23,11 @@ fn build_part(
     codes: &mut [u32],
 ) -> WidthTable
     requires bounds { ⌜ (v < 5) × (gates ≤ 64) × (0 < entries) × (entries ≤ 1000000) ⌝ }
-    requires room {
-        ⌜ (v * entries + entries ≤ length (now fingerprints)) × (v * entries + entries ≤ length (now parents))
-        × (v * entries + entries ≤ length (now codes)) ⌝
-    }
-    ensures built {
-        λ r. ⌜ PartBuilt v gates entries basis
+    requires room { ⌜ (v * entries + entries ≤ length (now fingerprints)) × (v * entries + entries ≤ length (now parents))
+        × (v * entries + entries ≤ length (now codes)) ⌝ }
+    ensures built { λ r. ⌜ PartBuilt v gates entries basis
         (now (fingerprints .entry)) (now (parents .entry)) (now (codes .entry))
-        (now (fingerprints .exit)) (now (parents .exit)) (now (codes .exit)) r ⌝
-    }
+        (now (fingerprints .exit)) (now (parents .exit)) (now (codes .exit)) r ⌝ }
 {
     let e = entries as usize;
     let a = v as usize * e;
@@ -57,27 +53,17 @@ pub fn build_widths(
     parents: &mut [u32],
     codes: &mut [u32],
 ) -> Murm
-    requires bounds {
-        ⌜ (config .«max_qubits» ≤ 5) × (config .«max_gates» ≤ 64)
-        × (0 < config .«max_entries_per_qubit») × (config .«max_entries_per_qubit» ≤ 1000000) ⌝
-    }
-    requires room {
-        ⌜ (placesOf (toldConfig config) ≤ length (now fingerprints)) × (placesOf (toldConfig config) ≤ length (now parents))
-        × (placesOf (toldConfig config) ≤ length (now codes)) ⌝
-    }
+    requires bounds { ⌜ (config .«max_qubits» ≤ 5) × (config .«max_gates» ≤ 64)
+        × (0 < config .«max_entries_per_qubit») × (config .«max_entries_per_qubit» ≤ 1000000) ⌝ }
+    requires room { ⌜ (placesOf (toldConfig config) ≤ length (now fingerprints)) × (placesOf (toldConfig config) ≤ length (now parents))
+        × (placesOf (toldConfig config) ≤ length (now codes)) ⌝ }
     ensures rows { λ r. ⌜ toldMurm r ≡ recordOf (toldConfig config) ⌝ }
-    ensures fingerprints {
-        λ _. ⌜ now (fingerprints .exit) ≡ filledTo (printsOf (toldConfig config)) (config .«max_entries_per_qubit»)
-        (config .«max_qubits») (now (fingerprints .entry)) ⌝
-    }
-    ensures parents {
-        λ _. ⌜ now (parents .exit) ≡ filledTo (parentsOf (toldConfig config)) (config .«max_entries_per_qubit»)
-        (config .«max_qubits») (now (parents .entry)) ⌝
-    }
-    ensures codes {
-        λ _. ⌜ now (codes .exit) ≡ filledTo (codesOf (toldConfig config)) (config .«max_entries_per_qubit»)
-        (config .«max_qubits») (now (codes .entry)) ⌝
-    }
+    ensures fingerprints { λ _. ⌜ now (fingerprints .exit) ≡ filledTo (printsOf (toldConfig config)) (config .«max_entries_per_qubit»)
+        (config .«max_qubits») (now (fingerprints .entry)) ⌝ }
+    ensures parents { λ _. ⌜ now (parents .exit) ≡ filledTo (parentsOf (toldConfig config)) (config .«max_entries_per_qubit»)
+        (config .«max_qubits») (now (parents .entry)) ⌝ }
+    ensures codes { λ _. ⌜ now (codes .exit) ≡ filledTo (codesOf (toldConfig config)) (config .«max_entries_per_qubit»)
+        (config .«max_qubits») (now (codes .entry)) ⌝ }
 {
     let q = config.max_qubits;
     let g = config.max_gates;

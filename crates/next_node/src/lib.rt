@@ -1,18 +1,32 @@
-// Whether a candidate, a generator after a node, becomes the next node of a width (SPECIFICATION 6.5, 6.7, 6.8). The order of the tests matters: its
-// fingerprint is looked up before the count is held against the entry limit, so that a full width is saturated only by a candidate that it lacks.
+// The nodes of a width, put into its arrays one by one: node 0, and a candidate, a generator after a node, where it is not skipped (SPECIFICATION 6.3,
+// 6.5, 6.7, 6.8). The order of the tests matters: a fingerprint is looked up before the count is held against the entry limit, so that a full width
+// is saturated only by a candidate that it lacks.
 ghost use mathlib.Core.Path.{_≡_};
 ghost use Prim.Native.Nat.{_<_};
 ghost use lib.ListN.{length};
 ghost use Rattle.next_node.specs.Arrays.{Room};
-ghost use Rattle.next_node.specs.Append.{prunedAt, Appended};
+ghost use Rattle.next_node.specs.Append.{RootPut, prunedAt, Appended};
 use circuit::LibraryGate;
 use synthesis_arena::Found;
+use synthesis_arena::MARK;
 use synthesis_arena::WidthLimits;
 
 // How many nodes there are now, and whether the width is saturated (SPECIFICATION 6.8).
 pub struct Tried {
     pub count: usize,
     pub saturated: bool,
+}
+
+// Node 0: the fingerprint of the identity, and the mark as its parent and code.
+pub fn put_root(print: u64, fingerprints: &mut [u64], parents: &mut [u32], codes: &mut [u32])
+    requires room { ⌜ (0 < length (now fingerprints)) × (0 < length (now parents)) × (0 < length (now codes)) ⌝ }
+    ensures put { λ _. ⌜ RootPut print
+        (now (fingerprints .entry)) (now (parents .entry)) (now (codes .entry))
+        (now (fingerprints .exit)) (now (parents .exit)) (now (codes .exit)) ⌝ }
+{
+    fingerprints[0] = print;
+    parents[0] = MARK;
+    codes[0] = MARK;
 }
 
 // Whether the gate is skipped after the node by the node's own gate: it inverts that gate, or shares no qubit with it and has the lower code.

@@ -18,7 +18,6 @@ ghost use Rattle.width_table.specs.Table.{LayerTried, Start, Deepened, W
 use circuit::GateSet;
 use matrix::UnitaryMatrix;
 use next_node::Tried;
-use synthesis_arena::MARK;
 use synthesis_arena::WidthLimits;
 
 // What a width has come to.
@@ -131,9 +130,8 @@ pub fn build_width(
     let n = limits.width as usize;
     let one = UnitaryMatrix::identity(n);
     let data = one.data;
-    fingerprints[0] = prints::unitary_fingerprint(&data, n, 0);
-    parents[0] = MARK;
-    codes[0] = MARK;
+    let print = prints::unitary_fingerprint(&data, n, 0);
+    next_node::put_root(print, fingerprints, parents, codes);
     if size == 0 {
         return WidthTable {
             count: 1,

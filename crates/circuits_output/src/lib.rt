@@ -106,7 +106,14 @@ fn put_query(
     ensures most { λ r. ⌜ r ≤ at + 746 ⌝ }
 {
     let mut list = list_space();
-    let answer = circuits_answers::answer_line(table, fingerprints, parents, codes, line, &mut list);
+    let answer = circuits_answers::answer_line(
+        table,
+        fingerprints,
+        parents,
+        codes,
+        line,
+        &mut list,
+    );
     put_reply(answer, &list, out, at)
 }
 
@@ -186,14 +193,7 @@ pub fn circuits(
     match circuits_input::read_input(input) {
         Request::Table(config, from) => {
             let built = murm::build(config, fingerprints, parents, codes);
-            Printed::Text(put_built(
-                built,
-                fingerprints,
-                parents,
-                codes,
-                &input[from..],
-                out,
-            ))
+            Printed::Text(put_built(built, fingerprints, parents, codes, &input[from..], out))
         }
         Request::Refused(r) => Printed::Text(circuits_lines::put_refused(out, 0, r)),
     }

@@ -15,7 +15,7 @@ returns c =
     let m = c .before .before .before .before .before .before .answer .given .0 .0 in
     let d = c .before .before .put-answer .ensures in (
       reply-as (s .args .list .now) (c .before .before .before .before .before .before .answer .given .1)
-      (put-as (ap answerLine (sym (take-all m (s .args .list .now) (omega (arith, c .before .before .before .before .if1 .taken))))) (d .0)),
+          (put-as (ap answerLine (sym (take-all m (s .args .list .now) (omega (arith, c .before .before .before .before .if1 .taken))))) (d .0)),
       omega (arith, d .1, s .pre .1),
     )
 

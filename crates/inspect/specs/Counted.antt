@@ -1,8 +1,14 @@
--- How many numbers a line has: none where it is broken. Assumes nothing.
+-- How many numbers a line has, and a matrix that is asked: none where the line is broken. Assumes nothing.
 use Prim.Native.Nat.{ℕ}
 use Rattle.circuits_text.specs.declared.Line.{Line}
-use Rattle.circuits_text.specs.declared.Line.the-variants.{Numbers, Broken}
+use Rattle.circuits_text.specs.declared.Line.the-variants as l
+use Rattle.inspect.specs.declared.Asked.{Asked}
+use Rattle.inspect.specs.declared.Asked.the-variants as a
 
 abbrev pub counted : Line → ℕ
-counted (Numbers n) = n
-counted Broken = 0
+counted (l.Numbers n) = n
+counted l.Broken = 0
+
+abbrev pub askedCount : Asked → ℕ
+askedCount (a.Matrix width k n) = n
+askedCount a.Broken = 0

@@ -1,6 +1,7 @@
 -- `lines` is safe and ends: each line begins with room left, and the place rises. Assumes nothing.
 use mathlib.Core.Path.{_≡_, sym}
 use Prim.Native.Nat.{_≤_, _-_}
+use native.Mathlib.Omega.{arith}
 use borrow.Author.Needs.{needs}
 use lib.ListN.{length}
 use lib.Seq.{length-take-le}
@@ -8,7 +9,7 @@ use Rattle.inspect.proofs.lines.Statement.{statement}
 use Rattle.inspect.proofs.lines.Tie as tie
 
 abbrev Inv-loop : tie.InvT-loop
-Inv-loop out₀ input fingerprints₀ parents₀ codes₀ filled₀ last₀ at₀ out fingerprints parents codes filled last at =
+Inv-loop input fingerprints₀ parents₀ codes₀ out₀ filled₀ table₀ at₀ fingerprints parents codes out filled table at =
     (filled ≤ 65536) ×
     (length out ≡ length out₀) ×
     (length fingerprints ≡ length fingerprints₀) ×
@@ -16,7 +17,10 @@ Inv-loop out₀ input fingerprints₀ parents₀ codes₀ filled₀ last₀ at�
     (length codes ≡ length codes₀)
 
 abbrev μ-loop : tie.MeasureT-loop
-μ-loop out₀ input fingerprints₀ parents₀ codes₀ filled₀ last₀ at₀ out fingerprints parents codes filled last at = length input - at
+μ-loop input fingerprints₀ parents₀ codes₀ out₀ filled₀ table₀ at₀ fingerprints parents codes out filled table at = length input - at
+
+add-at : tie.Need-add-at Inv-loop μ-loop
+add-at c = let good = c .before .before .before .before .before .before .before .before .before .before .before .before .before .before .before .before .before .before .before .before .before .before .before .before .before .before .before .before .before .before .good in omega (arith, c .before .before .before .before .before .before .before .before .before .before .before .before .before .before .before .before .before .before .before .before .find .ensures .1)
 
 slice-aggregate-write-all : tie.Need-slice-aggregate-write-all Inv-loop μ-loop
 slice-aggregate-write-all c = sym (length-take-le (c .before .before .loop .filled) (c .before .before .loop .out) (search needs))
@@ -32,6 +36,14 @@ lines-spec =
     (λ c κs. search needs)
     (λ c κs. search needs)
     (λ c. search needs)
+    (λ c. search needs)
+    (λ c. search needs)
+    (λ c κs. search needs)
+    (λ c. search needs)
+    (λ c. search needs)
+    (λ c. search needs)
+    (λ c κs. search needs)
+    add-at
     (λ c. search needs)
     (λ c. search needs)
     (λ c. search needs)

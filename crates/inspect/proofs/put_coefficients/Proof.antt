@@ -7,10 +7,10 @@ use Rattle.inspect.proofs.put_coefficients.Statement.{statement}
 use Rattle.inspect.proofs.put_coefficients.Tie as tie
 
 abbrev Inv-loop : tie.InvT-loop
-Inv-loop out₀ at entries p₀ i₀ out p i = (i ≤ length entries) × (p ≤ at + 12 * i) × (length out ≡ length out₀)
+Inv-loop coefficients out₀ at p₀ i₀ out p i = (i ≤ length coefficients) × (p ≤ at + 12 * i) × (length out ≡ length out₀)
 
 abbrev μ-loop : tie.MeasureT-loop
-μ-loop out₀ at entries p₀ i₀ out p i = length entries - i
+μ-loop coefficients out₀ at p₀ i₀ out p i = length coefficients - i
 
 pub put-coefficients-spec : {M : Type 1} → statement M
 put-coefficients-spec =

@@ -7,10 +7,10 @@ use Rattle.inspect.proofs.put_nodes.Statement.{statement}
 use Rattle.inspect.proofs.put_nodes.Tie as tie
 
 abbrev Inv-loop : tie.InvT-loop
-Inv-loop out₀ filled a end fingerprints parents codes p₀ i₀ out p i = (p ≤ 65536) × (length out ≡ length out₀)
+Inv-loop start end fingerprints parents codes out₀ filled p₀ i₀ out p i = (p ≤ 65536) × (length out ≡ length out₀)
 
 abbrev μ-loop : tie.MeasureT-loop
-μ-loop out₀ filled a end fingerprints parents codes p₀ i₀ out p i = end - i
+μ-loop start end fingerprints parents codes out₀ filled p₀ i₀ out p i = end - i
 
 pub put-nodes-spec : {M : Type 1} → statement M
 put-nodes-spec =

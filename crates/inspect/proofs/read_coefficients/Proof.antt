@@ -1,17 +1,18 @@
--- `coefficients` fills no more places than there are, and its place rises. Assumes nothing.
+-- `read_coefficients` fills no more places than there are, and its place rises. Assumes nothing.
 use mathlib.Core.Path.{_≡_}
 use Prim.Native.Nat.{_≤_, _-_}
 use native.Mathlib.Omega.{arith}
 use borrow.Author.Needs.{needs}
 use lib.ListN.{length, length-set}
-use Rattle.inspect.proofs.coefficients.Statement.{statement}
-use Rattle.inspect.proofs.coefficients.Tie as tie
+use Rattle.inspect.proofs.read_coefficients.Statement.{statement}
+use Rattle.inspect.proofs.read_coefficients.Tie as tie
 
 abbrev Inv-loop : tie.InvT-loop
-Inv-loop line from entries₀ p₀ k₀ entries p k = (p ≤ length line) × (k ≤ length entries) × (length entries ≡ length entries₀)
+Inv-loop line from coefficients₀ p₀ k₀ coefficients p k =
+    (p ≤ length line) × (k ≤ length coefficients) × (length coefficients ≡ length coefficients₀)
 
 abbrev μ-loop : tie.MeasureT-loop
-μ-loop line from entries₀ p₀ k₀ entries p k = length line - p
+μ-loop line from coefficients₀ p₀ k₀ coefficients p k = length line - p
 
 loop-again : tie.Need-loop-again Inv-loop μ-loop
 loop-again c =
@@ -21,8 +22,8 @@ loop-again c =
       rw length-set (l .inv .2),
     )
 
-pub coefficients-spec : {M : Type 1} → statement M
-coefficients-spec =
+pub read-coefficients-spec : {M : Type 1} → statement M
+read-coefficients-spec =
     tie.close
     (tie.spec
     Inv-loop

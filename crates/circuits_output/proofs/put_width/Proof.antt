@@ -11,7 +11,7 @@ use Rattle.circuits_output.proofs.Widths.{lies, width-as}
 use Rattle.circuits_output.proofs.put_width.Statement.{statement}
 use Rattle.circuits_output.proofs.put_width.Tie as tie
 
-sound : (c : tie.Start) → Part (toldMurm (c .args .table)) (arrays (c .args .parents .now) (c .args .parents .now) (c .args .codes .now)) (c .args .width)
+sound : (c : tie.Start) → PartBounds (toldMurm (c .args .table)) (arrays (c .args .parents .now) (c .args .parents .now) (c .args .codes .now)) (c .args .width)
 sound c =
     let r = c .pre .1 .0 in
     lies (toldMurm (c .args .table)) (c .args .parents .now) (c .args .codes .now) (c .args .width) (r .0) (r .1) (r .2) (c .pre .0 .0) (c .pre .0 .1)

@@ -10,7 +10,7 @@ use Rattle.synthesis_arena.specs.declared.NodeDepth.the-variants as d
 use Rattle.synthesis_arena.specs.declared.NodeCircuit.{NodeCircuit}
 use Rattle.synthesis_arena.specs.declared.NodeCircuit.the-variants as c
 
--- "The depth of a node": how many gates its list has
+-- the depth of a node is how many gates its list has (SPECIFICATION 7.5)
 abbrev pub depthOf : Chain → Answer
 depthOf (good l) = given (length l)
 depthOf bad = refused 13 0
@@ -23,7 +23,7 @@ pub record ChainWritten : Type 0 where
 abbrev pub written : Answer → List ℕ → ChainWritten
 written a l = record { answer = a; list = l }
 
--- "An answer fills the first places of the lent list; later places .. keep their content"; a refusal "leaves lent memory unchanged"
+-- the list fills the first places and the others keep what they held; a bad chain changes none
 abbrev pub circuitOf : Chain → List ℕ → ChainWritten
 circuitOf (good l) out = written (given (length l)) (l ++ drop (length l) out)
 circuitOf bad out = written (refused 13 0) out
@@ -37,7 +37,7 @@ abbrev pub toldCircuit : NodeCircuit → Answer
 toldCircuit (c.Length m) = given m
 toldCircuit c.Bad = refused 13 0
 
--- "0 at the root and otherwise one more than its parent's"
+-- the parent's depth and one more
 abbrev pub oneMore : Answer → Answer
 oneMore (given m) = given (suc m)
 oneMore (refused r p) = refused r p

@@ -43,7 +43,7 @@ pub enum NodeCircuit {
 
 // The lower 32 bits of a fingerprint.
 fn low(fingerprint: u64) -> u32
-    ensures { λ r. ⌜ r ≡ fingerprint % 4294967296 ⌝ }
+    ensures half { λ r. ⌜ r ≡ fingerprint % 4294967296 ⌝ }
 {
     (fingerprint % 4294967296) as u32
 }
@@ -51,8 +51,9 @@ fn low(fingerprint: u64) -> u32
 // Whether one of the nodes from one on and below another may have the fingerprint: its lower half, four of which are compared at once. There
 // is no early return: this loop is many times faster without one.
 fn may_have(fingerprints: &[u64], from: usize, end: usize, fingerprint: u64) -> bool
-    requires { ⌜ (from ≤ end) × (end ≤ length (now fingerprints)) ⌝ }
-    ensures { λ r. ⌜ ((count : ℕ) → end ≤ count → r ≡ false → lowestFrom (now (fingerprints .entry)) count end fingerprint ≡ lowestFrom (now (fingerprints .entry)) count from fingerprint) ⌝ }
+    requires within { ⌜ (from ≤ end) × (end ≤ length (now fingerprints)) ⌝ }
+    ensures none_has { λ r. ⌜ ((count : ℕ) → end ≤ count → r ≡ false
+        → lowestFrom (now (fingerprints .entry)) count end fingerprint ≡ lowestFrom (now (fingerprints .entry)) count from fingerprint) ⌝ }
 {
     let half = low(fingerprint);
     let mut found = false;
@@ -66,8 +67,8 @@ fn may_have(fingerprints: &[u64], from: usize, end: usize, fingerprint: u64) -> 
 
 // A place before which none of the nodes, from one on, has the fingerprint: whole blocks that do not have it are passed over.
 fn skip_blocks(fingerprints: &[u64], count: usize, from: usize, fingerprint: u64) -> usize
-    requires { ⌜ (from ≤ count) × (count ≤ length (now fingerprints)) ⌝ }
-    ensures { λ r. ⌜ lowestFrom (now (fingerprints .entry)) count r fingerprint ≡ lowestFrom (now (fingerprints .entry)) count from fingerprint ⌝ }
+    requires within { ⌜ (from ≤ count) × (count ≤ length (now fingerprints)) ⌝ }
+    ensures none_before { λ r. ⌜ lowestFrom (now (fingerprints .entry)) count r fingerprint ≡ lowestFrom (now (fingerprints .entry)) count from fingerprint ⌝ }
 {
     let mut i = from;
     while 64 <= count - i {
@@ -82,8 +83,8 @@ fn skip_blocks(fingerprints: &[u64], count: usize, from: usize, fingerprint: u64
 
 // The lowest node that has the fingerprint, of those from a place on and below the count (SPECIFICATION 7.4).
 pub fn node_for(fingerprints: &[u64], count: usize, from: usize, fingerprint: u64) -> Found
-    requires { ⌜ count ≤ length (now fingerprints) ⌝ }
-    ensures { λ r. ⌜ toldFound r ≡ lowestFrom (now (fingerprints .entry)) count from fingerprint ⌝ }
+    requires within { ⌜ count ≤ length (now fingerprints) ⌝ }
+    ensures lowest { λ r. ⌜ toldFound r ≡ lowestFrom (now (fingerprints .entry)) count from fingerprint ⌝ }
 {
     if count <= from {
         return Found::NotFound;
@@ -100,8 +101,8 @@ pub fn node_for(fingerprints: &[u64], count: usize, from: usize, fingerprint: u6
 
 // Whether node 0 has its marks.
 fn is_marked(parents: &[u32], codes: &[u32]) -> bool
-    requires { ⌜ (0 < length (now parents)) × (0 < length (now codes)) ⌝ }
-    ensures { λ r. ⌜ r ≡ marked (now (parents .entry)) (now (codes .entry)) ⌝ }
+    requires some { ⌜ (0 < length (now parents)) × (0 < length (now codes)) ⌝ }
+    ensures marked { λ r. ⌜ r ≡ marked (now (parents .entry)) (now (codes .entry)) ⌝ }
 {
     if parents[0] != MARK {
         return false;
@@ -119,8 +120,8 @@ pub fn depth(
     limit: usize,
     node: usize,
 ) -> NodeDepth
-    requires { ⌜ (node < length (now parents)) × (node < length (now codes)) ⌝ }
-    ensures { λ r. ⌜ toldDepth r ≡ depthOf (chainOf width (basis .0) (now (parents .entry)) (now (codes .entry)) limit node) ⌝ }
+    requires there { ⌜ (node < length (now parents)) × (node < length (now codes)) ⌝ }
+    ensures depth { λ r. ⌜ toldDepth r ≡ depthOf (chainOf width (basis .0) (now (parents .entry)) (now (codes .entry)) limit node) ⌝ }
 {
     if node == 0 {
         if !is_marked(parents, codes) {
@@ -155,8 +156,9 @@ pub fn circuit(
     node: usize,
     out: &mut [u32],
 ) -> NodeCircuit
-    requires { ⌜ (node < length (now parents)) × (node < length (now codes)) × (limit ≤ length (now out)) ⌝ }
-    ensures { λ r. ⌜ written (toldCircuit r) (now (out .exit)) ≡ circuitOf (chainOf width (basis .0) (now (parents .entry)) (now (codes .entry)) limit node) (now (out .entry)) ⌝ }
+    requires there { ⌜ (node < length (now parents)) × (node < length (now codes)) × (limit ≤ length (now out)) ⌝ }
+    ensures written { λ r. ⌜ written (toldCircuit r) (now (out .exit))
+        ≡ circuitOf (chainOf width (basis .0) (now (parents .entry)) (now (codes .entry)) limit node) (now (out .entry)) ⌝ }
 {
     let NodeDepth::At(size) = depth(parents, codes, width, basis, limit, node) else {
         return NodeCircuit::Bad;

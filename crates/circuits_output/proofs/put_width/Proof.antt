@@ -5,7 +5,7 @@ use borrow.Author.Needs.{needs}
 use Rattle.tables.specs.Checks.{arrays}
 use Rattle.tables.specs.Tables.{Width}
 use Rattle.murm_config.specs.Told.{toldMurm}
-use Rattle.murm.proofs.Parts.{Part}
+use Rattle.murm.proofs.Parts.{PartBounds}
 use Rattle.circuits_text.proofs.Placing.{put-as, then-put}
 use Rattle.circuits_output.proofs.Widths.{lies, width-as}
 use Rattle.circuits_output.proofs.put_width.Statement.{statement}

@@ -1,7 +1,6 @@
 -- What a table answers to a list, and to a later line of the input (SPECIFICATION 10.6). Assumes nothing.
 use mathlib.Core.List.{List}
 use Prim.Native.Nat.{ℕ}
-use denote.Ref.{RefT, now}
 use lib.Dec.{ltb}
 use lib.IntN.{ℤ, pos}
 use lib.ListN.{replicate}
@@ -9,16 +8,12 @@ use Rattle.ints.specs.Lists.{pick}
 use Rattle.exact.specs.Answers.{Answer}
 use Rattle.exact.specs.Answers as e
 use Rattle.walk.specs.Answers as a
-use Rattle.tables.specs.Checks.{Arrays, arrays, byteCount}
+use Rattle.tables.specs.Checks.{Arrays, byteCount}
 use Rattle.tables.specs.Tables.{Table, query, synthesized}
 use Rattle.murm.specs.declared.Synthesized.{Synthesized}
 use Rattle.murm.specs.Entries.{toldSynthesized}
 use Rattle.tables.specs.Lists.{listed}
 use Rattle.circuits_input.specs.Input.{Read, gives, refused, InputLine, AskedList, questionOf}
-
--- what three lent arrays hold
-abbrev pub lent : RefT (List ℕ) → RefT (List ℕ) → RefT (List ℕ) → Arrays
-lent fingerprints parents codes = arrays (now fingerprints) (now parents) (now codes)
 
 -- what a table answered, and what the list lent to it then holds
 abbrev pub told : Synthesized → List ℕ → a.Outcome

@@ -4,7 +4,8 @@ ghost use Prim.Native.Nat.{_≤_};
 ghost use lib.ListN.{length};
 ghost use Rattle.murm_config.specs.Told.{toldMurm};
 ghost use Rattle.circuits_input.specs.Input.{ended};
-ghost use Rattle.circuits_answers.specs.Replies.{lent, told, lentCount, lentMost, listReply, lineReply};
+ghost use Rattle.circuits_answers.specs.Lent.{lent};
+ghost use Rattle.circuits_answers.specs.Replies.{told, lentCount, lentMost, listReply, lineReply};
 use circuits_input::Question;
 use cyclotomic::Coefficient;
 use murm::Listed;
@@ -39,7 +40,7 @@ fn answer_list(
     gates: &[u32],
     list: &mut [u32],
 ) -> Synthesized
-    ensures { λ r. ⌜ told r (now (list .exit)) ≡ listReply (toldMurm table) (lent (fingerprints .entry) (parents .entry) (codes .entry)) width (now (gates .entry)) (now (list .entry)) ⌝ }
+    ensures { λ r. ⌜ told r (now (list .exit)) ≡ listReply (toldMurm table) (lent fingerprints parents codes) width (now (gates .entry)) (now (list .entry)) ⌝ }
 {
     let mut space = coefficient_space();
     let n = coefficient_count(width);
@@ -74,7 +75,7 @@ pub fn answer_line(
     line: &[u8],
     list: &mut [u32],
 ) -> Synthesized
-    ensures { λ r. ⌜ told r (now (list .exit)) ≡ lineReply (toldMurm table) (lent (fingerprints .entry) (parents .entry) (codes .entry)) (ended (now (line .entry))) (now (list .entry)) ⌝ }
+    ensures { λ r. ⌜ told r (now (list .exit)) ≡ lineReply (toldMurm table) (lent fingerprints parents codes) (ended (now (line .entry))) (now (list .entry)) ⌝ }
 {
     let mut numbers = number_space();
     match circuits_input::read_query(line, &mut numbers) {

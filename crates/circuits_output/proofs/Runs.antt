@@ -1,6 +1,6 @@
 -- What the program answers, by what was put for its input. Assumes nothing.
 use mathlib.Core.List.{List, _++_}
-use mathlib.Core.Option.{some}
+use mathlib.Core.Option.{none, some}
 use mathlib.Core.Path.{_≡_, sym, ap, _∙_, subst}
 use Prim.Native.Nat.{ℕ, _+_, _-_, _≤_, _<_}
 use native.Mathlib.Omega.{arith}
@@ -15,9 +15,8 @@ use Rattle.circuits_text.proofs.Placing.{put-as}
 use Rattle.circuits_input.specs.Input.{Read, linesOf, Wanted, inputOf}
 use Rattle.circuits_input.specs.Told.{toldRequest, Placed}
 use Rattle.circuits_input.specs.declared.Request.{Request}
-use Rattle.circuits_output.specs.declared.Printed.the-variants.{Text, NoRoom}
 use Rattle.circuits_output.proofs.Builds.{text-is}
-use Rattle.circuits_output.specs.Output.{replyThen, builtText, inputText, inputArrays, outputWith, arraysAfter, roomFor, holding, run, programOf, Ran}
+use Rattle.circuits_output.specs.Output.{replyThen, builtText, inputText, inputArrays, outputWith, arraysAfter, roomFor, run, programOf}
 
 -- ---- the later lines
 
@@ -44,14 +43,14 @@ abbrev pub Came : Arrays → Arrays → ℕ → List ℕ → List ℕ → Read W
 Came lent after p old xs x = Put 0 (inputText lent x) p old xs × (after ≡ inputArrays lent x)
 
 module _ (input : List ℕ) (lent : Arrays) (old : List ℕ) where
-  pub program-short : length old < roomFor (length (lent .parents)) → Ran input (holding lent old) (holding lent old) NoRoom
+  pub program-short : length old < roomFor (length (lent .parents)) → run none old lent ≡ programOf input lent old
   unfolding programOf
-  program-short h = record { is = rw (lt-ltb (length old) (roomFor (length (lent .parents))) h) }
+  program-short h = rw (lt-ltb (length old) (roomFor (length (lent .parents))) h)
 
   -- what was read of the input is the case s
   pub program-came :
       {after : Arrays} {p : ℕ} {xs : List ℕ} {r s : Request} → roomFor (length (lent .parents)) ≤ length old → r ≡ s →
-      toldRequest input r ≡ inputOf input → Came lent after p old xs (toldRequest input s) → Ran input (holding lent old) (holding after xs) (Text p)
+      toldRequest input r ≡ inputOf input → Came lent after p old xs (toldRequest input s) → run (some p) xs after ≡ programOf input lent old
   unfolding programOf outputWith arraysAfter
   program-came {after} {p} {xs} {r} {s} h e is came =
       let d = subst (λ (x : Request). Came lent after p old xs (toldRequest input x)) (sym e) came in
@@ -59,8 +58,6 @@ module _ (input : List ℕ) (lent : Arrays) (old : List ℕ) where
       let n : p ≡ length text = omega (arith, d .0 .after) in
       let z : 0 + length text ≡ length text = omega arith in
       let x : xs ≡ over text old = d .0 .is ∙ ap (λ (k : ℕ). text ++ drop k old) z in
-      record {
-        is = rw (le-ltb (length old) (roomFor (length (lent .parents))) h, ← is)
-            (ap (λ (k : ℕ). run (some k) (holding after xs)) n
-            ∙ (ap (λ (ys : List ℕ). run (some (length text)) (holding after ys)) x ∙ ap (λ (a : Arrays). run (some (length text)) (holding a (over text old))) (d .1)));
-      }
+      rw (le-ltb (length old) (roomFor (length (lent .parents))) h, ← is)
+      (ap (λ (k : ℕ). run (some k) xs after) n
+      ∙ (ap (λ (ys : List ℕ). run (some (length text)) ys after) x ∙ ap (λ (a : Arrays). run (some (length text)) (over text old) a) (d .1)))

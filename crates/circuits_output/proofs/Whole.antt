@@ -12,7 +12,7 @@ use Rattle.circuits_text.specs.Writing.{Put}
 use Rattle.circuits_output.specs.declared.Printed.{Printed}
 use Rattle.circuits_output.specs.declared.Printed.the-variants.{Text, NoRoom}
 use Rattle.circuits_output.specs.Output.{arraysAfter, lentPlaces, lentArrays, output, roomFor, toldPrinted}
-use Rattle.circuits_output.specs.Output.{holding, Run, run, textRun, programOf, Ran}
+use Rattle.circuits_output.specs.Output.{Run, run, textRun, programOf}
 
 pub places-count : {l : List ℕ} → l ≡ lentPlaces → 2048 ≡ length l
 unfolding lentPlaces
@@ -31,11 +31,11 @@ zeros-are {f} {u} {c} a b d =
 over-fits : (new old : List ℕ) → length (over new old) ≡ length old → length new ≤ length old
 over-fits new old e = omega (arith, e, length-append new (drop (length new) old), length-drop (length new) old)
 
-module _ (input old xs : List ℕ) {lent after : Arrays} {printed : Printed} (zeros : lent ≡ lentArrays) (room : roomFor 2048 ≤ length old)
-    (e : Ran input (holding lent old) (holding after xs) printed) where
-  made : run (toldPrinted printed) (holding after xs) ≡ textRun (output input) old (arraysAfter lentArrays input)
+module _ (input old xs : List ℕ) (printed : Printed) {lent after : Arrays} (zeros : lent ≡ lentArrays) (room : roomFor 2048 ≤ length old)
+    (e : run (toldPrinted printed) xs after ≡ programOf input lent old) where
+  made : run (toldPrinted printed) xs after ≡ textRun (output input) old (arraysAfter lentArrays input)
   unfolding programOf output
-  made = e .is ∙ (ap (λ (a : Arrays). programOf input (holding a old)) zeros ∙ rw (le-ltb (length old) (roomFor (length lentPlaces)) (subst (λ (k : ℕ). roomFor k ≤ length old) (places-count refl) room)))
+  made = e ∙ (ap (λ (a : Arrays). programOf input a old) zeros ∙ rw (le-ltb (length old) (roomFor (length lentPlaces)) (subst (λ (k : ℕ). roomFor k ≤ length old) (places-count refl) room)))
 
   pub some-text : printed ≡ NoRoom → ⊥
   some-text f =
@@ -49,7 +49,7 @@ module _ (input old xs : List ℕ) {lent after : Arrays} {printed : Printed} (ze
       let g : toldPrinted printed ≡ some (length (output input)) = ap (λ (r : Run). r .printed) made in
       let h : toldPrinted printed ≡ some n = ap toldPrinted f in
       let m : n ≡ length (output input) = cc in
-      let x : xs ≡ over (output input) old = ap (λ (r : Run). r .left .out) made in
+      let x : xs ≡ over (output input) old = ap (λ (r : Run). r .out) made in
       let z : length (output input) ≡ 0 + length (output input) = omega arith in
       record {
         is = x ∙ ap (λ (k : ℕ). output input ++ drop k old) z;

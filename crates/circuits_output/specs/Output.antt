@@ -4,7 +4,6 @@ use mathlib.Core.Path.{_≡_}
 use mathlib.Core.List.{List, _++_}
 use mathlib.Core.Option.{Option, none, some}
 use Prim.Native.Nat.{ℕ, _+_, _*_, _≤_, min}
-use denote.Ref.{RefT, now}
 use lib.Dec.{ltb}
 use lib.ListN.{length, replicate}
 use Rattle.ints.specs.Lists.{pick, over}
@@ -12,7 +11,6 @@ use Rattle.tables.specs.Checks.{Limits, Arrays, arrays, placesOf}
 use Rattle.tables.specs.Tables.{BuildReply, table, refusal, buildOf, recordRow}
 use Rattle.circuits_lines.specs.Lines.{refusedLine}
 use Rattle.circuits_input.specs.Input.{Read, gives, refused, InputLine, Wanted, inputOf}
-use Rattle.circuits_answers.specs.Replies.{lent}
 use Rattle.circuits_output.specs.declared.Printed.{Printed}
 use Rattle.circuits_output.specs.declared.Printed.the-variants.{Text, NoRoom}
 use Rattle.circuits_output.specs.Texts.{queryTexts, tableText}
@@ -72,35 +70,20 @@ abbrev pub toldPrinted : Printed → Option ℕ
 toldPrinted (Text n) = some n
 toldPrinted NoRoom = none
 
--- the memory lent: three arrays, and bytes for the text
-pub record Memory : Type 0 where
-  pub arrays : Arrays
-  pub out : List ℕ
-
-abbrev pub holding : Arrays → List ℕ → Memory
-holding a out = record { arrays = a; out = out }
-
-abbrev pub memory : RefT (List ℕ) → RefT (List ℕ) → RefT (List ℕ) → RefT (List ℕ) → Memory
-memory fingerprints parents codes out = holding (lent fingerprints parents codes) (now out)
-
--- what is answered, and what the memory then holds
+-- what it answers, and what the lent bytes and arrays then hold
 pub record Run : Type 0 where
   pub printed : Option ℕ
-  pub left : Memory
+  pub out : List ℕ
+  pub arrays : Arrays
 
-abbrev pub run : Option ℕ → Memory → Run
-run p m = record { printed = p; left = m }
+abbrev pub run : Option ℕ → List ℕ → Arrays → Run
+run p out a = record { printed = p; out = out; arrays = a }
 
 -- the text is in the first bytes; later ones keep what they held
 abbrev pub textRun : List ℕ → List ℕ → Arrays → Run
-textRun text old a = run (some (length text)) (holding a (over text old))
+textRun text old a = run (some (length text)) (over text old) a
 
 -- bytes that are too few are refused, and nothing is changed
-unfoldable pub programOf : List ℕ → Memory → Run
-programOf input m =
-    pick (ltb (length (m .out)) (roomFor (length (m .arrays .parents)))) (run none m)
-    (textRun (outputWith (m .arrays) input) (m .out) (arraysAfter (m .arrays) input))
-
--- the program ran on an input, with the memory as it was before and after
-pub record Ran (input : List ℕ) (before after : Memory) (answer : Printed) : Type 0 where
-  pub is : run (toldPrinted answer) after ≡ programOf input before
+unfoldable pub programOf : List ℕ → Arrays → List ℕ → Run
+programOf input a old =
+    pick (ltb (length old) (roomFor (length (a .parents)))) (run none old a) (textRun (outputWith a input) old (arraysAfter a input))

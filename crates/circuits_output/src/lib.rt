@@ -11,9 +11,9 @@ ghost use Rattle.murm.specs.Entries.{toldBuilding, toldSynthesized};
 ghost use Rattle.murm_config.specs.Told.{toldConfig, toldMurm};
 ghost use Rattle.circuits_text.specs.Writing.{Put};
 ghost use Rattle.circuits_input.specs.Input.{ended, linesOf};
-ghost use Rattle.circuits_answers.specs.Replies.{lent};
+ghost use Rattle.circuits_answers.specs.Lent.{lent, left};
 ghost use Rattle.circuits_output.specs.Texts.{widthText, tableText, replyText, lentList, queryText, queryTexts};
-ghost use Rattle.circuits_output.specs.Output.{Ready, replyThen, roomFor, memory, Ran};
+ghost use Rattle.circuits_output.specs.Output.{Ready, replyThen, roomFor, toldPrinted, run, programOf};
 use circuits_input::Request;
 use circuits_text::NEWLINE;
 use murm::Building;
@@ -103,7 +103,7 @@ fn put_query(
     at: usize,
 ) -> usize
     requires { ⌜ at + 756 ≤ length (now out) ⌝ }
-    ensures text { λ r. ⌜ Put at (queryText (toldMurm table) (lent (fingerprints .entry) (parents .entry) (codes .entry)) (ended (now (line .entry)))) r (now (out .entry)) (now (out .exit)) ⌝ }
+    ensures text { λ r. ⌜ Put at (queryText (toldMurm table) (lent fingerprints parents codes) (ended (now (line .entry)))) r (now (out .entry)) (now (out .exit)) ⌝ }
     ensures most { λ r. ⌜ r ≤ at + 746 ⌝ }
 {
     let mut list = list_space();
@@ -129,7 +129,7 @@ fn put_queries(
     at: usize,
 ) -> usize
     requires { ⌜ at + 187 * length (now later) + 756 ≤ length (now out) ⌝ }
-    ensures { λ r. ⌜ Put at (queryTexts (toldMurm table) (lent (fingerprints .entry) (parents .entry) (codes .entry)) (linesOf (now (later .entry)))) r (now (out .entry)) (now (out .exit)) ⌝ }
+    ensures { λ r. ⌜ Put at (queryTexts (toldMurm table) (lent fingerprints parents codes) (linesOf (now (later .entry)))) r (now (out .entry)) (now (out .exit)) ⌝ }
 {
     let t = table;
     let mut p = at;
@@ -156,7 +156,7 @@ fn put_built(
 ) -> usize
     requires { ⌜ Ready (toldBuilding built) (now parents) (now codes) ⌝ }
     requires { ⌜ (length (now later) ≤ 16384) × (roomFor (length (now parents)) ≤ length (now out)) ⌝ }
-    ensures { λ r. ⌜ Put 0 (replyThen (toldBuilding built) (lent (fingerprints .entry) (parents .entry) (codes .entry)) (linesOf (now (later .entry)))) r (now (out .entry)) (now (out .exit)) ⌝ }
+    ensures { λ r. ⌜ Put 0 (replyThen (toldBuilding built) (lent fingerprints parents codes) (linesOf (now (later .entry)))) r (now (out .entry)) (now (out .exit)) ⌝ }
 {
     match built {
         Building::Table(table) => {
@@ -186,7 +186,7 @@ pub fn circuits(
     codes: &mut [u32],
     out: &mut [u8],
 ) -> Printed
-    ensures { λ r. ⌜ Ran (now (input .entry)) (memory (fingerprints .entry) (parents .entry) (codes .entry) (out .entry)) (memory (fingerprints .exit) (parents .exit) (codes .exit) (out .exit)) r ⌝ }
+    ensures { λ r. ⌜ run (toldPrinted r) (now (out .exit)) (left fingerprints parents codes) ≡ programOf (now (input .entry)) (lent fingerprints parents codes) (now (out .entry)) ⌝ }
 {
     if out.len() < room(parents.len()) {
         return Printed::NoRoom;

@@ -21,14 +21,14 @@ returns c =
     let s = c .before .before .before .before .before .before .before .before .before .before .before .before .before .before .before .before .before .before in
     let d = c .before .before .before .before .before .before .before .before .circuits in
     let z = zeros-are (c .before .before .before .before .before .before .before .before .before .before .before .before .before .before .before .fingerprint-space .ensures) (c .before .before .before .before .before .before .before .before .before .before .before .before .before .before .node-space .ensures) (c .before .before .before .before .before .before .before .before .before .before .before .before .before .node-space2 .ensures) in
-    text-put (s .args .input .now) (s .args .out .now) _ z (s .pre) (d .ensures) _ (d .kept .1 .1 .1 .1 .0) (c .before .n .given .1)
+    text-put (s .args .input .now) (s .args .out .now) _ (d .result) z (s .pre) (d .ensures) _ (d .kept .1 .1 .1 .1 .0) (c .before .n .given .1)
 
 returns-2 : tie.Need-returns-2
 returns-2 c =
     let s = c .before .before .before .before .before .before .before .before .before .before .before .before .before .before .before .before .before in
     let d = c .before .before .before .before .before .before .before .circuits in
     let z = zeros-are (c .before .before .before .before .before .before .before .before .before .before .before .before .before .before .fingerprint-space .ensures) (c .before .before .before .before .before .before .before .before .before .before .before .before .before .node-space .ensures) (c .before .before .before .before .before .before .before .before .before .before .before .before .node-space2 .ensures) in
-    absurd (some-text (s .args .input .now) (s .args .out .now) _ z (s .pre) (d .ensures) (c .enum-told .given .1))
+    absurd (some-text (s .args .input .now) (s .args .out .now) _ (d .result) z (s .pre) (d .ensures) (c .enum-told .given .1))
 
 pub answer-spec : {M : Type 1} → statement M
 answer-spec =

@@ -2,10 +2,10 @@
 use mathlib.Core.Path.{ap, _∙_}
 use native.Mathlib.Omega.{arith}
 use borrow.Author.Needs.{needs}
+use Rattle.tables.specs.Checks.{arrays}
 use Rattle.murm_config.specs.Told.{toldMurm}
 use Rattle.circuits_input.specs.Input.{ended}
 use Rattle.circuits_input.specs.Told.{endOf}
-use Rattle.circuits_answers.specs.Replies.{lent}
 use Rattle.circuits_answers.proofs.Replies.{line-reply}
 use Rattle.circuits_answers.proofs.answer_line.Statement.{statement}
 use Rattle.circuits_answers.proofs.answer_line.Tie as tie
@@ -23,13 +23,13 @@ returns : tie.Need-returns
 returns c =
     let s = c .before .before .before .before .before .before .before .before .before .before .before .before .before .before .before .before .before .before .args in
     c .before .before .answer-list .ensures
-    ∙ line-reply (toldMurm (s .table)) (lent (s .fingerprints) (s .parents) (s .codes)) (s .list .now) (ended (s .line .now)) (c .before .before .before .before .before .before .before .before .before .before .read-query .last .1 .0) (c .before .before .before .before .before .before .before .width .given .1)
+    ∙ line-reply (toldMurm (s .table)) (arrays (s .fingerprints .now) (s .parents .now) (s .codes .now)) (s .list .now) (ended (s .line .now)) (c .before .before .before .before .before .before .before .before .before .before .read-query .last .1 .0) (c .before .before .before .before .before .before .before .width .given .1)
     (c .before .before .before .before .before .before .before .before .before .before .read-query .ensures .is)
 
 returns-2 : tie.Need-returns-2
 returns-2 c =
     let s = c .before .before .before .before .before .before .before .before .before .before .before .before .args in
-    line-reply (toldMurm (s .table)) (lent (s .fingerprints) (s .parents) (s .codes)) (s .list .now) (ended (s .line .now)) (c .before .before .before .before .read-query .last .1 .0) (c .before .r .given .1)
+    line-reply (toldMurm (s .table)) (arrays (s .fingerprints .now) (s .parents .now) (s .codes .now)) (s .list .now) (ended (s .line .now)) (c .before .before .before .before .read-query .last .1 .0) (c .before .r .given .1)
     (c .before .before .before .before .read-query .ensures .is)
 
 pub answer-line-spec : {M : Type 1} → statement M

@@ -7,8 +7,8 @@ use lib.IntN.{ℤ}
 use lib.ListN.{length, take, drop, length-append}
 use lib.Seq.{take-at}
 use Rattle.tables.specs.Tables.{query, synthesized}
+use Rattle.tables.specs.Checks.{arrays}
 use Rattle.murm_config.specs.Told.{toldMurm}
-use Rattle.circuits_answers.specs.Replies.{lent}
 use Rattle.circuits_answers.proofs.Replies.{lent-part, lent-length, list-reply}
 use Rattle.circuits_answers.proofs.answer_list.Statement.{statement}
 use Rattle.circuits_answers.proofs.answer_list.Tie as tie
@@ -31,7 +31,7 @@ returns : tie.Need-returns
 returns c =
     let s = c .before .before .before .before .before .before .before .before .before .before .before .before .before .before .before .before .before .before .args in
     let t = toldMurm (s .table) in
-    let m = lent (s .fingerprints) (s .parents) (s .codes) in
+    let m = arrays (s .fingerprints .now) (s .parents .now) (s .codes .now) in
     let n = c .before .before .before .before .before .before .before .before .before .before .before .coefficient-count in
     let k = c .before .before .before .before .before .before .k .given .0 .0 in
     c .before .before .synthesize .ensures
@@ -42,7 +42,7 @@ returns-2 : tie.Need-returns-2
 returns-2 c =
     let s = c .before .before .before .before .before .before .before .before .before .before .before .before .before .args in
     let n = c .before .before .before .before .before .before .coefficient-count in
-    list-reply (toldMurm (s .table)) (lent (s .fingerprints) (s .parents) (s .codes)) (s .list .now) (s .width) (s .gates .now) (c .before .r .given .1)
+    list-reply (toldMurm (s .table)) (arrays (s .fingerprints .now) (s .parents .now) (s .codes .now)) (s .list .now) (s .width) (s .gates .now) (c .before .r .given .1)
     (lent-part (n .ensures .1) (c .before .before .before .before .before .before .before .coefficient-space .ensures) (s .width) (n .ensures .0)) (c .before .before .before .before .library-circuit-matrix .ensures)
 
 pub answer-list-spec : {M : Type 1} → statement M

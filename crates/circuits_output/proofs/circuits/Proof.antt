@@ -4,9 +4,8 @@ use Prim.Native.Nat.{ℕ, _≤_}
 use native.Mathlib.Omega.{arith}
 use borrow.Author.Needs.{needs}
 use lib.ListN.{length, length-drop}
-use Rattle.tables.specs.Checks.{Arrays}
+use Rattle.tables.specs.Checks.{Arrays, arrays}
 use Rattle.murm_config.specs.Told.{toldConfig}
-use Rattle.circuits_answers.specs.Replies.{lent}
 use Rattle.circuits_output.specs.Output.{roomFor}
 use Rattle.circuits_output.proofs.Rooms.{some-room}
 use Rattle.circuits_output.proofs.Builds.{arrays-are, ready}
@@ -14,13 +13,13 @@ use Rattle.circuits_output.proofs.Runs.{placed-as, later-all, built-put
 use Rattle.circuits_output.proofs.circuits.Statement.{statement}
 use Rattle.circuits_output.proofs.circuits.Tie as tie
 
-abbrev arrays : tie.Start → Arrays
-arrays c = lent (c .args .fingerprints) (c .args .parents) (c .args .codes)
+abbrev lent : tie.Start → Arrays
+lent c = arrays (c .args .fingerprints .now) (c .args .parents .now) (c .args .codes .now)
 
 returns : tie.Need-returns
 returns c =
     let s = c .before .before .before .before .before .before .before in
-    program-short (s .args .input .now) (arrays s) (s .args .out .now) (omega (arith, c .if1 .taken, c .before .room .ensures))
+    program-short (s .args .input .now) (lent s) (s .args .out .now) (omega (arith, c .if1 .taken, c .before .room .ensures))
 
 -- the bytes are enough
 enough : (c : tie.Else1) → roomFor (length (c .before .before .before .before .before .before .before .args .parents .now)) ≤ length (c .before .before .before .before .before .before .before .args .out .now)
@@ -39,7 +38,7 @@ put-built-requires c κs =
     let from = c .before .before .before .before .before .before .before .before .before .before .before .before .before .before .before .before .config .given .0 .1 .0 in
     let input = s .args .input .now in
     let p = placed-as input (c .before .before .before .before .before .before .before .before .before .before .before .before .before .before .before .before .config .given .1) (c .before .before .before .before .before .before .before .before .before .before .before .before .before .before .before .before .before .before .read-input .ensures .placed) in (
-      ready (toldConfig (c .before .before .before .before .before .before .before .before .before .before .before .before .before .before .before .before .config .given .0 .0)) (arrays s) _ (b .ensures),
+      ready (toldConfig (c .before .before .before .before .before .before .before .before .before .before .before .before .before .before .before .before .config .given .0 .0)) (lent s) _ (b .ensures),
       (omega (arith, p .1, length-drop from input, ap length (later-all input from)), subst (λ (n : ℕ). roomFor n ≤ length (s .args .out .now)) (sym (b .kept .1 .1 .0)) (enough (c .before .before .before .before .before .before .before .before .before .before .before .before .before .before .before .before .before .before .before))),
     )
 
@@ -53,15 +52,15 @@ returns-2 c =
     let l = toldConfig (c .before .before .before .before .before .before .before .before .before .before .before .before .before .before .before .before .before .before .before .config .given .0 .0) in
     let from = c .before .before .before .before .before .before .before .before .before .before .before .before .before .before .before .before .before .before .before .config .given .0 .1 .0 in
     let input = s .args .input .now in
-    program-came input (arrays s) (s .args .out .now) (enough (c .before .before .before .before .before .before .before .before .before .before .before .before .before .before .before .before .before .before .before .before .before .before)) (c .before .before .before .before .before .before .before .before .before .before .before .before .before .before .before .before .before .before .before .config .given .1) (c .before .before .before .before .before .before .before .before .before .before .before .before .before .before .before .before .before .before .before .before .before .read-input .ensures .is) (
-      built-put l (arrays s) input from (b .ensures) (c .before .before .put-built .ensures),
-      arrays-are l (arrays s) (b .ensures),
+    program-came input (lent s) (s .args .out .now) (enough (c .before .before .before .before .before .before .before .before .before .before .before .before .before .before .before .before .before .before .before .before .before .before)) (c .before .before .before .before .before .before .before .before .before .before .before .before .before .before .before .before .before .before .before .config .given .1) (c .before .before .before .before .before .before .before .before .before .before .before .before .before .before .before .before .before .before .before .before .before .read-input .ensures .is) (
+      built-put l (lent s) input from (b .ensures) (c .before .before .put-built .ensures),
+      arrays-are l (lent s) (b .ensures),
     )
 
 returns-3 : tie.Need-returns-3
 returns-3 c =
     let s = c .before .before .before .before .before .before .before .before .before .before .before .before .before .before .before in
-    program-came (s .args .input .now) (arrays s) (s .args .out .now) (enough (c .before .before .before .before .before .before .before .before)) (c .before .before .before .before .before .r .given .1) (c .before .before .before .before .before .before .before .read-input .ensures .is) (c .before .before .put-refused .ensures .0, refl)
+    program-came (s .args .input .now) (lent s) (s .args .out .now) (enough (c .before .before .before .before .before .before .before .before)) (c .before .before .before .before .before .r .given .1) (c .before .before .before .before .before .before .before .read-input .ensures .is) (c .before .before .put-refused .ensures .0, refl)
 
 pub circuits-spec : {M : Type 1} → statement M
 circuits-spec =

@@ -1,9 +1,9 @@
 -- `put_built` meets its contract: what the build answered decides the text. Assumes nothing.
 use native.Mathlib.Omega.{arith}
 use borrow.Author.Needs.{needs}
+use Rattle.tables.specs.Checks.{arrays}
 use Rattle.murm_config.specs.Told.{toldMurm}
 use Rattle.circuits_text.proofs.Placing.{then-put}
-use Rattle.circuits_answers.specs.Replies.{lent}
 use Rattle.circuits_output.proofs.Rooms.{some-room, table-room}
 use Rattle.circuits_output.proofs.Builds.{ready-as, building-as}
 use Rattle.circuits_output.proofs.put_built.Statement.{statement}
@@ -28,12 +28,12 @@ put-refused-requires c κs = omega (arith, some-room _ _ (c .before .before .bef
 returns : tie.Need-returns
 returns c =
     let a = c .before .before .before .before .before .before .before .before .before .before .before .before .before .before .before .before .args in
-    building-as (c .before .before .before .before .before .before .before .before .before .built .given .1) (lent (a .fingerprints) (a .parents) (a .codes)) _ (then-put (c .before .before .before .before .before .before .put-widths .ensures .0) (c .before .before .put-queries .ensures))
+    building-as (c .before .before .before .before .before .before .before .before .before .built .given .1) (arrays (a .fingerprints .now) (a .parents .now) (a .codes .now)) _ (then-put (c .before .before .before .before .before .before .put-widths .ensures .0) (c .before .before .put-queries .ensures))
 
 returns-2 : tie.Need-returns-2
 returns-2 c =
     let a = c .before .before .before .before .before .before .before .before .before .before .before .before .args in
-    building-as (c .before .before .before .before .before .built2 .given .1) (lent (a .fingerprints) (a .parents) (a .codes)) _ (c .before .before .put-refused .ensures .0)
+    building-as (c .before .before .before .before .before .built2 .given .1) (arrays (a .fingerprints .now) (a .parents .now) (a .codes .now)) _ (c .before .before .put-refused .ensures .0)
 
 pub put-built-spec : {M : Type 1} → statement M
 put-built-spec =

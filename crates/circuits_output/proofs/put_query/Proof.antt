@@ -1,8 +1,8 @@
 -- `put_query` meets its contract. Assumes nothing.
 use borrow.Author.Needs.{needs}
+use Rattle.tables.specs.Checks.{arrays}
 use Rattle.murm_config.specs.Told.{toldMurm}
 use Rattle.circuits_input.specs.Input.{ended}
-use Rattle.circuits_answers.specs.Replies.{lent}
 use Rattle.circuits_output.proofs.Replies.{query-as}
 use Rattle.circuits_output.proofs.put_query.Statement.{statement}
 use Rattle.circuits_output.proofs.put_query.Tie as tie
@@ -12,7 +12,7 @@ returns c =
     let s = c .before .before .before .before .before .before .before .before .before .before .before .before .before .before .args in
     let d = c .before .before .put-reply .ensures in
     let a = c .before .before .before .before .before .before .answer-line in (
-      query-as (toldMurm (s .table)) (lent (s .fingerprints) (s .parents) (s .codes)) (ended (s .line .now)) (a .result) _ _ (c .before .before .before .before .before .before .before .before .list-space .ensures) (a .ensures) (d .0),
+      query-as (toldMurm (s .table)) (arrays (s .fingerprints .now) (s .parents .now) (s .codes .now)) (ended (s .line .now)) (a .result) _ _ (c .before .before .before .before .before .before .before .before .list-space .ensures) (a .ensures) (d .0),
       d .1,
     )
 

@@ -153,7 +153,8 @@ pub extern "C" fn bench_build(
     codes: &mut [u32],
     numbers: &mut [u64],
 ) -> u64
-    ensures { λ r. ⌜ builtAs r (arrays (now (fingerprints .exit)) (now (parents .exit)) (now (codes .exit))) (now (numbers .exit)) ≡ benchBuilt (limitsOf q g e b) (arrays (now (fingerprints .entry)) (now (parents .entry)) (now (codes .entry))) (now (numbers .entry)) ⌝ }
+    ensures { λ r. ⌜ builtAs r (arrays (now (fingerprints .exit)) (now (parents .exit)) (now (codes .exit))) (now (numbers .exit))
+        ≡ benchBuilt (limitsOf q g e b) (arrays (now (fingerprints .entry)) (now (parents .entry)) (now (codes .entry))) (now (numbers .entry)) ⌝ }
 {
     if numbers.len() < 15 {
         return 99;
@@ -189,7 +190,9 @@ pub extern "C" fn bench_synthesize(
     matrix: &[Coefficient],
     out: &mut [u32],
 ) -> u64
-    ensures { λ r. ⌜ answered r (now (out .exit)) ≡ benchAnswered (limitsOf q g e b) (now (numbers .entry)) (arrays (now (fingerprints .entry)) (now (parents .entry)) (now (codes .entry))) (query width exponent (now (matrix .entry))) (now (out .entry)) ⌝ }
+    ensures { λ r. ⌜ answered r (now (out .exit))
+        ≡ benchAnswered (limitsOf q g e b) (now (numbers .entry)) (arrays (now (fingerprints .entry)) (now (parents .entry)) (now (codes .entry)))
+        (query width exponent (now (matrix .entry))) (now (out .entry)) ⌝ }
 {
     if numbers.len() < 15 {
         return 2099;

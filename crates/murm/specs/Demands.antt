@@ -1,7 +1,7 @@
 -- The demands (SPECIFICATION 8.1 to 8.5), stated of what the public entries answer: `library_circuit_matrix` answers `listed`, `build`
--- answers `buildOf`, `synthesize` answers `synthesized`, for every input. Demand 1 is what the proofs of the functions say: every entry ends
--- on every input without an undefined step, and the clauses name each refusal and what the lent places then hold; where each refusal is told
--- is `Exactly`. Assumes nothing.
+-- answers `buildOf`, `synthesize` answers `synthesized`, for every input. Demand 1 is what the proofs of the functions say: every entry
+-- comes to an end whatever goes in, no step of it is undefined, and the clauses name each refusal and what the lent places then hold; where
+-- each refusal is told is `Exactly`. Assumes nothing.
 use mathlib.Core.List.{List}
 use Prim.Native.Nat.{ℕ}
 use lib.IntN.{ℤ}

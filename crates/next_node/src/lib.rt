@@ -29,7 +29,8 @@ pub fn put_root(print: u64, fingerprints: &mut [u64], parents: &mut [u32], codes
     codes[0] = MARK;
 }
 
-// Whether the gate is skipped after the node by the node's own gate: it inverts that gate, or shares no qubit with it and has the lower code.
+// Whether the gate is skipped after the node by the node's own gate: it inverts that gate, or the two are disjoint and its code is the lower one
+// (SPECIFICATION 6.5).
 pub fn is_pruned(node: usize, gate: u32, codes: &[u32]) -> bool
     requires there { ⌜ node < length (now codes) ⌝ }
     ensures pruned { λ r. ⌜ r ≡ prunedAt (now (codes .entry)) node gate ⌝ }

@@ -61,7 +61,7 @@ pub fn canonical_phase_power(m: &[Coefficient], n: usize) -> u8
     least_power(places::get(m, e))
 }
 
-// Whether two matrices of width n are equal up to phase: same exponent, same entries after each one's own phase (SPECIFICATION 1.12).
+// Whether two matrices of width n are equal up to phase: their exponents are equal, and so are all entries once each is phased (SPECIFICATION 1.12).
 pub fn equivalent_up_to_global_phase(
     left: &[Coefficient],
     right: &[Coefficient],

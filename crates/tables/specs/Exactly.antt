@@ -1,6 +1,7 @@
 -- Which input is refused, by which number and at which position, exactly (SPECIFICATION 9.1 to 9.3): the rows of each public entry in words,
 -- in their order; a build, an answer and a list are refused by a row exactly where it holds and none before it does. The rows are told again
--- here, as what is so and not as a test, so that the tests of Checks, Tables and Lists are checked against them. Assumes nothing.
+-- here, as what is so and not as a test, so that the tests of Checks, Tables and Lists are checked against them. Tests of the lower floors, as
+-- `subset`, `valid` and `allDivisible`, are taken as they are. Assumes nothing.
 use mathlib.Core.Path.{_≡_}
 use mathlib.Core.Logic.{_↔_, _⊎_}
 use mathlib.Core.Bool.{true, false}

@@ -48,7 +48,7 @@ two-products (g ∷ l) o =
     by (inl s) = inr (step s)
     by (inr s) = inl (power-trans 1 (step s) (power-of 1 (act-back 1 identity (proper 1 4096) (inverse-undoes 1 4096 4096 (samples .x-back)))))
 
--- so no two lists of X share a fingerprint, unless one's product is a power of omega times the other's
+-- so there is no clash among lists of X, however long they are (SPECIFICATION 8.14)
 pub no-shared : (G : ℕ) → NoSharedPrint 1 2 G
 no-shared G l m a b p q e = by (class l a) (class m b)
   where

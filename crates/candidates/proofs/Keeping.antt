@@ -34,7 +34,7 @@ generator-valid n basis j {gs} same small l =
 -- ---- what candidates keep, at node k and with hi nodes of earlier depths
 
 module _ (R : Rules) (E d hi : ℕ) where
-  pub record Kept (k : ℕ) (ns : List Node) : Type 0 where
+  pub record TriedKept (k : ℕ) (ns : List Node) : Type 0 where
     pub grown : Grown R ns
     pub low : ParentsTo k ns
     pub few : length ns ≤ E
@@ -42,11 +42,11 @@ module _ (R : Rules) (E d hi : ℕ) where
     pub flat : (j : ℕ) → j < hi → length (listAt ns j) ≤ d
     pub short : (j : ℕ) → j < length ns → length (listAt ns j) ≤ suc d
 
-  pub kept-try : (s : State) (k g : ℕ) → k < hi → List·Memᴰ g (R .generators) → Kept k (s .nodes) → Kept k (try R E s k g .nodes)
+  pub kept-try : (s : State) (k g : ℕ) → k < hi → List·Memᴰ g (R .generators) → TriedKept k (s .nodes) → TriedKept k (try R E s k g .nodes)
   kept-try s k g l m i =
       let ns : List Node = s .nodes in
       let c : Node = child R ns k g in
-      try-cases R E (λ t. Kept k (t .nodes)) s k g i
+      try-cases R E (λ t. TriedKept k (t .nodes)) s k g i
       (λ f a h. record {
         grown = more k g (i .grown) (omega (arith, i .size)) (i .low) m a;
         low = all-snoc ns c root (λ j v. 0 < j → v .parent ≤ k) (i .low) (λ p. le-refl k);
@@ -57,16 +57,16 @@ module _ (R : Rules) (E d hi : ℕ) where
       })
       (λ h. i)
 
-  kept-on : (k : ℕ) (ns : List Node) → Kept k ns → Kept (suc k) ns
+  kept-on : (k : ℕ) (ns : List Node) → TriedKept k ns → TriedKept (suc k) ns
   kept-on k ns i = record { grown = i .grown; low = λ j p z. omega (arith, i .low j p z); few = i .few; size = i .size; flat = i .flat; short = i .short }
 
   -- m nodes, up to hi
-  pub kept-layer : (s : State) (k m e : ℕ) → k + m ≡ e → e ≤ hi → Kept k (s .nodes) → Kept e (layer R E s k m .nodes)
+  pub kept-layer : (s : State) (k m e : ℕ) → k + m ≡ e → e ≤ hi → TriedKept k (s .nodes) → TriedKept e (layer R E s k m .nodes)
   kept-layer s k m e q l i =
-      layer-keeps R E (λ j t. Kept j (t .nodes)) k m e q (λ j t g a b z p. kept-try t j g (omega arith) z p) (λ j t p. kept-on j (t .nodes) p) s i
+      layer-keeps R E (λ j t. TriedKept j (t .nodes)) k m e q (λ j t g a b z p. kept-try t j g (omega arith) z p) (λ j t p. kept-on j (t .nodes) p) s i
 
   -- one node
-  pub kept-node : (s : State) (k : ℕ) → k < hi → Kept k (s .nodes) → Kept (suc k) (tryAll R E s k (R .generators) .nodes)
+  pub kept-node : (s : State) (k : ℕ) → k < hi → TriedKept k (s .nodes) → TriedKept (suc k) (tryAll R E s k (R .generators) .nodes)
   unfolding layer
   kept-node s k l i = kept-layer s k 1 (suc k) (omega arith) l i
 

@@ -14,7 +14,7 @@ use Rattle.walk.proofs.Sequences.{prefix-at}
 use Rattle.walk.proofs.Candidates.{try-later, tryAll-saturated}
 use Rattle.synthesis_arena.specs.declared.WidthLimits.{WidthLimits}
 use Rattle.next_node.specs.Arrays.{rules, unsaturated, Columns, Long, Live, After}
-use Rattle.candidates.proofs.Keeping.{mem-at, Kept, kept-try, unfilled}
+use Rattle.candidates.proofs.Keeping.{mem-at, TriedKept, kept-try, unfilled}
 
 module _ (lim : WidthLimits) (k d : ℕ) (f0 u0 c0 own : List ℕ) (goal : State) where
   abbrev R : Rules
@@ -29,7 +29,7 @@ module _ (lim : WidthLimits) (k d : ℕ) (f0 u0 c0 own : List ℕ) (goal : State
   pub record NodeRun (j : ℕ) (f u c : List ℕ) (count : ℕ) : Type 0 where
     pub ns : List Node
     pub columns : Columns lim f0 u0 c0 ns f u c count
-    pub kept : Kept R E d (suc k) k ns
+    pub kept : TriedKept R E d (suc k) k ns
     pub own-is : listAt ns k ≡ own
     pub rest : tryAll R E (unsaturated ns) k (drop j gens) ≡ goal
 

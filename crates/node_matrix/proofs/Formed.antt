@@ -19,7 +19,7 @@ use Rattle.lists.specs.Walk.{Ended}
 use Rattle.lists.specs.declared.Walked.the-variants.{Fits, UnfitAt}
 use Rattle.walk.specs.Chains.{Chain, good, bad, chainOf}
 use Rattle.synthesis_arena.specs.declared.WidthLimits.{WidthLimits}
-use Rattle.synthesis_arena.proofs.Told.{Read}
+use Rattle.synthesis_arena.proofs.Told.{ChainRead}
 use Rattle.node_matrix.specs.Matrices.{Readable}
 
 abbrev listOf : Chain → List ℕ
@@ -47,7 +47,7 @@ module _ {lim : WidthLimits} {u c : List ℕ} {node : ℕ} (h : Readable lim u c
   pub chain-not-bad : chainOf (lim .width) (lim .basis) u c 64 node ≡ bad → ⊥
   chain-not-bad e = clash (ap isGood (h .chain)) (ap isGood e)
 
-  module _ {old new : List ℕ} {m : ℕ} (r : Read (lim .width) (lim .basis) u c 64 node old new m) where
+  module _ {old new : List ℕ} {m : ℕ} (r : ChainRead (lim .width) (lim .basis) u c 64 node old new m) where
     part : take (m - 0) new ≡ r .list
     part = let z : m - 0 ≡ m = omega arith in ap (λ (i : ℕ). take i new) z ∙ r .first
 

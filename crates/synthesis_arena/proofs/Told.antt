@@ -31,7 +31,7 @@ module _ (fps : List ℕ) (count from f : ℕ) {r : Found} (told : toldFound r �
 
 module _ (n basis : ℕ) (parents codes : List ℕ) (limit node : ℕ) (old new : List ℕ) where
   -- the chain is good, and its list fills the first places
-  pub record Read (m : ℕ) : Type 0 where
+  pub record ChainRead (m : ℕ) : Type 0 where
     pub list : List ℕ
     pub is : chainOf n basis parents codes limit node ≡ good list
     pub size : m ≡ length list
@@ -45,10 +45,10 @@ module _ (n basis : ℕ) (parents codes : List ℕ) (limit node : ℕ) (old new 
     pub same : new ≡ old
 
   module _ {r : NodeCircuit} (told : written (toldCircuit r) new ≡ circuitOf (chainOf n basis parents codes limit node) old) where
-    pub circuit-read : {m : ℕ} → r ≡ Length m → Read m
+    pub circuit-read : {m : ℕ} → r ≡ Length m → ChainRead m
     circuit-read {m} e = by (chainOf n basis parents codes limit node) refl (sym (ap (λ (x : NodeCircuit). written (toldCircuit x) new) e) ∙ told)
       where
-        by : (k : Chain) → chainOf n basis parents codes limit node ≡ k → written (given m) new ≡ circuitOf k old → Read m
+        by : (k : Chain) → chainOf n basis parents codes limit node ≡ k → written (given m) new ≡ circuitOf k old → ChainRead m
         by (good l) f h =
             let a = ap (λ (o : ChainWritten). o .answer) h in
             let z : m ≡ length l = cc in

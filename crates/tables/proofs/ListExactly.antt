@@ -55,9 +55,9 @@ numberOf (refused r p) = r
 
 module _ (n : ℕ) (codes : List ℕ) (bytes : List ℤ) where
   -- the answer, with the row that is the first
-  data Ended : Type 0 where
-    at-row : (r p : ℕ) → First r p (listCauses n codes bytes) → outcome (refused r p) bytes ≡ listed n codes bytes → Ended
-    at-end : NoCause (listCauses n codes bytes) → outcome (given (product n codes .k)) (coefficients n (product n codes)) ≡ listed n codes bytes → Ended
+  data ListEnded : Type 0 where
+    at-row : (r p : ℕ) → First r p (listCauses n codes bytes) → outcome (refused r p) bytes ≡ listed n codes bytes → ListEnded
+    at-end : NoCause (listCauses n codes bytes) → outcome (given (product n codes .k)) (coefficients n (product n codes)) ≡ listed n codes bytes → ListEnded
 
   module _ (h : n ≤ 5) where
     not-wide : Past (cause 6 (5 < n))
@@ -71,7 +71,7 @@ module _ (n : ℕ) (codes : List ℕ) (bytes : List ℤ) where
         all-good : Past (causeAt 7 (FirstNotValid n codes))
         all-good p w = absurd (omega (arith, is-first n codes p w, w .inside))
 
-        stepped : (s : Steps) → steps n codes ≡ s → Ended
+        stepped : (s : Steps) → steps n codes ≡ s → ListEnded
         stepped allFit x =
             at-end (not-wide, (not-other, (all-good, ((λ p w. clash (fits-exactly n h codes .0 x p (w .inside)) (w .past)), tt))))
             (list-formed n codes bytes h c q (product n codes .k) (given-list n codes x refl))
@@ -79,19 +79,19 @@ module _ (n : ℕ) (codes : List ℕ) (bytes : List ℤ) where
             at-row 8 i (inr (not-wide, inr (not-other, inr (all-good, inl (refl, too-large-exactly n h codes i .0 x)))))
             (list-8 n codes bytes h c q i (refused-list n codes x))
 
-      coded : (b : Bool) → ltb (firstInvalid n codes) (length codes) ≡ b → Ended
+      coded : (b : Bool) → ltb (firstInvalid n codes) (length codes) ≡ b → ListEnded
       coded true x =
           let q = ltb-true (firstInvalid n codes) (length codes) x in
           at-row 7 (firstInvalid n codes) (inr (not-wide, inr (not-other, inl (refl, not-valid-at n codes q)))) (list-7 n codes bytes h c q)
       coded false x = stepped (ltb-false (firstInvalid n codes) (length codes) x) (steps n codes) refl
 
-    sized : (b : Bool) → eqb (length bytes) (byteCount n) ≡ b → Ended
+    sized : (b : Bool) → eqb (length bytes) (byteCount n) ≡ b → ListEnded
     sized true x = coded (eqb-true (length bytes) (byteCount n) x) (ltb (firstInvalid n codes) (length codes)) refl
     sized false x =
         let c = eqb-false (length bytes) (byteCount n) x in
         at-row 9 0 (inr (not-wide, inl (refl, (c, refl)))) (list-9 n codes bytes h c)
 
-  wide : (b : Bool) → ltb 5 n ≡ b → Ended
+  wide : (b : Bool) → ltb 5 n ≡ b → ListEnded
   wide true x = let h = ltb-true 5 n x in at-row 6 0 (inl (refl, (h, refl))) (list-6 n codes bytes h)
   wide false x = sized (ltb-false 5 n x) (eqb (length bytes) (byteCount n)) refl
 
@@ -111,7 +111,7 @@ module _ (n : ℕ) (codes : List ℕ) (bytes : List ℤ) where
   pub list : (after : List ℤ) (r p : ℕ) → (listed n codes bytes ≡ outcome (refused r p) after) ↔ (First r p (listCauses n codes bytes) × (after ≡ bytes))
   list after r p = (λ x. to x (wide (ltb 5 n) refl), λ x. from (wide (ltb 5 n) refl) (x .0) (x .1))
     where
-      to : listed n codes bytes ≡ outcome (refused r p) after → Ended → First r p (listCauses n codes bytes) × (after ≡ bytes)
+      to : listed n codes bytes ≡ outcome (refused r p) after → ListEnded → First r p (listCauses n codes bytes) × (after ≡ bytes)
       to x (at-row s j f y) =
           let z = y ∙ x in (
             subst (λ (i : ℕ). First r i (listCauses n codes bytes)) (ap (λ (o : ListOutcome). number (o .answer)) z)
@@ -120,7 +120,7 @@ module _ (n : ℕ) (codes : List ℕ) (bytes : List ℤ) where
           )
       to x (at-end f y) = clash refl (ap (λ (o : ListOutcome). isGiven (o .answer)) (y ∙ x))
 
-      from : Ended → First r p (listCauses n codes bytes) → after ≡ bytes → listed n codes bytes ≡ outcome (refused r p) after
+      from : ListEnded → First r p (listCauses n codes bytes) → after ≡ bytes → listed n codes bytes ≡ outcome (refused r p) after
       from (at-row s j g y) f z =
           let u = one-first (listCauses n codes bytes) one-each s j r p g f in
           sym y ∙ (λ k. outcome (refused (u .0 k) (u .1 k)) (sym z k))
@@ -129,10 +129,10 @@ module _ (n : ℕ) (codes : List ℕ) (bytes : List ℤ) where
   pub formed : (listed n codes bytes ≡ outcome (given (product n codes .k)) (coefficients n (product n codes))) ↔ NoCause (listCauses n codes bytes)
   formed = (λ x. to x (wide (ltb 5 n) refl), λ x. from x (wide (ltb 5 n) refl))
     where
-      to : listed n codes bytes ≡ outcome (given (product n codes .k)) (coefficients n (product n codes)) → Ended → NoCause (listCauses n codes bytes)
+      to : listed n codes bytes ≡ outcome (given (product n codes .k)) (coefficients n (product n codes)) → ListEnded → NoCause (listCauses n codes bytes)
       to x (at-row s j f y) = clash (ap (λ (o : ListOutcome). isGiven (o .answer)) (y ∙ x)) refl
       to x (at-end f y) = f
 
-      from : NoCause (listCauses n codes bytes) → Ended → listed n codes bytes ≡ outcome (given (product n codes .k)) (coefficients n (product n codes))
+      from : NoCause (listCauses n codes bytes) → ListEnded → listed n codes bytes ≡ outcome (given (product n codes .k)) (coefficients n (product n codes))
       from x (at-row s j f y) = absurd (none-first (listCauses n codes bytes) s j x f)
       from x (at-end f y) = sym y

@@ -5,8 +5,7 @@ use mathlib.Core.Logic.{_↔_}
 use Prim.Native.Nat.{ℕ, suc, _≤_, _<_}
 use lib.ListN.{length, getD}
 use Rattle.walk.specs.Walk.{root, listAt}
-use Rattle.walk.proofs.Grown.{parentAt}
-use Rattle.walk.specs.AtWidth.{printOf}
+use Rattle.walk.specs.AtWidth.{printOf, parentOf}
 use Rattle.walk.specs.Known.{SkippedRightly}
 use Rattle.tables.specs.Checks.{Limits, Arrays}
 use Rattle.tables.specs.Tables.{Table, walkOf, table, left, buildOf, widthAt, Query}
@@ -18,10 +17,10 @@ use Rattle.tables.specs.Demand3.{Complete}
 -- a parent lies below its node, and parents never fall; the depth of a node is one more than its parent's, depths never fall and rise by at most
 -- one, and none is above G; no two nodes have one fingerprint (SPECIFICATION 6.14)
 pub record Ordered (l : Limits) (w : ℕ) : Type 0 where
-  pub below : (j : ℕ) → 0 < j → j < length (walkOf l w .nodes) → parentAt (walkOf l w .nodes) j < j
-  pub parents-rise : (i j : ℕ) → 0 < i → i ≤ j → j < length (walkOf l w .nodes) → parentAt (walkOf l w .nodes) i ≤ parentAt (walkOf l w .nodes) j
+  pub below : (j : ℕ) → 0 < j → j < length (walkOf l w .nodes) → parentOf (getD (walkOf l w .nodes) j root) < j
+  pub parents-rise : (i j : ℕ) → 0 < i → i ≤ j → j < length (walkOf l w .nodes) → parentOf (getD (walkOf l w .nodes) i root) ≤ parentOf (getD (walkOf l w .nodes) j root)
   pub one-deeper : (j : ℕ) → 0 < j → j < length (walkOf l w .nodes)
-      → length (listAt (walkOf l w .nodes) j) ≡ suc (length (listAt (walkOf l w .nodes) (parentAt (walkOf l w .nodes) j)))
+      → length (listAt (walkOf l w .nodes) j) ≡ suc (length (listAt (walkOf l w .nodes) (parentOf (getD (walkOf l w .nodes) j root))))
   pub depths-rise : (i j : ℕ) → i ≤ j → j < length (walkOf l w .nodes) → length (listAt (walkOf l w .nodes) i) ≤ length (listAt (walkOf l w .nodes) j)
   pub depths-step : (j : ℕ) → suc j < length (walkOf l w .nodes) → length (listAt (walkOf l w .nodes) (suc j)) ≤ suc (length (listAt (walkOf l w .nodes) j))
   pub short : (j : ℕ) → j < length (walkOf l w .nodes) → length (listAt (walkOf l w .nodes) j) ≤ l .gates

@@ -16,7 +16,7 @@ use Rattle.synthesis_arena.specs.declared.WidthLimits.{WidthLimits}
 use Rattle.next_node.specs.Arrays.{rules, unsaturated, Columns, Long, Live, After}
 use Rattle.width_table.specs.declared.WidthTable.{WidthTable}
 use Rattle.width_table.specs.Table.{Start, Whole}
-use Rattle.candidates.proofs.Keeping.{Kept, kept-layer}
+use Rattle.candidates.proofs.Keeping.{TriedKept, kept-layer}
 
 -- what a width has come to, by its three numbers
 abbrev pub row : ℕ → ℕ → Bool → WidthTable
@@ -122,7 +122,7 @@ module _ (lim : WidthLimits) (f0 u0 c0 : List ℕ) (goal : Build) where
 
       pub depth-run-next : b ≡ false → (count′ ≡ count → ⊥) → DepthRun count (d + 1) f′ u′ c′ count′
       depth-run-next q e =
-          let i : Kept R E d (length (r .ns)) (length (r .ns)) (next .nodes)
+          let i : TriedKept R E d (length (r .ns)) (length (r .ns)) (next .nodes)
           = kept-layer R E d (length (r .ns)) (unsaturated (r .ns)) lo (length (r .ns) - lo) (length (r .ns)) (omega (arith, r .order, r .columns .count-is)) (le-refl (length (r .ns)))
           (record { grown = r .grown; low = r .low; few = r .few; size = le-refl (length (r .ns)); flat = r .flat; short = λ j p. omega (arith, r .flat j p) }) in
           record {

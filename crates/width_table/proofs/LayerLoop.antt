@@ -12,7 +12,7 @@ use Rattle.walk.specs.Walk.{Rules, Node, State, tryAll, layer}
 use Rattle.walk.proofs.Candidates.{layer-saturated}
 use Rattle.synthesis_arena.specs.declared.WidthLimits.{WidthLimits}
 use Rattle.next_node.specs.Arrays.{rules, unsaturated, Columns, Long, Live, After}
-use Rattle.candidates.proofs.Keeping.{Kept, kept-node, unfilled}
+use Rattle.candidates.proofs.Keeping.{TriedKept, kept-node, unfilled}
 
 module _ (lim : WidthLimits) (hi d : ℕ) (f0 u0 c0 : List ℕ) (goal : State) where
   abbrev R : Rules
@@ -27,7 +27,7 @@ module _ (lim : WidthLimits) (hi d : ℕ) (f0 u0 c0 : List ℕ) (goal : State) w
   pub record LayerRun (k : ℕ) (f u c : List ℕ) (count : ℕ) : Type 0 where
     pub ns : List Node
     pub columns : Columns lim f0 u0 c0 ns f u c count
-    pub kept : Kept R E d hi k ns
+    pub kept : TriedKept R E d hi k ns
     pub rest : layer R E (unsaturated ns) k (hi - k) ≡ goal
 
   module _ {k : ℕ} {f u c : List ℕ} {count : ℕ} (r : LayerRun k f u c count) where
@@ -61,11 +61,11 @@ module _ (lim : WidthLimits) (hi d : ℕ) (f0 u0 c0 : List ℕ) (goal : State) w
 
       pub layer-run-next : b ≡ false → LayerRun (k + 1) f′ u′ c′ count′
       layer-run-next q =
-          let i : Kept R E d hi (suc k) (tried .nodes) = kept-node R E d hi (unsaturated (r .ns)) k l (r .kept) in
+          let i : TriedKept R E d hi (suc k) (tried .nodes) = kept-node R E d hi (unsaturated (r .ns)) k l (r .kept) in
           record {
             ns = tried .nodes;
             columns = a .columns;
-            kept = subst (λ (z : ℕ). Kept R E d hi z (tried .nodes)) (sym (add-one k)) i;
+            kept = subst (λ (z : ℕ). TriedKept R E d hi z (tried .nodes)) (sym (add-one k)) i;
             rest = ap (λ (z : ℕ). layer R E (unsaturated (tried .nodes)) z (hi - z)) (add-one k)
                 ∙ ap (λ (t : State). layer R E t (suc k) (hi - suc k)) (sym (unfilled tried b (a .full-is) q)) ∙ layer-run-cons l;
           }

@@ -19,24 +19,24 @@ refusedWord = 114 ∷ 101 ∷ 102 ∷ 117 ∷ 115 ∷ 101 ∷ 100 ∷ space ∷ 
 abbrev pub tableWord : List ℕ
 tableWord = 116 ∷ 97 ∷ 98 ∷ 108 ∷ 101 ∷ space ∷ []
 
--- "`refused` number position"
+-- a refusal by its number and position
 unfoldable pub refusedLine : ℕ → ℕ → List ℕ
 refusedLine number position = (refusedWord ++ numberThen number space) ++ numberThen position newline
 
--- "`none`"
+-- no list
 unfoldable pub noneLine : List ℕ
 noneLine = 110 ∷ 111 ∷ 110 ∷ 101 ∷ newline ∷ []
 
--- "`table` width, entries, depth, saturated (0 or 1)"
+-- the line of a width: the width, its entries, its depth, and 1 where it is saturated, else 0
 unfoldable pub tableLine : ℕ → ℕ → ℕ → Bool → List ℕ
 tableLine width entries depth saturated =
     (((tableWord ++ numberThen width space) ++ numberThen entries space) ++ numberThen depth space) ++ numberThen (digitOf saturated) newline
 
--- "a line of node, parent, code"
+-- the line of a node
 unfoldable pub nodeLine : ℕ → ℕ → ℕ → List ℕ
 nodeLine node parent code = (numberThen node space ++ numberThen parent space) ++ numberThen code newline
 
--- "then that width's nodes, each a line of node, parent, code": as many as are filled, from the width's places
+-- the lines of a width's nodes: as many as are filled, from the width's places
 unfoldable pub nodeLines : List ℕ → List ℕ → ℕ → List ℕ
 nodeLines parents codes count = each (range 0 count) (λ i. nodeLine i (getD parents i 0) (getD codes i 0))
 
@@ -47,6 +47,6 @@ spacedCode code = (space ∷ []) ++ decimal code
 unfoldable pub spacedCodes : List ℕ → List ℕ
 spacedCodes codes = each codes spacedCode
 
--- "gate count, T charge and codes"
+-- a list that is answered: how many gates, their T charge, their codes
 unfoldable pub answerLine : List ℕ → List ℕ
 answerLine codes = ((numberThen (length codes) space ++ decimal (charge codes)) ++ spacedCodes codes) ++ (newline ∷ [])

@@ -24,24 +24,24 @@ use Rattle.circuits_input.specs.Allowed.{QueryLine}
 use Rattle.circuits_output.specs.Texts.{rowText, listText, queryText, queryTexts}
 use Rattle.circuits_output.specs.Output.{lentArrays, output}
 
--- "has a product equal to a power of omega times the matrix asked": the paper's products, and the list is of the basis
+-- the product of a list is a power of omega times that of the list asked, each as a product of matrices, and the list is of the basis
 pub record SameUpToPower (l : Limits) (w : ℕ) (asked m : List ℕ) : Type 0 where
   pub power : PowerOf w (paperProduct w asked) (paperProduct w m)
   pub of-basis : ListOf w (l .basis) m
 
--- "Suppose that a built table's gate limit is up to 13, and that no two lists of its basis at the matrix's width within that limit share a
--- fingerprint, unless one's product is a power of omega times the other's."; or, in place of the last, that each candidate of the width's walk
--- that was skipped as known has a node present for it
+-- the gate limit is up to 13; and of the lists of the basis and width within it, two with one fingerprint have products that differ by a power of
+-- omega at most; or, in place of the last, each candidate of the width's walk that was skipped as known has a node present for it
 pub record Condition (l : Limits) (w : ℕ) : Type 0 where
   pub gates : l .gates ≤ 13
   pub prints : NoSharedPrint w (l .basis) (l .gates) ⊎ SkippedRightly w (l .basis) (l .gates) (l .entries)
 
--- "every built table of that basis with no smaller limit gives that very list"; the program's lent list has room, so none refuses by 12
+-- every table that was built of the same basis, with no limit that is smaller, answers the same text; the program's lent list has room, so none
+-- refuses by 12
 abbrev pub SameInLarger : Limits → ℕ → List ℕ → List ℕ → Type 0
 SameInLarger l w asked text =
     (l′ : Limits) (lent m : Arrays) (t : Table) → NoSmaller l l′ → buildOf l′ lent ≡ left (table t) m → listText t m w asked ≡ text
 
--- the text is a line that document 01 allows, of gate count, T charge and codes, and its newline: it can be read in one way
+-- the text is a line of numbers, of gate count, T charge and codes, and its newline: it can be read in one way
 pub record ReadsAs (m text : List ℕ) : Type 0 where
   pub line : List ℕ
   pub says : AllowedLine (length m ∷ charge m ∷ m) line
@@ -55,25 +55,23 @@ pub data ListRefused (w : ℕ) (asked : List ℕ) : ℕ → ℕ → Type 0 where
 
 -- what a query's line of output says, where the limits are l
 pub data LineMeans (l : Limits) (w : ℕ) (asked text : List ℕ) : Type 0 where
-  -- "a list answered is shortest: every list of that basis and width, of any length, whose product is a power of omega times the matrix has at
-  -- least as many gates"
+  -- a list; under the condition no list with such a product, however long, has fewer gates
   a-list : (m : List ℕ) → text ≡ answerLine m → ReadsAs m text → SameUpToPower l w asked m → length m ≤ l .gates → SameInLarger l w asked text
       → (Condition l w → (o : List ℕ) → SameUpToPower l w asked o → length m ≤ length o) → LineMeans l w asked text
-  -- "at a built width that is not saturated, a matrix that is not refused gets "none" exactly when no list of that basis and width within the
-  -- limit has such a product": where there is one, the line is not this one
+  -- none; under the condition, at a built width that is not saturated, no list within the gate limit has such a product
   no-list : text ≡ noneLine
       → (Condition l w → 0 < w → w ≤ l .qubits → walkOf l w .saturated ≡ false → (o : List ℕ) → SameUpToPower l w asked o → length o ≤ l .gates → ⊥)
       → LineMeans l w asked text
   -- a refusal is the list's own: the table refuses no matrix of a list
   refused : (number position : ℕ) → text ≡ refusedLine number position → ListRefused w asked number position → LineMeans l w asked text
 
--- "`table` width, entries, depth, saturated (0 or 1), then that width's nodes, each a line of node, parent, code": those of the width's walk
+-- the line of a width and the lines of its nodes, by the width's walk
 unfoldable pub walkText : Limits → ℕ → List ℕ
 walkText l w = rowText w (widthOf (walkOf l w)) (parentsOf l w) (codesOf l w)
 
 -- the output of an input whose line one has the limits l, and whose later lines are ls, where the build returned t and left m in the arrays
 pub record OutputMeans (input : List ℕ) (l : Limits) (ls : List InputLine) (t : Table) (m : Arrays) : Type 0 where
-  -- "For each width rising it prints .."; "After the last width comes per query .."
+  -- each width, rising, and then a text for each later line
   pub whole : output input ≡ each (range 1 (l .qubits)) (walkText l) ++ queryTexts t m ls
   -- the record's count, depth and saturated are the walk's
   pub rows : (w : ℕ) → 0 < w → w ≤ l .qubits → widthAt t w ≡ widthOf (walkOf l w)

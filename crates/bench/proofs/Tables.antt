@@ -6,7 +6,7 @@ use Prim.Native.Nat.{ℕ, _+_, _≤_, _<_}
 use borrow.Author.Tests.{lt-ltb, le-ltb}
 use lib.ListN.{length}
 use Rattle.ints.specs.Lists.{over}
-use Rattle.width_answer.specs.Answers.{Reply, outcome}
+use Rattle.walk.specs.Answers.{Reply, outcome}
 use Rattle.tables.specs.Checks.{Limits, Arrays}
 use Rattle.tables.specs.Tables.{Table, BuildReply, Left, left, buildOf, Query, synthesized}
 use Rattle.murm_config.specs.Told.{toldMurm}

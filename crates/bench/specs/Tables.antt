@@ -6,7 +6,7 @@ use Prim.Native.Nat.{ℕ, _+_}
 use lib.Dec.{eqb, ltb}
 use lib.ListN.{length, getD}
 use Rattle.ints.specs.Lists.{pick, over}
-use Rattle.width_answer.specs.Answers.{Reply, Outcome, given, none, refused}
+use Rattle.walk.specs.Answers.{Reply, Outcome, given, none, refused}
 use Rattle.tables.specs.Checks.{Limits, limitsOf, Arrays}
 use Rattle.tables.specs.Tables.{Width, Table, BuildReply, table, refusal, Left, buildOf, Query, synthesized}
 use Rattle.circuits_text.specs.Writing.{digitOf}

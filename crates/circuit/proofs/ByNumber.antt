@@ -32,7 +32,7 @@ kind-placed Other = refl
 pub kind-used : (k : Kind) → isKind k ≡ true → 0 < arity k
 kind-used k h = let e = eqb-false (arity k) 0 (not-true (eqb (arity k) 0) (kind-placed k ∙ h)) in omega arith
 
--- a kind has at most three operands, and sorts at most three
+-- a kind has at most three operands, and wants at most three in rising order
 pub arity-most : (k : Kind) → (arity k ≤ 3) × (sorted k ≤ 3)
 unfolding arity sorted
 arity-most H = (omega arith, omega arith)

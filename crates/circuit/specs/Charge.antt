@@ -4,7 +4,7 @@ use Prim.Native.Nat.{ℕ, _+_}
 use Rattle.circuit.specs.Kinds.{Kind, H, X, Z, S, Sdg, T, Tdg, Cx, Cz, Ccx, Ccz, Other}
 use Rattle.circuit.specs.Codes.{kindOf}
 
--- "The T charge counts the kinds T and Tdg."
+-- T and Tdg count 1, the other kinds 0 (SPECIFICATION 2.9)
 unfoldable pub kindCharge : Kind → ℕ
 kindCharge T = 1
 kindCharge Tdg = 1

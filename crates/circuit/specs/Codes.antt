@@ -1,4 +1,4 @@
--- Gate codes: "A gate code is kind × 4096 + a × 256 + b × 16 + c", and when one is valid at a width. Assumes nothing.
+-- A gate as one number, its code, and when a code is valid at a width (SPECIFICATION 2.3 to 2.5). Assumes nothing.
 use mathlib.Core.Bool.{Bool, true, _&&_}
 use mathlib.Core.List.{List, [], _∷_}
 use Prim.Native.Nat.{ℕ, _+_, _*_, _/_, _%_}
@@ -11,7 +11,7 @@ use Rattle.circuit.specs.Sets.{member}
 abbrev pub codeOf : ℕ → ℕ → ℕ → ℕ → ℕ
 codeOf k a b c = k * 4096 + a * 256 + b * 16 + c
 
--- the parts of a code
+-- the four parts, which every number has, whether or not it is the code of a gate
 abbrev pub kindNumber : ℕ → ℕ
 kindNumber g = g / 4096
 
@@ -39,20 +39,21 @@ rises [] = true
 rises (x ∷ []) = true
 rises (x ∷ y ∷ l) = ltb x y && rises (y ∷ l)
 
--- "Cz a < b, Ccx first control < second, Ccz a < b < c": the first m operands are in rising order
+-- the first m operands rise; how many must, each kind says (SPECIFICATION 2.1)
 abbrev pub ordered : ℕ → ℕ → ℕ → ℕ → Bool
 ordered m a b c = rises (take m (a ∷ b ∷ c ∷ []))
 
--- "one of the eleven kinds, operands below n and distinct, unused ones 0, Cz a < b, Ccx first control < second, Ccz a < b < c"
+-- valid at width n: the kind is one of the eleven, its operands are below n, pairwise different and in the order that it wants, and those that
+-- it does not have are 0 (SPECIFICATION 2.4)
 unfoldable pub valid : ℕ → ℕ → Bool
 valid n g =
     isKind (kindOf g)
     && (placed n (arity (kindOf g)) (first g) (second g) (third g) && ordered (sorted (kindOf g)) (first g) (second g) (third g))
 
--- "each code valid at that width and of a kind in B"
+-- valid for a basis at width n: valid there, and the kind is in the basis (SPECIFICATION 2.5)
 unfoldable pub validFor : ℕ → ℕ → ℕ → Bool
 validFor n basis g = member basis (kindNumber g) && valid n g
 
--- "Its parent and gate both read 4294967295.": what node 0 of a table has in the place of a parent and of a code
+-- the mark: node 0 of a table has it in the place of a parent and of a code (SPECIFICATION 2.10)
 abbrev pub mark : ℕ
 mark = 4294967295

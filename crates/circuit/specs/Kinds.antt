@@ -1,90 +1,59 @@
--- The eleven kinds of gate and what each has: its number, its operands, the kind that undoes it. Assumes nothing.
-use mathlib.Core.Bool.{Bool, true, false}
+-- The eleven kinds of gate and what each has: its number, its operands, the kind that undoes it (SPECIFICATION 2.1). Assumes nothing.
+use mathlib.Core.Bool.{Bool}
 use mathlib.Core.List.{List, [], _∷_}
 use Prim.Native.Nat.{ℕ}
+use lib.Dec.{ltb}
 use lib.ListN.{getD}
 
 -- one of the eleven kinds, or none of them
 pub data Kind : Type 0 where
   H X Z S Sdg T Tdg Cx Cz Ccx Ccz Other : Kind
 
--- "H 0, X 1, Z 2, S 3, Sdg 4, T 5, Tdg 6, Cx 8, Cz 9, Ccx 10, Ccz 11": the numbers of GateKind::ALL, where 7 is Rz
+-- the kinds in the order of their numbers, which are those of GateKind::ALL; 7 is Rz there
 abbrev pub kinds : List Kind
 kinds = H ∷ X ∷ Z ∷ S ∷ Sdg ∷ T ∷ Tdg ∷ Other ∷ Cx ∷ Cz ∷ Ccx ∷ Ccz ∷ []
 
 unfoldable pub kindAt : ℕ → Kind
 kindAt i = getD kinds i Other
 
--- the number of a kind; what is none of the eleven has the number of Rz
+-- What a kind has: its number; how many operands; how many of its first operands stand in rising order (both of Cz, the controls of Ccx, all three
+-- of Ccz); and the kind that undoes it
+pub record About : Type 0 where
+  pub number : ℕ
+  pub arity : ℕ
+  pub sorted : ℕ
+  pub dual : Kind
+
+abbrev pub has : ℕ → ℕ → ℕ → Kind → About
+has number arity sorted dual = record { number = number; arity = arity; sorted = sorted; dual = dual }
+
+-- what is none of the eleven has the number of Rz and no operand
+abbrev pub about : Kind → About
+about H = has 0 1 0 H
+about X = has 1 1 0 X
+about Z = has 2 1 0 Z
+about S = has 3 1 0 Sdg
+about Sdg = has 4 1 0 S
+about T = has 5 1 0 Tdg
+about Tdg = has 6 1 0 T
+about Cx = has 8 2 0 Cx
+about Cz = has 9 2 2 Cz
+about Ccx = has 10 3 2 Ccx
+about Ccz = has 11 3 3 Ccz
+about Other = has 7 0 0 Other
+
 unfoldable pub number : Kind → ℕ
-number H = 0
-number X = 1
-number Z = 2
-number S = 3
-number Sdg = 4
-number T = 5
-number Tdg = 6
-number Cx = 8
-number Cz = 9
-number Ccx = 10
-number Ccz = 11
-number Other = 7
+number k = about k .number
 
--- how many operands a kind has
 unfoldable pub arity : Kind → ℕ
-arity H = 1
-arity X = 1
-arity Z = 1
-arity S = 1
-arity Sdg = 1
-arity T = 1
-arity Tdg = 1
-arity Cx = 2
-arity Cz = 2
-arity Ccx = 3
-arity Ccz = 3
-arity Other = 0
+arity k = about k .arity
 
--- how many of a kind's first operands stand in rising order: both of Cz, the controls of Ccx, all three of Ccz
 unfoldable pub sorted : Kind → ℕ
-sorted H = 0
-sorted X = 0
-sorted Z = 0
-sorted S = 0
-sorted Sdg = 0
-sorted T = 0
-sorted Tdg = 0
-sorted Cx = 0
-sorted Cz = 2
-sorted Ccx = 2
-sorted Ccz = 3
-sorted Other = 0
+sorted k = about k .sorted
 
-unfoldable pub isKind : Kind → Bool
-isKind H = true
-isKind X = true
-isKind Z = true
-isKind S = true
-isKind Sdg = true
-isKind T = true
-isKind Tdg = true
-isKind Cx = true
-isKind Cz = true
-isKind Ccx = true
-isKind Ccz = true
-isKind Other = false
-
--- the kind that undoes a kind
 unfoldable pub dual : Kind → Kind
-dual H = H
-dual X = X
-dual Z = Z
-dual S = Sdg
-dual Sdg = S
-dual T = Tdg
-dual Tdg = T
-dual Cx = Cx
-dual Cz = Cz
-dual Ccx = Ccx
-dual Ccz = Ccz
-dual Other = Other
+dual k = about k .dual
+
+-- a kind of the eleven: each of them has an operand
+unfoldable pub isKind : Kind → Bool
+isKind k = ltb 0 (about k .arity)

@@ -1,4 +1,4 @@
--- The two tests on pairs of codes, and the qubits of a code as one set of bits. Assumes nothing.
+-- The two tests on pairs of codes, and the qubits of a code as one set of bits (SPECIFICATION 2.6, 2.7). Assumes nothing.
 use mathlib.Core.Bool.{Bool, not, _&&_}
 use mathlib.Core.List.{List, [], _∷_}
 use Prim.Native.Nat.{ℕ, _%_, _^_}

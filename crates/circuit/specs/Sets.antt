@@ -1,10 +1,10 @@
--- Gate sets: "a 32-bit set as GateSet::bits has it: bit i is kind i". Assumes nothing.
+-- Sets of kinds, which are 32-bit numbers: bit i stands for the kind of number i. A basis is one (SPECIFICATION 2.2). Assumes nothing.
 use mathlib.Core.Bool.{Bool, not, _||_}
 use Prim.Native.Nat.{ℕ}
 use Rattle.ints.specs.Bits.{bit}
 use Rattle.ints.specs.Lists.{range, all}
 
--- "Supported bits sum to 3967; the Rust's default base is 383."
+-- the set of the eleven kinds, and the original's default basis: H to Tdg and Cx (SPECIFICATION 2.2)
 abbrev pub supported : ℕ
 supported = 3967
 

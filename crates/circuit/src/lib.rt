@@ -170,10 +170,10 @@ fn singleton(q: u32) -> u32
 pub struct GateSet(pub u32);
 
 impl GateSet {
-    // The original's default base: H, X, Z, S, Sdg, T, Tdg, Cx.
+    // The original's default basis: H, X, Z, S, Sdg, T, Tdg, Cx (SPECIFICATION 2.2).
     pub const BASE: GateSet = GateSet(383);
 
-    // The base with Cz, Ccx, Ccz.
+    // That basis with Cz, Ccx, Ccz: all eleven kinds.
     pub const SUPPORTED: GateSet = GateSet(3967);
 
     pub fn bits(self) -> u32
@@ -198,7 +198,7 @@ impl GateSet {
         self.0 == 0
     }
 
-    // The base as a value, with its number stated.
+    // The default basis as a value, with its number stated.
     pub fn default_base() -> GateSet
         ensures { λ r. ⌜ r .0 ≡ base ⌝ }
     {

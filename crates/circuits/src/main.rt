@@ -1,4 +1,4 @@
-// The program `circuits`: reads standard input, and writes what circuits_output::circuits makes of it.
+// The program `circuits`: reads standard input, and writes what circuits_output::circuits makes of it (SPECIFICATION, chapter 10).
 ghost use mathlib.Core.Path.{_≡_};
 ghost use Prim.Native.Nat.{_≤_};
 ghost use lib.ListN.{length};
@@ -8,7 +8,7 @@ use circuits_output::Printed;
 use libc::STDIN_FILENO;
 use libc::STDOUT_FILENO;
 
-// The longest input, and one byte more.
+// The longest input, and one byte more, by which a longer one is seen (SPECIFICATION 10.1).
 fn input_space() -> [u8; 16385]
     ensures { λ r. ⌜ 16385 ≡ length r ⌝ }
 {

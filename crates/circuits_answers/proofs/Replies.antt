@@ -9,7 +9,8 @@ use lib.Seq.{length-take-le}
 use Rattle.tables.specs.Checks.{Arrays}
 use Rattle.tables.specs.Tables.{Table}
 use Rattle.murm.specs.declared.Listed.{Listed}
-use Rattle.murm.specs.Entries.{Outcome, outcome, toldListed, listed}
+use Rattle.murm.specs.Entries.{toldListed}
+use Rattle.tables.specs.Lists.{ListOutcome, outcome, listed}
 use Rattle.circuits_input.specs.declared.Question.{Question}
 use Rattle.circuits_input.specs.Input.{InputLine, questionOf}
 use Rattle.circuits_input.specs.Told.{toldQuestion}
@@ -45,7 +46,7 @@ module _ (t : Table) (m : Arrays) (out : List ℕ) where
   unfolding listReply
   list-reply width codes {r} {s} {lent} {coefficients} e l h =
       ap (λ (x : Listed). formedReply t m width out (toldListed x) coefficients) (sym e)
-      ∙ ap (λ (o : Outcome). formedReply t m width out (o .answer) (o .bytes)) (h ∙ ap (listed width codes) l)
+      ∙ ap (λ (o : ListOutcome). formedReply t m width out (o .answer) (o .bytes)) (h ∙ ap (listed width codes) l)
 
   -- what a line asks is the case s
   pub line-reply :

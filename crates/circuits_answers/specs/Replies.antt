@@ -1,4 +1,4 @@
--- What a table answers to a list, and to a later line of the input. Assumes nothing.
+-- What a table answers to a list, and to a later line of the input (SPECIFICATION 10.6). Assumes nothing.
 use mathlib.Core.List.{List}
 use Prim.Native.Nat.{ℕ}
 use lib.Dec.{ltb}
@@ -7,11 +7,12 @@ use lib.ListN.{replicate}
 use Rattle.ints.specs.Lists.{pick}
 use Rattle.exact.specs.Answers.{Answer}
 use Rattle.exact.specs.Answers as e
-use Rattle.width_answer.specs.Answers as a
+use Rattle.walk.specs.Answers as a
 use Rattle.tables.specs.Checks.{Arrays, byteCount}
 use Rattle.tables.specs.Tables.{Table, query, synthesized}
 use Rattle.murm.specs.declared.Synthesized.{Synthesized}
-use Rattle.murm.specs.Entries.{listed, toldSynthesized}
+use Rattle.murm.specs.Entries.{toldSynthesized}
+use Rattle.tables.specs.Lists.{listed}
 use Rattle.circuits_input.specs.Input.{Read, gives, refused, InputLine, AskedList, questionOf}
 
 -- what a table answered, and what the list lent to it then holds

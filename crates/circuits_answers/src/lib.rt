@@ -1,4 +1,4 @@
-// A query of the program `circuits` is answered: its line is read, its list's matrix is formed, and the table is asked for it.
+// Answers a query of the program `circuits`: reads its line, forms the matrix of its list and asks the table for it (SPECIFICATION 10.6).
 ghost use mathlib.Core.Path.{_≡_};
 ghost use Prim.Native.Nat.{_≤_};
 ghost use lib.ListN.{length};
@@ -30,7 +30,7 @@ pub fn coefficient_space() -> [Coefficient; 4096]
     [0; 4096]
 }
 
-// A list's matrix is formed and asked of the table. The answer fills the first places of `list`.
+// Forms the matrix of the gates and asks the table for it. A list that is answered stands at the beginning of `list`.
 fn answer_list(
     table: Murm,
     width: u32,

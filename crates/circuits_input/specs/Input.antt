@@ -1,4 +1,4 @@
--- What an input asks, by its bytes: how it falls into lines, the limits of line one, the list of a later line. Assumes nothing.
+-- What an input asks, by its bytes: its lines, the limits of line one, the list of a later line (SPECIFICATION 10.1 to 10.4). Assumes nothing.
 use mathlib.Core.Bool.{Bool, _&&_}
 use mathlib.Core.List.{List, [], _∷_}
 use Prim.Native.Nat.{ℕ, _+_}
@@ -13,7 +13,7 @@ pub data Read (A : Type 0) : Type 0 where
   gives : A → Read A
   refused : ℕ → ℕ → Read A
 
--- a line of another form is refused by 14
+-- a line of another form is refused by 14 (SPECIFICATION 9.1)
 abbrev pub broken : {A : Type 0} → Read A
 broken = refused 14 0
 
@@ -39,7 +39,7 @@ abbrev pub readLine : {A : Type 0} → (List ℕ → Read A) → InputLine → R
 readLine by (ended l) = pick (allNumbers (words l)) (by (numbers (words l))) broken
 readLine by (cut l) = broken
 
--- ---- line one: Q G E B
+-- ---- line one: four numbers, which are the limits Q, G and E and the basis B (SPECIFICATION 10.3)
 
 abbrev pub limitsIn : List ℕ → Limits
 limitsIn ns = limitsOf (getD ns 0 0) (getD ns 1 0) (getD ns 2 0) (getD ns 3 0)
@@ -70,7 +70,7 @@ abbrev pub linesInput : List InputLine → Read Wanted
 linesInput [] = broken
 linesInput (l ∷ ls) = withLater ls (lineOne l)
 
--- up to 16,384 bytes are read; more are refused by 15
+-- more than 16,384 bytes are refused by 15, whatever they are (SPECIFICATION 10.1)
 unfoldable pub inputOf : List ℕ → Read Wanted
 inputOf bytes = pick (ltb 16384 (length bytes)) (refused 15 0) (linesInput (linesOf bytes))
 
@@ -84,7 +84,7 @@ pub record AskedList : Type 0 where
 abbrev pub askedList : ℕ → List ℕ → AskedList
 askedList w l = record { width = w; codes = l }
 
--- the count is up to 256, and that many codes follow it
+-- the count is at most 256, and that many codes follow it (SPECIFICATION 10.4)
 abbrev pub isQuery : List ℕ → Bool
 isQuery ns = leb 2 (length ns) && (leb (getD ns 1 0) 256 && eqb (length ns) (getD ns 1 0 + 2))
 

@@ -1,4 +1,4 @@
-// What the program `circuits` reads: the limits on line one, and the list on each later line.
+// What the program `circuits` reads: the limits on line one, and the list on each later line (SPECIFICATION 10.1 to 10.4).
 ghost use mathlib.Core.Path.{_≡_};
 ghost use lib.ListN.{length};
 ghost use Rattle.circuits_input.specs.Input.{ended, lineOne, isQuery};

@@ -1,4 +1,4 @@
--- The specification's example, computed: the line of its first answer. Assumes nothing.
+-- The worked example, computed: the line of its first answer (SPECIFICATION 10.7). Assumes nothing.
 use mathlib.Core.List.{[], _∷_}
 use mathlib.Core.Path.{_≡_, refl}
 use Rattle.circuit.specs.Charge.{kindCharge, charge}

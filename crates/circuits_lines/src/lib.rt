@@ -1,5 +1,5 @@
-// The lines that the program `circuits` prints, put into a lent array of bytes. A line's function answers the place after the line, and says how
-// many bytes the line has at most.
+// The lines that the program `circuits` prints, put into a lent array of bytes (SPECIFICATION 10.5, 10.6). A line's function answers the place
+// after the line, and says how many bytes the line has at most.
 ghost use Prim.Native.Nat.{_+_, _*_, _≤_};
 ghost use lib.ListN.{length, drop};
 ghost use Rattle.refusal.specs.Told.{numberOf, positionOf};
@@ -20,7 +20,7 @@ pub fn put_number(out: &mut [u8], at: usize, n: u64, after: u8) -> usize
     circuits_text::put_byte(out, next, after)
 }
 
-// `refused` number position: at most 50 bytes.
+// `refused`, then the number and the position of a refusal: at most 50 bytes.
 pub fn put_refused(out: &mut [u8], at: usize, why: Refusal) -> usize
     requires { ⌜ at + 50 ≤ length (now out) ⌝ }
     ensures text { λ r. ⌜ Put at (refusedLine (numberOf why) (positionOf why)) r (now (out .entry)) (now (out .exit)) ⌝ }
@@ -32,7 +32,7 @@ pub fn put_refused(out: &mut [u8], at: usize, why: Refusal) -> usize
     put_number(out, second, told.1, NEWLINE)
 }
 
-// `table` width, entries, depth, saturated: at most 90 bytes.
+// `table`, then the width, its node count, its completed depth and 1 or 0 for saturated: at most 90 bytes.
 pub fn put_table_line(out: &mut [u8], at: usize, width: u32, row: WidthTable) -> usize
     requires { ⌜ at + 90 ≤ length (now out) ⌝ }
     ensures text { λ r. ⌜ Put at (tableLine width (row .count) (row .depth) (row .saturated)) r (now (out .entry)) (now (out .exit)) ⌝ }
@@ -45,7 +45,7 @@ pub fn put_table_line(out: &mut [u8], at: usize, width: u32, row: WidthTable) ->
     put_number(out, fourth, circuits_text::digit(row.saturated), NEWLINE)
 }
 
-// Node, parent, code: at most 33 bytes, where 43 are left.
+// A node's number, its parent and its code: at most 33 bytes, where 43 are left.
 fn put_node(out: &mut [u8], at: usize, node: u32, parent: u32, code: u32) -> usize
     requires { ⌜ at + 43 ≤ length (now out) ⌝ }
     ensures text { λ r. ⌜ Put at (nodeLine node parent code) r (now (out .entry)) (now (out .exit)) ⌝ }
@@ -104,7 +104,7 @@ pub fn put_codes(out: &mut [u8], at: usize, codes: &[u32]) -> usize
     p
 }
 
-// Gate count, T charge, codes: at most 42 bytes and 11 for each code, and 10 more are left.
+// How many gates a list has, its T charge and its codes: at most 42 bytes and 11 for each code, and 10 more are left.
 pub fn put_answer(out: &mut [u8], at: usize, codes: &[u32]) -> usize
     requires { ⌜ at + 11 * length (now codes) + 52 ≤ length (now out) ⌝ }
     ensures text { λ r. ⌜ Put at (answerLine (now (codes .entry))) r (now (out .entry)) (now (out .exit)) ⌝ }

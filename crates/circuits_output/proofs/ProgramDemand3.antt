@@ -1,4 +1,4 @@
--- Demand 3 of the program's lines, from demand 3 of the entries. Assumes nothing.
+-- Demand 3 of the program's lines, from demand 3 of the entries (SPECIFICATION 8.3 to 8.5). Assumes nothing.
 use mathlib.Core.Path.{_≡_, refl, sym, ap, _∙_, subst}
 use mathlib.Core.Bool.{Bool, true, false}
 use mathlib.Core.Logic.{_⊎_, ⊎-elim}
@@ -27,25 +27,24 @@ use Rattle.exact.proofs.Papers.{paper-value}
 use Rattle.exact.proofs.Coded.{valid-below}
 use Rattle.exact.specs.Places.{held}
 use Rattle.walk.specs.Walk.{gate}
-use Rattle.walk.specs.AtWidth.{atWidth, ListOf}
-use Rattle.width_table.specs.Table.{parentOf}
-use Rattle.width_table.proofs.Columns.{map-at}
+use Rattle.walk.specs.AtWidth.{atWidth, ListOf, parentOf}
+use Rattle.walk.proofs.Held.{map-at}
 use Rattle.walk.proofs.Prefixes.{completed-unsaturated}
 use Rattle.tables.specs.Checks.{Limits, Arrays, byteCount, queryRows}
-use Rattle.tables.specs.Tables.{Table, walkOf, widthAt, widthOf, parentsOf, codesOf, partOf, Query, query, listRow, synthesized}
+use Rattle.tables.specs.Tables.{Table, Width, walkOf, widthAt, widthOf, parentsOf, codesOf, partOf, Query, query, listRow, synthesized}
 use Rattle.tables.specs.Built.{Built}
 use Rattle.tables.specs.Demand3 as d
 use Rattle.tables.specs.Demand3.{Gives, Refuses, NotRefused, NoSmaller, Complete, Decided}
-use Rattle.tables.proofs.Demand3.{demand}
+use Rattle.tables.proofs.Demand3.{demand, beside}
 use Rattle.tables.proofs.Accepted.{accepted}
 use Rattle.tables.proofs.Counts.{width-is}
 use Rattle.tables.proofs.FromBuild.{walk-count}
 use Rattle.tables.proofs.Rows.{first-past, firstRow-append, numbered-query}
 use Rattle.tables.proofs.Refused.{never-refused}
 use Rattle.tables.specs.Checks.{firstRow}
-use Rattle.murm.specs.Entries.{Outcome, outcome, firstInvalid, formed, listed}
-use Rattle.murm.proofs.Checks.{all-valid}
-use Rattle.murm.proofs.Demand2.{demand-2}
+use Rattle.tables.specs.Lists.{ListOutcome, outcome, firstInvalid, formed, listed}
+use Rattle.tables.proofs.Lists.{all-valid}
+use Rattle.tables.proofs.Demand2.{demand-2}
 use Rattle.murm.proofs.Queried.{accepted-allowed}
 use Rattle.circuits_text.specs.Reading.{space}
 use Rattle.circuits_text.specs.Writing.{decimal}
@@ -170,12 +169,12 @@ module _ (t : Table) (m : Arrays) (b : Built t m) (w : ℕ) (asked : List ℕ) (
 
   complete : Condition (t .limits) w → Complete t m q
   complete c =
-      ⊎-elim (λ p. demand .complete t m b (c .gates) q p) (λ p. demand .complete-rightly t m b (c .gates) q p) (c .prints)
+      ⊎-elim (λ p. demand .complete t m b (c .gates) q p) (λ p. beside .complete-rightly t m b (c .gates) q p) (c .prints)
 
   -- its text
   text : listText t m w asked ≡ answerText (synthesized t m q lentList)
   unfolding listText listReply
-  text = ap (λ (o : Outcome). answerText (formedReply t m w lentList (o .answer) (o .bytes))) e
+  text = ap (λ (o : ListOutcome). answerText (formedReply t m w lentList (o .answer) (o .bytes))) e
 
   given-text : (l : List ℕ) → Gives t m q lentList l → listText t m w asked ≡ answerLine l
   given-text l g = text ∙ (ap answerText g ∙ ap answerLine (take-at l (drop (length l) lentList) (length l) refl))
@@ -205,16 +204,16 @@ module _ (t : Table) (m : Arrays) (b : Built t m) (w : ℕ) (asked : List ℕ) w
           (λ c o z. complete t m b w asked k bytes e c .shortest lentList l g o (from t m b w asked k bytes e o z))
       by (d.no-list g) =
           no-list (text t m b w asked k bytes e ∙ ap answerText g)
-          (λ c p u s o z h. complete t m b w asked k bytes e c .none-exactly p u s lentList (not-refused t m b w asked k bytes e) .0 g o
-          (from t m b w asked k bytes e o z) h)
+          (λ c p u s o z h. complete t m b w asked k bytes e c .none-exactly p u (ap (λ (v : Width). v .saturated) (width-is t m b w p u) ∙ s) lentList
+          (not-refused t m b w asked k bytes e) .0 g o (from t m b w asked k bytes e o z) h)
       by (d.a-refusal r n) = absurd (not-refused t m b w asked k bytes e r n)
 
   refused-means : (number position : ℕ) (bytes : List ℤ) → listed w asked (lentCoefficients w) ≡ outcome (e.refused number position) bytes
       → LineMeans (t .limits) w asked (listText t m w asked)
   unfolding listText listReply
   refused-means number position bytes x =
-      refused number position (ap (λ (o : Outcome). answerText (formedReply t m w lentList (o .answer) (o .bytes))) x)
-      (subst (Own w asked) (ap (λ (o : Outcome). o .answer) x) (own w asked))
+      refused number position (ap (λ (o : ListOutcome). answerText (formedReply t m w lentList (o .answer) (o .bytes))) x)
+      (subst (Own w asked) (ap (λ (o : ListOutcome). o .answer) x) (own w asked))
 
   line-means : LineMeans (t .limits) w asked (listText t m w asked)
   line-means = by (listed w asked (lentCoefficients w) .answer) (listed w asked (lentCoefficients w) .bytes) refl

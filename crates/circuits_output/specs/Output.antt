@@ -1,4 +1,4 @@
--- What the program `circuits` prints, for every input. Assumes nothing.
+-- What the program `circuits` prints, for every input (SPECIFICATION 10.3 to 10.6, 10.10). Assumes nothing.
 use mathlib.Core.Bool.{true, false}
 use mathlib.Core.Path.{_≡_}
 use mathlib.Core.List.{List, _++_}
@@ -47,7 +47,7 @@ outputWith a input = inputText a (inputOf input)
 unfoldable pub arraysAfter : Arrays → List ℕ → Arrays
 arraysAfter a input = inputArrays a (inputOf input)
 
--- the program lends arrays of 2,048 places each, so that a table that needs more is refused by 5
+-- the program lends arrays of 2,048 places each, so that a table that needs more is refused by 5 (SPECIFICATION 10.5)
 unfoldable pub lentPlaces : List ℕ
 lentPlaces = replicate 2048 0
 

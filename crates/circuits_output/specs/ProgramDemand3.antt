@@ -1,5 +1,5 @@
--- Demand 3 of the program's lines: the list of a query's line, asked, and what its line of output says. Lists are oldest gate first. Assumes
--- nothing.
+-- Demand 3 of the program's lines: the list of a query's line, asked, and what its line of output says (SPECIFICATION 8.3 to 8.5, 10.6). Lists
+-- are oldest gate first. Assumes nothing.
 use mathlib.Core.Path.{_≡_}
 use mathlib.Core.Bool.{true, false}
 use mathlib.Core.Logic.{_⊎_}
@@ -12,11 +12,12 @@ use Rattle.circuit.specs.Codes.{valid}
 use Rattle.exact.specs.Matrix.{PowerOf}
 use Rattle.exact.specs.Paper.{paperProduct}
 use Rattle.exact.specs.Fits.{FirstPast}
-use Rattle.walk.specs.AtWidth.{ListOf, NoSharedPrint, SkippedRightly}
+use Rattle.walk.specs.AtWidth.{ListOf, NoSharedPrint}
+use Rattle.walk.specs.Known.{SkippedRightly}
 use Rattle.tables.specs.Checks.{Limits, limitsOf, Arrays}
 use Rattle.tables.specs.Tables.{Table, walkOf, widthAt, widthOf, parentsOf, codesOf, table, left, buildOf}
 use Rattle.tables.specs.Demand3.{NoSmaller}
-use Rattle.murm.specs.Entries.{firstInvalid}
+use Rattle.tables.specs.Lists.{firstInvalid}
 use Rattle.circuits_text.specs.Allowed.{AllowedLine}
 use Rattle.circuits_lines.specs.Lines.{refusedLine, noneLine, answerLine}
 use Rattle.circuits_input.specs.Input.{gives, InputLine, ended, wanted, inputOf}
@@ -24,30 +25,33 @@ use Rattle.circuits_input.specs.Allowed.{QueryLine}
 use Rattle.circuits_output.specs.Texts.{rowText, listText, queryText, queryTexts}
 use Rattle.circuits_output.specs.Output.{lentArrays, output}
 
--- the product of a list is a power of omega times that of the list asked, each as a product of matrices, and the list is of the basis
+-- m is a list of the basis, and its product is a power of omega times that of the list asked. Both products are the paper's, of the matrices
+-- of the gates (SPECIFICATION 3.1, 8.6, 8.9)
 pub record SameUpToPower (l : Limits) (w : ℕ) (asked m : List ℕ) : Type 0 where
   pub power : PowerOf w (paperProduct w asked) (paperProduct w m)
   pub of-basis : ListOf w (l .basis) m
 
--- the gate limit is up to 13; and of the lists of the basis and width within it, two with one fingerprint have products that differ by a power of
--- omega at most; or, in place of the last, each candidate of the width's walk that was skipped as known has a node present for it
+-- what the third part of demand 3 asks of limits and width: a gate limit of at most 13, and no clash; in place of no clash it is enough that each
+-- candidate of the completed depths that was skipped as known has a product that is a power of omega times some node's (SPECIFICATION 8.5, 8.14)
 pub record Condition (l : Limits) (w : ℕ) : Type 0 where
   pub gates : l .gates ≤ 13
   pub prints : NoSharedPrint w (l .basis) (l .gates) ⊎ SkippedRightly w (l .basis) (l .gates) (l .entries)
 
--- every table that was built of the same basis, with no limit that is smaller, answers the same text; the program's lent list has room, so none
--- refuses by 12
+-- each table that a build with the same basis and no smaller limit leaves prints the same line. None refuses by 12, since the program lends
+-- 64 places for a list (SPECIFICATION 8.4, 8.12)
 abbrev pub SameInLarger : Limits → ℕ → List ℕ → List ℕ → Type 0
 SameInLarger l w asked text =
     (l′ : Limits) (lent m : Arrays) (t : Table) → NoSmaller l l′ → buildOf l′ lent ≡ left (table t) m → listText t m w asked ≡ text
 
--- the text is a line of numbers, of gate count, T charge and codes, and its newline: it can be read in one way
+-- the text is an allowed line and its newline; the line's numbers are how many gates m has, its T charge and its codes, and since an allowed
+-- line has one list of numbers, the text can be read in one way (SPECIFICATION 10.2, 10.6)
 pub record ReadsAs (m text : List ℕ) : Type 0 where
   pub line : List ℕ
   pub says : AllowedLine (length m ∷ charge m ∷ m) line
   pub is : text ≡ line ++ (10 ∷ [])
 
--- rows 6, 7, 8 of a list: width above 5; a code not valid, position of the first; a step passes 127, position of the gate
+-- a list's refusals: 6 for a width above 5; 7 for a code that is not valid, at the first such; 8 for a step that passes the limit, at the first
+-- such gate (SPECIFICATION 4.2)
 pub data ListRefused (w : ℕ) (asked : List ℕ) : ℕ → ℕ → Type 0 where
   wide : 5 < w → ListRefused w asked 6 0
   not-valid : w ≤ 5 → firstInvalid w asked < length asked → ListRefused w asked 7 (firstInvalid w asked)
@@ -55,23 +59,25 @@ pub data ListRefused (w : ℕ) (asked : List ℕ) : ℕ → ℕ → Type 0 where
 
 -- what a query's line of output says, where the limits are l
 pub data LineMeans (l : Limits) (w : ℕ) (asked text : List ℕ) : Type 0 where
-  -- a list; under the condition no list with such a product, however long, has fewer gates
+  -- a list m: it is right, has at most G gates and is what larger tables answer; under the condition no list o of the basis with such a
+  -- product, however long, has fewer gates (SPECIFICATION 8.3 to 8.5)
   a-list : (m : List ℕ) → text ≡ answerLine m → ReadsAs m text → SameUpToPower l w asked m → length m ≤ l .gates → SameInLarger l w asked text
       → (Condition l w → (o : List ℕ) → SameUpToPower l w asked o → length m ≤ length o) → LineMeans l w asked text
-  -- none; under the condition, at a built width that is not saturated, no list within the gate limit has such a product
+  -- none: under the condition, at a built width that is not saturated, no list o of the basis within the gate limit has such a product. Where
+  -- there is one, the line is therefore not this one (SPECIFICATION 8.5)
   no-list : text ≡ noneLine
       → (Condition l w → 0 < w → w ≤ l .qubits → walkOf l w .saturated ≡ false → (o : List ℕ) → SameUpToPower l w asked o → length o ≤ l .gates → ⊥)
       → LineMeans l w asked text
-  -- a refusal is the list's own: the table refuses no matrix of a list
+  -- a refusal is the list's own: the table refuses no matrix of a list (SPECIFICATION 7.8, 10.9)
   refused : (number position : ℕ) → text ≡ refusedLine number position → ListRefused w asked number position → LineMeans l w asked text
 
--- the line of a width and the lines of its nodes, by the width's walk
+-- the lines of a width, its first line and one for each node, by the width's walk (SPECIFICATION 6.4, 10.5)
 unfoldable pub walkText : Limits → ℕ → List ℕ
 walkText l w = rowText w (widthOf (walkOf l w)) (parentsOf l w) (codesOf l w)
 
 -- the output of an input whose line one has the limits l, and whose later lines are ls, where the build returned t and left m in the arrays
 pub record OutputMeans (input : List ℕ) (l : Limits) (ls : List InputLine) (t : Table) (m : Arrays) : Type 0 where
-  -- each width, rising, and then a text for each later line
+  -- first all widths from 1 to Q, then a line for each later line of the input (SPECIFICATION 10.5, 10.6)
   pub whole : output input ≡ each (range 1 (l .qubits)) (walkText l) ++ queryTexts t m ls
   -- the record's count, depth and saturated are the walk's
   pub rows : (w : ℕ) → 0 < w → w ≤ l .qubits → widthAt t w ≡ widthOf (walkOf l w)

@@ -1,10 +1,10 @@
--- What a table and a query print. Assumes nothing.
+-- What a table and a query print (SPECIFICATION 10.5, 10.6). Assumes nothing.
 use mathlib.Core.List.{List, [], _∷_, _++_}
 use Prim.Native.Nat.{ℕ}
 use lib.ListN.{take, replicate}
 use Rattle.ints.specs.Lists.{range, each}
-use Rattle.width_answer.specs.Answers.{Reply}
-use Rattle.width_answer.specs.Answers as a
+use Rattle.walk.specs.Answers.{Reply}
+use Rattle.walk.specs.Answers as a
 use Rattle.tables.specs.Checks.{Arrays}
 use Rattle.tables.specs.Tables.{Width, Table, widthAt, partOf}
 use Rattle.circuits_lines.specs.Lines.{refusedLine, noneLine, tableLine, nodeLines, answerLine}
@@ -40,7 +40,7 @@ replyText (a.refused number position) list = refusedLine number position
 abbrev pub answerText : a.Outcome → List ℕ
 answerText o = replyText (o .reply) (o .list)
 
--- the list that is lent to an answer: 64 places, as many as G is at most
+-- the list that is lent to an answer: 64 places, the largest gate limit (SPECIFICATION 6.1, 10.6)
 unfoldable pub lentList : List ℕ
 lentList = replicate 64 0
 

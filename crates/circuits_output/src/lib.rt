@@ -1,4 +1,5 @@
-// The output of the program `circuits`, made in a lent array of bytes: the table of line one, then a line for each later line.
+// The output of the program `circuits`, made in a lent array of bytes: the table of line one, then a line for each later line (SPECIFICATION 10.5,
+// 10.6, 10.10).
 ghost use mathlib.Core.Path.{_≡_};
 ghost use Prim.Native.Nat.{_+_, _*_, _<_, _≤_};
 ghost use lib.ListN.{length};
@@ -163,7 +164,7 @@ fn put_built(
     }
 }
 
-// As many bytes as any output takes, where that many parents have places.
+// As many bytes as any output takes, where that many parents have places (SPECIFICATION 10.10).
 fn room(places: usize) -> usize
     ensures { λ r. ⌜ r ≡ roomFor places ⌝ }
 {

@@ -1,4 +1,4 @@
--- The parser takes exactly the lines that document 01 allows, and reads the numbers that they spell. Assumes nothing.
+-- The parser takes exactly the lines that specs/Allowed allows, and reads their numbers (SPECIFICATION 10.2). Assumes nothing.
 use mathlib.Core.Bool.{Bool, true, false}
 use mathlib.Core.List.{List, [], _∷_, _++_, append-assoc, append-nil}
 use mathlib.Core.Path.{_≡_, refl, sym, ap, _∙_, subst}
@@ -51,7 +51,7 @@ digits-good (behind {n} {w} d h s) =
 spelled-digits : {n : ℕ} {w : List ℕ} → Spelled n w → all isDigit w ≡ true
 spelled-digits s = digits-good (s .digits) .0
 
--- a number to the parser is one to the paper, and back
+-- the parser takes a word for a number exactly where specs/Allowed does
 word-spelled : (w : List ℕ) → isNumber w ≡ true → Spelled (value w) w
 unfolding isNumber
 word-spelled w h =
@@ -143,7 +143,7 @@ taken-more {n} {w} ns ws s r =
 taken-as : (ns : List ℕ) {ws vs : List (List ℕ)} → ws ≡ vs → Taken ns vs → Taken ns ws
 taken-as ns e r = rw e r
 
--- ---- the parser's lines are the paper's
+-- ---- the parser's lines are those of specs/Allowed
 
 -- what the parser takes is allowed, and spells the numbers that the parser reads
 pub accepts : (l : List ℕ) → allNumbers (words l) ≡ true → AllowedLine (numbers (words l)) l

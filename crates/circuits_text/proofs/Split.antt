@@ -1,4 +1,4 @@
--- Laws of reading: where a byte is found, what digits write, how a line falls into words. Assumes nothing.
+-- Laws of reading: where a byte is found, what digits write, which words a line has. Assumes nothing.
 use mathlib.Core.Bool.{Bool, true, false, _&&_, and-false}
 use mathlib.Core.List.{List, [], _∷_, _++_, append-assoc, append-nil}
 use mathlib.Core.Option.{Option, none, some}
@@ -273,7 +273,7 @@ words-first (b ∷ bs) = by (eqb b space) (words-first bs)
     by false h = (h .0, ap (longer b) (h .1))
 
 -- ---- a line
--- the line's words fall into those that were read, all numbers, and the rest; the list holds the numbers of the first
+-- the line's words are those that were read, all of them numbers, and then the rest; the list holds the numbers of those that were read
 pub record Reading (bytes old xs : List ℕ) (p k : ℕ) : Type 0 where
   pub passed : List (List ℕ)
   pub splits : words bytes ≡ passed ++ words (drop p bytes)

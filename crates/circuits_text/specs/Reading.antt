@@ -1,5 +1,5 @@
--- Lines of numbers, as bytes: what a word, a number and a line's numbers are. Document 01, "The program circuits": "Numbers are unsigned,
--- up to 4294967295, at most ten digits, one space between, every line ended by a newline." Assumes nothing.
+-- Lines of numbers, as bytes, by the tests that the code makes: what a word, a number and a line's numbers are (SPECIFICATION 10.2). Assumes
+-- nothing.
 use mathlib.Core.Bool.{Bool, true, false, _&&_}
 use mathlib.Core.List.{List, [], _∷_}
 use mathlib.Core.Option.{Option, none, some}
@@ -37,7 +37,8 @@ abbrev pub longer : ℕ → List (List ℕ) → List (List ℕ)
 longer b [] = (b ∷ []) ∷ []
 longer b (w ∷ ws) = (b ∷ w) ∷ ws
 
--- "one space between": the words of a line, with a word, possibly empty, on each side of each space
+-- the words of a line: what stands before, between and after its spaces. A second space, and one at either end, makes an empty word, which is
+-- no number
 unfoldable pub words : List ℕ → List (List ℕ)
 words [] = [] ∷ []
 words (b ∷ bs) = pick (eqb b space) ([] ∷ words bs) (longer b (words bs))
@@ -55,7 +56,7 @@ valueFrom v (b ∷ bs) = valueFrom (v * 10 + (b - 48)) bs
 abbrev pub value : List ℕ → ℕ
 value = valueFrom 0
 
--- "unsigned, up to 4294967295, at most ten digits": a word that is a number
+-- a word that is a number: it has one to ten bytes, all of them digits, and its value is below 2^32 (SPECIFICATION 10.2)
 unfoldable pub isNumber : List ℕ → Bool
 isNumber w = leb 1 (length w) && (leb (length w) 10 && (all isDigit w && leb (value w) 4294967295))
 

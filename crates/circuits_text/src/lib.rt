@@ -1,6 +1,5 @@
 // Lines of numbers as bytes: numbers are read from a line's words, and written as decimal, signed decimal and hexadecimal digits.
-// Document 01, "The program circuits": "Numbers are unsigned, up to 4294967295, at most ten digits, one space between, every line ended
-// by a newline."
+// What a number and a line are: SPECIFICATION 10.2.
 ghost use mathlib.Core.List.{[], _∷_};
 ghost use mathlib.Core.Path.{_≡_};
 ghost use Prim.Native.Nat.{_+_, _<_, _≤_};
@@ -29,8 +28,8 @@ pub enum Line {
 // The place of the first byte c from at on; the length where there is none.
 pub fn find(s: &[u8], at: usize, c: u8) -> usize
     requires { ⌜ at ≤ length (now s) ⌝ }
-    ensures { λ r. ⌜ r ≡ at + length (before c (drop at (now (s .entry)))) ⌝ }
-    ensures { λ r. ⌜ (at ≤ r) × (r ≤ length (now (s .entry))) ⌝ }
+    ensures found { λ r. ⌜ r ≡ at + length (before c (drop at (now (s .entry)))) ⌝ }
+    ensures inside { λ r. ⌜ (at ≤ r) × (r ≤ length (now (s .entry))) ⌝ }
 {
     let mut p = at;
     while p < s.len() {
@@ -88,8 +87,8 @@ pub fn number(word: &[u8]) -> Word
     Word::Number(v as u32)
 }
 
-// The numbers of a line, given without its newline, into the first places of the lent list. In a broken line the numbers before the
-// first other word are there, as far as there are places.
+// Reads the numbers of a line, given without its newline, into the lent list, from its first place on. Of a broken line it has the numbers
+// before the first other word, as far as there are places.
 pub fn numbers(line: &[u8], list: &mut [u32]) -> Line
     ensures { λ r. ⌜ ReadInto (now (line .entry)) (now (list .entry)) (now (list .exit)) (toldLine r) ⌝ }
 {
@@ -172,8 +171,8 @@ fn put_digits(out: &mut [u8], at: usize, n: u64) -> usize
 // Puts the decimal digits of a number from a place on, where 20 places are left, as many as any number takes, and answers the place after them.
 pub fn put_decimal(out: &mut [u8], at: usize, n: u64) -> usize
     requires { ⌜ at + 20 ≤ length (now out) ⌝ }
-    ensures { λ r. ⌜ Put at (decimal n) r (now (out .entry)) (now (out .exit)) ⌝ }
-    ensures { λ r. ⌜ r ≤ at + 20 ⌝ }
+    ensures written { λ r. ⌜ Put at (decimal n) r (now (out .entry)) (now (out .exit)) ⌝ }
+    ensures most { λ r. ⌜ r ≤ at + 20 ⌝ }
 {
     put_digits(out, at, n)
 }
@@ -191,8 +190,8 @@ fn size(x: i32) -> u64
 // Puts a signed number where 11 places are left, and answers the place after it.
 pub fn put_signed(out: &mut [u8], at: usize, x: i32) -> usize
     requires { ⌜ at + 11 ≤ length (now out) ⌝ }
-    ensures { λ r. ⌜ Put at (signed x) r (now (out .entry)) (now (out .exit)) ⌝ }
-    ensures { λ r. ⌜ r ≤ at + 11 ⌝ }
+    ensures written { λ r. ⌜ Put at (signed x) r (now (out .entry)) (now (out .exit)) ⌝ }
+    ensures most { λ r. ⌜ r ≤ at + 11 ⌝ }
 {
     if x < 0 {
         let next = put_byte(out, at, 45);
@@ -204,8 +203,8 @@ pub fn put_signed(out: &mut [u8], at: usize, x: i32) -> usize
 // Puts a 64-bit word as sixteen hexadecimal digits, and answers the place after them.
 pub fn put_hex(out: &mut [u8], at: usize, n: u64) -> usize
     requires { ⌜ at + 16 ≤ length (now out) ⌝ }
-    ensures { λ r. ⌜ Put at (hex n) r (now (out .entry)) (now (out .exit)) ⌝ }
-    ensures { λ r. ⌜ r ≡ at + 16 ⌝ }
+    ensures written { λ r. ⌜ Put at (hex n) r (now (out .entry)) (now (out .exit)) ⌝ }
+    ensures long { λ r. ⌜ r ≡ at + 16 ⌝ }
 {
     let mut rest = n;
     let mut i = 16;

@@ -10,11 +10,11 @@ use lib.IntN.{ℤ, pos, negsuc, negℤ, natAbs, _+ℤ_, _-ℤ_}
 use lib.Signed.{mag, ltZ, leZ, remZ}
 use lib.Dec.{eqb}
 use mir.Syntax.{Width}
-use mir.Val.{bits, SFits, toZ, ofZ}
+use mir.Val.{bits, hbits, SFits, toZ, ofZ}
 use mir.Facts.{toZ-ofZ}
 use Rattle.ints.proofs.Int.{up, dn, add-is}
 use Rattle.ints.proofs.Machine.{abs-is, abs-neg}
-use Rattle.cyclotomic.specs.Zomega.{limit, near, far, mk, eqZ, within, half, parity, sameParity}
+use Rattle.cyclotomic.specs.Zomega.{limit, near, far, Zω, mk, eqZ, within, half, parity, sameParity}
 
 mag-abs : (z : ℤ) → mag z ≤ natAbs z
 mag-abs (pos n) = omega arith
@@ -117,3 +117,19 @@ same-bits (negsuc a) (negsuc b) f g = eqb-iff (2 ^ bits near - suc a) (2 ^ bits 
 -- elements with the same coefficients are the same
 pub each : {a b c d a′ b′ c′ d′ : ℤ} → a ≡ a′ → b ≡ b′ → c ≡ c′ → d ≡ d′ → mk a b c d ≡ mk a′ b′ c′ d′
 each p q r s = λ i. mk (p i) (q i) (r i) (s i)
+
+-- an element's coefficients as the machine reads them back; `kept (c .good .0 .1 .1)` is this of a function's first argument
+pub record SizeKept (x : Zω) : Type 0 where
+  pub a-kept : toZ near (ofZ near (x .a)) ≡ x .a
+  pub b-kept : toZ near (ofZ near (x .b)) ≡ x .b
+  pub c-kept : toZ near (ofZ near (x .c)) ≡ x .c
+  pub d-kept : toZ near (ofZ near (x .d)) ≡ x .d
+
+abbrev InRange : ℤ → Type 0
+InRange z = mag z < 2 ^ hbits near
+
+back : {z : ℤ} → InRange z → toZ near (ofZ near z) ≡ z
+back g = toZ-ofZ (record { sfits = g })
+
+pub kept : {A B C D E : Type 0} {x : Zω} → (A × InRange (x .a)) × ((B × InRange (x .b)) × ((C × InRange (x .c)) × ((D × InRange (x .d)) × E))) → SizeKept x
+kept g = record { a-kept = back (g .0 .1); b-kept = back (g .1 .0 .1); c-kept = back (g .1 .1 .0 .1); d-kept = back (g .1 .1 .1 .0 .1) }

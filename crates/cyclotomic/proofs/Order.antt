@@ -1,5 +1,5 @@
--- The order of the entries, four signed numbers of which the first pair that differs decides, and the phase of an element: the one power
--- that makes a nonzero element least. Assumes nothing.
+-- The order of the entries, in which the first two coefficients that differ decide, and the phase of an element: the one power that makes a
+-- nonzero element least (SPECIFICATION 1.11). Assumes nothing.
 use mathlib.Core.Path.{_≡_, refl, sym, ap, _∙_}
 use mathlib.Core.Bool.{Bool, true, false}
 use Prim.Native.Nat.{ℕ, zero, suc, _+_, _*_, _%_, _<_, _≤_}
@@ -15,7 +15,7 @@ use Rattle.cyclotomic.specs.Zomega.{Zω, mk, zeroω, turn, eqZ, orElse, 
 use Rattle.ints.proofs.Bools.{clash}
 use Rattle.cyclotomic.proofs.Turns.{turn-turn, turn-mod, turn-sum, turn-back, turn-inj}
 
--- ---- one number
+-- ---- one coefficient
 
 data Cmp (x y : ℤ) : Type 0 where
   lt : up x + dn y < up y + dn x → Cmp x y
@@ -30,7 +30,7 @@ cmp x y = by (decLt (up x + dn y) (up y + dn x)) (decLt (up y + dn x) (up x + dn
     by (no n) (yes q) = gt q
     by (no n) (no m) = eq (same-is x y (omega arith))
 
--- one place of the order, over what comes after it
+-- one coefficient of the order, over what the later ones decide
 abbrev lex : ℤ → ℤ → Bool → Bool
 lex x y l = orElse (eqZ x y) (ltZ x y) l
 
@@ -53,7 +53,7 @@ lex-same (negsuc a) l = rw (eq-eqb a a refl)
 lex-eq : (x y : ℤ) (l : Bool) → x ≡ y → lex x y l ≡ l
 lex-eq x y l e = rw e (lex-same y l)
 
--- at the last place nothing comes after
+-- after the last coefficient nothing decides
 last : (x y : ℤ) → ltZ x y ≡ lex x y false
 last x y = by (cmp x y)
   where
@@ -90,7 +90,7 @@ anti-step {P} x y p q k h g = by (cmp x y)
     by (eq e) = (e, k (sym (lex-eq x y p e) ∙ h) (sym (lex-eq y x q (sym e)) ∙ g))
     by (gt a) = clash (lex-lt y x q a) g
 
--- ---- four numbers
+-- ---- four coefficients
 
 abbrev order : Zω → Zω → Bool
 order x y = lex (x .a) (y .a) (lex (x .b) (y .b) (lex (x .c) (y .c) (lex (x .d) (y .d) false)))
@@ -192,7 +192,7 @@ canon-turn q x =
     (in-orbit x (canon (turn q x)) (phase (turn q x) + q) (sym (turn-turn (phase (turn q x)) q x)))
     (in-orbit (turn q x) (canon x) (phase x + 7 * q) (sym (turn-turn (phase x) (7 * q) (turn q x)) ∙ ap (turn (phase x)) (turn-back q x)))
 
--- so the phase of a turn is what is left of the phase
+-- so the phase of a turn is the phase less the power turned by, by its remainder by 8
 pub phase-turn : (q : ℕ) (x : Zω) → (x ≡ zeroω → ⊥) → (phase (turn q x) + q) % 8 ≡ phase x
 phase-turn q x nz =
     turn-inj ((phase (turn q x) + q) % 8) (phase x) x (mod-lt (phase (turn q x) + q) (omega arith)) (phase-below x) nz

@@ -42,7 +42,7 @@ pub turn-none : (x : Zω) → turn 0 x ≡ x
 unfolding turn
 turn-none x = refl
 
--- seven more turns of the same power lead back
+-- with seven more turns by the same power the element is as it was
 pub turn-back : (p : ℕ) (x : Zω) → turn (7 * p) (turn p x) ≡ x
 turn-back p x =
     let e : (7 * p + p) % 8 ≡ 0 = omega arith in
@@ -83,7 +83,7 @@ again : (n p : ℕ) (x : Zω) → turn p x ≡ x → turn (n * p) x ≡ x
 again zero p x e = rw (zero-mul p) (turn-none x)
 again (suc n) p x e = rw (suc-mul n p, ← turn-turn (n * p) p x, e) (again n p x e)
 
--- only the power 0 leaves a nonzero element where it is: any other, taken once, twice or four times, is a turn by 4
+-- only the power 0 leaves a nonzero element as it is: any other, taken once, twice or four times, is a turn by 4
 pub turn-fixes : (p : ℕ) (x : Zω) → p < 8 → (x ≡ zeroω → ⊥) → turn p x ≡ x → p ≡ 0
 turn-fixes p x h n e = by (ℕ-discrete ((1 * p) % 8) 4) (ℕ-discrete ((2 * p) % 8) 4) (ℕ-discrete ((4 * p) % 8) 4)
   where

@@ -1,4 +1,4 @@
--- What an answer of the ring says in document 01's terms. Assumes nothing.
+-- What an answer of the ring says: an entry, or by number that it does not fit (SPECIFICATION 1.3, 9.1). Assumes nothing.
 use Prim.Native.Nat.{ℕ}
 use Rattle.ints.specs.Lists.{pick}
 use Rattle.cyclotomic.specs.declared.Checked.{Checked}
@@ -10,7 +10,7 @@ pub data Told : Type 0 where
   entry : Zω → Told
   refused : ℕ → Told
 
--- document 01's number for "does not fit"
+-- the number of the refusal of what does not fit (SPECIFICATION 9.1)
 abbrev pub doesNotFit : ℕ
 doesNotFit = 8
 
@@ -19,6 +19,6 @@ abbrev pub told : Checked → Told
 told (Value x) = entry x
 told TooLarge = refused doesNotFit
 
--- "a result past 127 either way .. is 'does not fit'": what is to be said of the exact result x
+-- what is to be said of the exact result x: it does not fit where a coefficient of it is past the limit (SPECIFICATION 1.3)
 unfoldable pub checked : Zω → Told
 checked x = pick (fits x) (entry x) (refused doesNotFit)

@@ -1,6 +1,6 @@
--- Z[omega], the ring of the matrices' entries: a + b omega + c omega² + d omega³, with omega⁴ = −1. The coefficients here are integers
--- of any size. The record is the struct `Cyclotomic`, whose fields a contract reads as integers; what fits in the struct is said apart.
--- The operations are shut names: proofs/ has their laws, which the layers above use. Assumes nothing.
+-- Z[omega], the ring of the matrices' entries: a + b omega + c omega² + d omega³, with omega⁴ = −1 (SPECIFICATION 1.1). The coefficients here
+-- are integers of any size. The record is the struct `Cyclotomic`, whose fields a contract reads as integers; what fits in the struct is said
+-- apart. The operations are names that do not unfold by themselves: proofs/ has their laws, which the crates above use. Assumes nothing.
 use mathlib.Core.Bool.{Bool, true, false, _&&_}
 use Prim.Native.Nat.{ℕ, zero, suc, _+_, _*_, _%_, _≤_}
 use lib.IntN.{ℤ, pos, natAbs, negℤ, _+ℤ_, _-ℤ_, _*ℤ_}
@@ -10,7 +10,7 @@ use mir.Syntax.{Width, w8, w16}
 use Rattle.ints.specs.Lists.{pick}
 use Rattle.cyclotomic.specs.declared.Cyclotomic.{Cyclotomic}
 
--- "Coefficients stay in -127 to 127."
+-- the largest stored coefficient, and the negative of the least one (SPECIFICATION 1.3)
 abbrev pub limit : ℕ
 limit = 127
 
@@ -21,7 +21,7 @@ near = w8
 abbrev pub far : Width
 far = w16
 
--- "An entry (a, b, c, d) means a + b omega + c omega^2 + d omega^3."
+-- an entry, by its four coefficients; it stands for a + b omega + c omega² + d omega³ (SPECIFICATION 1.1)
 abbrev pub Zω : Type 0
 Zω = Cyclotomic
 
@@ -48,7 +48,7 @@ mulω x y =
     (x .a *ℤ y .c +ℤ x .b *ℤ y .b +ℤ x .c *ℤ y .a -ℤ x .d *ℤ y .d)
     (x .a *ℤ y .d +ℤ x .b *ℤ y .c +ℤ x .c *ℤ y .b +ℤ x .d *ℤ y .a)
 
--- "One turn by omega gives (-d, a, b, c)."
+-- omega times x: omega⁴ is −1, so d comes to the front with its sign changed (SPECIFICATION 1.2)
 abbrev pub turn1 : Zω → Zω
 turn1 x = mk (negℤ (x .d)) (x .a) (x .b) (x .c)
 
@@ -67,7 +67,7 @@ parity z = natAbs z % 2
 abbrev pub sameParity : ℤ → ℤ → Bool
 sameParity x y = eqb (parity x) (parity y)
 
--- "a, c of one parity and b, d of one parity"
+-- a and c are both even or both odd, and so are b and d: x is √2 times an entry (SPECIFICATION 1.4)
 unfoldable pub divisible : Zω → Bool
 divisible x = sameParity (x .a) (x .c) && sameParity (x .b) (x .d)
 
@@ -75,7 +75,7 @@ divisible x = sameParity (x .a) (x .c) && sameParity (x .b) (x .d)
 abbrev pub half : ℤ → ℤ
 half z = quotZ z (pos 2)
 
--- "divided: ((b-d)/2, (a+c)/2, (b+d)/2, (c-a)/2)"
+-- the quotient of a divisible x by √2 (SPECIFICATION 1.4)
 unfoldable pub overSqrt2 : Zω → Zω
 overSqrt2 x = mk (half (x .b -ℤ x .d)) (half (x .a +ℤ x .c)) (half (x .b +ℤ x .d)) (half (x .c -ℤ x .a))
 
@@ -99,7 +99,7 @@ eqω x y = eqZ (x .a) (y .a) && (eqZ (x .b) (y .b) && (eqZ (x .c) (y .c) && eqZ 
 unfoldable pub isZero : Zω → Bool
 isZero x = eqZ (x .a) (pos 0) && eqZ (x .b) (pos 0) && eqZ (x .c) (pos 0) && eqZ (x .d) (pos 0)
 
--- "compared as four signed numbers": the first pair that differs decides
+-- the order of entries, by a, then b, then c, then d as signed numbers: the first pair that differs decides (SPECIFICATION 1.11)
 abbrev pub orElse : Bool → Bool → Bool → Bool
 orElse true less next = next
 orElse false less next = less
@@ -110,7 +110,7 @@ less x y =
     (orElse (eqZ (x .b) (y .b)) (ltZ (x .b) (y .b))
     (orElse (eqZ (x .c) (y .c)) (ltZ (x .c) (y .c)) (ltZ (x .d) (y .d))))
 
--- "the power 0 to 7 that makes [it] least": of a nonzero entry there is one such power (proofs/Order)
+-- the phase of an entry: the power from 0 to 7 whose turn of it is least. A nonzero entry has one such power (SPECIFICATION 1.11, proofs/Order)
 unfoldable pub leastUpTo : ℕ → Zω → ℕ
 leastUpTo zero x = 0
 leastUpTo (suc k) x = pick (less (turn (suc k) x) (turn (leastUpTo k x) x)) (suc k) (leastUpTo k x)

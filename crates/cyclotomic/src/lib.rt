@@ -13,7 +13,7 @@ pub type Coefficient = i8;
 
 pub type Wide = i16;
 
-// The largest coefficient, either way.
+// The largest coefficient, and the negative of the least one.
 pub const LIMIT: Wide = 127;
 
 pub struct Cyclotomic {
@@ -113,7 +113,7 @@ fn narrowed(a: Wide, b: Wide, c: Wide, d: Wide) -> Checked
     })
 }
 
-// The size of a coefficient.
+// The size of a coefficient: its absolute value.
 fn size(x: Coefficient) -> Wide
     ensures { λ r. ⌜ r ≡ pos (natAbs x) ⌝ }
 {
@@ -146,7 +146,7 @@ impl Cyclotomic {
         d: 0,
     };
 
-    // The two constants, with what they are.
+    // The two constants, with what they are: a constant has no contract. `is_zero` compares with 0, an identity is made of 1.
     pub fn zero() -> Cyclotomic
         ensures { λ r. ⌜ r ≡ zeroω ⌝ }
     {
@@ -162,16 +162,7 @@ impl Cyclotomic {
     pub fn is_zero(self) -> bool
         ensures { λ r. ⌜ r ≡ isZero self ⌝ }
     {
-        if !same(self.a, 0) {
-            return false;
-        }
-        if !same(self.b, 0) {
-            return false;
-        }
-        if !same(self.c, 0) {
-            return false;
-        }
-        same(self.d, 0)
+        self.equals(Cyclotomic::zero())
     }
 
     // Whether the two are the same.
@@ -190,7 +181,8 @@ impl Cyclotomic {
         same(self.d, rhs.d)
     }
 
-    // The sum, unless a coefficient of it passes the limit.
+    // The sum, unless a coefficient of it passes the limit: the ring's sum of any two elements. H, which has tested all its pairs before it
+    // stores one, takes `add`; a caller that has not takes this.
     pub fn checked_add(self, rhs: Cyclotomic) -> Checked
         ensures { λ r. ⌜ told r ≡ checked (addω self rhs) ⌝ }
     {
@@ -202,7 +194,7 @@ impl Cyclotomic {
         )
     }
 
-    // The difference, unless a coefficient of it passes the limit.
+    // The difference, likewise; H takes `subtract`.
     pub fn checked_sub(self, rhs: Cyclotomic) -> Checked
         ensures { λ r. ⌜ told r ≡ checked (subω self rhs) ⌝ }
     {
@@ -324,7 +316,7 @@ impl Cyclotomic {
         }
     }
 
-    // Whether this comes before the other, compared as four signed numbers.
+    // Whether this comes before the other: by a, then b, then c, then d, as signed numbers.
     pub fn less_than(self, rhs: Cyclotomic) -> bool
         ensures { λ r. ⌜ r ≡ less self rhs ⌝ }
     {

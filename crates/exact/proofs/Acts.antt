@@ -1,12 +1,13 @@
--- Steps, a row operation and then lowering: what holds of values holds of them exactly, since the lowest form is unique. "A power of omega
--- times a matrix" is an equivalence that steps and lowering keep. Assumes nothing.
+-- Steps, a row operation and then lowering: what holds of values holds of them exactly, since the lowest form is unique. `PowerOf` is an
+-- equivalence that steps and lowering keep. Assumes nothing.
 use mathlib.Core.Path.{ap, sym}
 use Prim.Native.Nat.{ℕ, _+_, _*_, _%_}
 use native.Mathlib.Omega.{arith}
 use native.Mathlib.Nat.{mod-lt}
 use Rattle.cyclotomic.proofs.Turns.{turn-none, turn-turn, turn-mod, turn-back}
-use Rattle.exact.specs.Matrix.{Exact, sqrt2s, SameValue, Equal, Lowest, lower, turned, PowerOf}
-use Rattle.exact.specs.Rows.{Gate, raw, act, Proper, touches, Apart, Undoes}
+use Rattle.exact.specs.Matrix.{Exact, sqrt2s, SameValue, Lowest, lower, turned, PowerOf}
+use Rattle.exact.proofs.Words.{Equal, Proper, touches, Apart, Undoes}
+use Rattle.exact.specs.Rows.{Gate, raw, act}
 use Rattle.exact.proofs.Values.{same-refl, same-sym, same-trans, equal-sym, equal-trans, equal-same, lower-same, lower-lowest, lower-unique, unique, turned-same, turned-lowest, turned-lower}
 use Rattle.exact.proofs.Linear.{raw-same, raw-swap, raw-back, raw-turned}
 

@@ -10,7 +10,8 @@ use Rattle.exact.specs.Matrix.{Exact}
 use Rattle.exact.specs.Rows.{Gate, act}
 use Rattle.exact.specs.Lists.{product}
 use Rattle.exact.specs.Fits.{stepFits, Steps, allFit, unfitAt, steps}
-use Rattle.exact.specs.Answers.{Answer, given, refused, stepAnswer, bySteps, listAnswer}
+use Rattle.exact.specs.Answers.{Answer, given, refused, bySteps, listAnswer}
+use Rattle.exact.proofs.Words.{stepAnswer}
 
 -- ---- an answer is one case alone
 

@@ -1,5 +1,5 @@
--- What unitarity bounds: each row's coefficient squares sum to 2^k, so that lists of few gates fit at every step, and an exponent past
--- 65535 is never met. Assumes nothing.
+-- What unitarity bounds: the squares of the coefficients of each row sum to 2^k, so that lists of few gates fit at every step, and an exponent
+-- past 65535 is never met (SPECIFICATION 3.4). Assumes nothing.
 use mathlib.Core.Path.{_≡_, refl, sym, ap, _∙_}
 use mathlib.Core.Bool.{Bool, true, false}
 use mathlib.Core.List.{List, [], _∷_}
@@ -17,8 +17,9 @@ use Rattle.cyclotomic.proofs.Squares.{small-of-squares, small-over}
 use Rattle.exact.specs.Matrix.{Exact, allEntries, allDivisible, lowered, lower, identity}
 use Rattle.exact.specs.Rows.{Gate, raw, act, gateOf}
 use Rattle.exact.specs.Lists.{after, product}
-use Rattle.exact.specs.Fits.{mostK, stepFits, Steps, allFit, unfitAt, next, stepsFrom, steps, AllWithin, AllSmall}
-use Rattle.exact.specs.Unitary.{conj, inner, Unitary, total, RowLaw}
+use Rattle.exact.specs.Fits.{mostK, stepFits, Steps, allFit, unfitAt, next, stepsFrom, steps}
+use Rattle.exact.proofs.Words.{AllWithin, AllSmall, total, RowLaw}
+use Rattle.exact.specs.Unitary.{conj, inner, Unitary}
 use Rattle.exact.proofs.Linear.{raise-most}
 use Rattle.exact.proofs.Values.{pick-ind}
 use Rattle.exact.proofs.Coded.{proper}
@@ -177,7 +178,7 @@ module _ (n : ℕ) where
       → AllWithin n 32767 (raw (gateOf n g) (product n l) .e) × (raw (gateOf n g) (product n l) .k ≤ 29)
   twenty-nine = steps-within 32767 29 (below-square 32767 29 (omega arith))
 
-  -- "k past 65535" is never met on lists from the identity
+  -- after steps that fit, from the identity on, the exponent of the next raw result is not past 65535 (SPECIFICATION 3.4)
   pub k-never-met : n ≤ 5 → (l : List ℕ) → steps n l ≡ allFit → (g : ℕ) → raw (gateOf n g) (product n l) .k ≤ mostK
   k-never-met h l e g =
       let k = k-never n h (unitary-product n l) (product-small n l e) in

@@ -15,7 +15,8 @@ use Rattle.circuit.specs.Kinds.{Kind, H, X, Z, S, Sdg, T, Tdg, Cx, Cz, Ccx, Ccz
 use Rattle.circuit.specs.Codes.{kindNumber, kindOf, first, second, third, placed, ordered, valid}
 use Rattle.circuit.specs.Pairs.{inverse, qubits, disjoint}
 use Rattle.circuit.proofs.ByNumber.{kind-past, kind-number}
-use Rattle.exact.specs.Rows.{Gate, phase, exchange, had, bitOf, gate, gateOf, Lacks, AllBelow, Proper, touches, Apart, Undoes, turns, exchanges, hads}
+use Rattle.exact.specs.Rows.{Gate, phase, exchange, had, bitOf, gate, gateOf}
+use Rattle.exact.proofs.Words.{Lacks, AllBelow, Proper, touches, Apart, Undoes, turns, exchanges, hads}
 use Rattle.exact.proofs.Values.{pick-ind}
 use Rattle.exact.proofs.Linear.{apart-sym}
 
@@ -72,7 +73,7 @@ module _ (n : ℕ) where
   bits-apart [] m v w a = tt
   bits-apart (x ∷ xs) m v w a = (bits-lack x m (v .0) w (a .0), bits-apart xs m (v .1) w (a .1))
 
-  -- the bits that a gate touches are those of its used operands, a target first: what does not mind that order holds of both
+  -- the bits that a gate touches are those of its used operands, a target first: what does not depend on that order holds of both
   touched : (P : List ℕ → Type 0) → ((x y : ℕ) → P (x ∷ y ∷ []) → P (y ∷ x ∷ [])) → ((x y z : ℕ) → P (x ∷ y ∷ z ∷ []) → P (z ∷ x ∷ y ∷ []))
       → (k : Kind) (a b c : ℕ) → P (bits (take (arity k) (a ∷ b ∷ c ∷ []))) → P (touches (gate n k a b c))
   unfolding arity

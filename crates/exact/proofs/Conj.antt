@@ -13,7 +13,8 @@ use Rattle.cyclotomic.proofs.Division.{sqrt2-zero, sqrt2-add}
 use Rattle.cyclotomic.proofs.Squares.{square-is}
 use Rattle.cyclotomic.proofs.Product.{turn-mul, mul-turn, sqrt2-mul, mul-comm}
 use Rattle.exact.specs.Paper.{sumω}
-use Rattle.exact.specs.Unitary.{conj, total}
+use Rattle.exact.specs.Unitary.{conj}
+use Rattle.exact.proofs.Words.{total}
 
 abbrev conjE : Four → Four
 conjE x = record { a = x .a; b = ⊝ (x .d); c = ⊝ (x .c); d = ⊝ (x .b) }

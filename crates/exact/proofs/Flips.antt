@@ -11,7 +11,8 @@ use Rattle.ints.specs.Bits.{digit, bit}
 use Rattle.ints.specs.Lists.{pick, all}
 use Rattle.ints.proofs.Bools.{clash}
 use Rattle.ints.proofs.Bits.{digit-lt, below, ext, digit-own, digit-other}
-use Rattle.exact.specs.Rows.{flip, ones, Lacks}
+use Rattle.exact.specs.Rows.{flip, ones}
+use Rattle.exact.proofs.Words.{Lacks}
 use Rattle.exact.proofs.Values.{pick-ind}
 
 digit-xor : (a b k : ℕ) → digit (bitXor a b) k ≡ differ (digit a k) (digit b k)

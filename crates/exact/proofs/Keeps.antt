@@ -13,9 +13,10 @@ use Rattle.cyclotomic.specs.Zomega.{Zω, turn, divisible, fits, Small}
 use Rattle.cyclotomic.proofs.Division.{divisible-turn}
 use Rattle.cyclotomic.proofs.Squares.{small-turn}
 use Rattle.cyclotomic.proofs.Answers.{small-fits, fits-small}
-use Rattle.exact.specs.Matrix.{Exact, Equal, allEntries, allDivisible, Lowest}
-use Rattle.exact.specs.Rows.{ones, Gate, phase, exchange, had, column, raise, raw, act, Proper, exchanges}
-use Rattle.exact.specs.Fits.{mostK, stepFits, AllSmall}
+use Rattle.exact.specs.Matrix.{Exact, allEntries, allDivisible, Lowest}
+use Rattle.exact.proofs.Words.{Equal, Proper, exchanges, AllSmall}
+use Rattle.exact.specs.Rows.{ones, Gate, phase, exchange, had, column, raise, raw, act}
+use Rattle.exact.specs.Fits.{mostK, stepFits}
 use Rattle.exact.proofs.Flips.{moved, moved-lt}
 use Rattle.exact.proofs.Values.{pick-ind, entries-to, entries-from, divisible-to, divisible-from, sqrt2s-cancel, equal-same, lower-stays}
 use Rattle.exact.proofs.Linear.{column-cong, raw-back}
@@ -104,7 +105,7 @@ module _ (n : ℕ) where
   pub exchange-step-fits : (ks : List ℕ) (k : ℕ) (x : Exact) → Proper n (exchange ks k) → AllSmall n (x .e) → x .k ≤ mostK → stepFits n (exchange ks k) x ≡ true
   exchange-step-fits ks k x pr w h = step-fits (exchange ks k) x (exchange-small ks k x pr w) h
 
-  -- of H the entries decide, and at the largest exponent it does not fit
+  -- of H the coefficients decide, and at the largest exponent it does not fit
   pub had-step : (t : ℕ) (x : Exact) → x .k < mostK → stepFits n (had t) x ≡ allEntries n (λ r c. fits (raw (had t) x .e r c))
   unfolding stepFits
   had-step t x h = rw (le-leb (raw (had t) x .k) mostK h)

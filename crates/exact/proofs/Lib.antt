@@ -1,3 +1,4 @@
+pub mod Words
 pub mod Flips
 pub mod Values
 pub mod Linear

@@ -11,8 +11,9 @@ use Rattle.cyclotomic.specs.Zomega.{Zω, zeroω, addω, subω, turn, sqrt2}
 use Rattle.cyclotomic.proofs.Sums.{add-comm, add-four, add-zero, zero-add}
 use Rattle.cyclotomic.proofs.Turns.{turn-zero, turn-none, turn-add, turn-sum, turn-comm, sub-is}
 use Rattle.cyclotomic.proofs.Division.{sqrt2-add, sqrt2-zero, turn-sqrt2, twice-sum, twice-sub}
-use Rattle.exact.specs.Matrix.{Exact, sqrt2s, SameValue, Equal, turned}
-use Rattle.exact.specs.Rows.{flip, ones, Gate, phase, exchange, had, column, raise, raw, Lacks, Proper, touches, Apart, Undoes, turns, exchanges, hads}
+use Rattle.exact.specs.Matrix.{Exact, sqrt2s, SameValue, turned}
+use Rattle.exact.proofs.Words.{Equal, Lacks, Proper, touches, Apart, Undoes, turns, exchanges, hads}
+use Rattle.exact.specs.Rows.{flip, ones, Gate, phase, exchange, had, column, raise, raw}
 use Rattle.exact.proofs.Flips.{flip-flip, flip-comm, bit-own, bit-other, ones-other, flip-lt, moved-back}
 use Rattle.exact.proofs.Values.{sqrt2s-sqrt2}
 
@@ -36,15 +37,15 @@ scale-comm (by p) none x = turn-zero p
 scale-comm (by p) (by q) x = turn-comm p q x
 
 -- row r gets what stays of itself and what comes from row `from r`
-pub record Shape : Type 0 where
+pub record LinearShape : Type 0 where
   pub stay : ℕ → Scalar
   pub come : ℕ → Scalar
   pub from : ℕ → ℕ
 
-abbrev pub linear : Shape → (ℕ → Zω) → ℕ → Zω
+abbrev pub linear : LinearShape → (ℕ → Zω) → ℕ → Zω
 linear S v r = addω (scale (S .stay r) (v r)) (scale (S .come r) (v (S .from r)))
 
-abbrev pub shape : Gate → Shape
+abbrev pub shape : Gate → LinearShape
 shape (phase ks p) = record { stay = λ r. pick (ones ks r) (by p) (by 0); come = λ r. none; from = λ r. r }
 shape (exchange ks k) = record { stay = λ r. pick (ones ks r) none (by 0); come = λ r. pick (ones ks r) (by 0) none; from = λ r. flip k r }
 shape (had k) = record { stay = λ r. pick (bit r k) (by 4) (by 0); come = λ r. by 0; from = λ r. flip k r }
@@ -105,7 +106,7 @@ pub column-cong : (n : ℕ) (g : Gate) (v w : ℕ → Zω) → Proper n g → ((
 column-cong n g v w pr e r h =
     column-is g v r ∙ (λ i. addω (scale (shape g .stay r) (e r h i)) (scale (shape g .come r) (e (shape g .from r) (from-lt n g r pr h) i))) ∙ sym (column-is g w r)
 
--- ---- a row operation keeps "one value"
+-- ---- a row operation keeps `SameValue`
 
 raise-same : (g : Gate) (j k : ℕ) (x y : Zω) → sqrt2s j x ≡ sqrt2s k y → sqrt2s (raise g j) x ≡ sqrt2s (raise g k) y
 raise-same (phase ks p) j k x y e = e

@@ -7,7 +7,8 @@ use Prim.Native.Nat.{ℕ, suc, _+_, _≤_}
 use native.Mathlib.Omega.{arith}
 use lib.ListN.{length}
 use Rattle.circuit.specs.Pairs.{inverse, disjoint}
-use Rattle.exact.specs.Matrix.{Exact, Equal, Lowest, identity, PowerOf}
+use Rattle.exact.specs.Matrix.{Exact, Lowest, identity, PowerOf}
+use Rattle.exact.proofs.Words.{Equal}
 use Rattle.exact.specs.Rows.{Gate, raw, act, gateOf}
 use Rattle.exact.specs.Lists.{after, product}
 use Rattle.exact.proofs.Linear.{raise-most}

@@ -16,8 +16,9 @@ use Rattle.cyclotomic.proofs.Turns.{sub-is}
 use Rattle.cyclotomic.proofs.Product.{one-mul, zero-mul, turn-is-mul}
 use Rattle.circuit.specs.Kinds.{Kind, H, X, Z, S, Sdg, T, Tdg, Cx, Cz, Ccx, Ccz, Other}
 use Rattle.circuit.specs.Codes.{kindOf, first, second, third, valid}
-use Rattle.exact.specs.Matrix.{Exact, SameValue, Equal, sqrt2s, identity}
-use Rattle.exact.specs.Rows.{flip, ones, phase, exchange, had, column, raw, bitOf, gate, gateOf, Proper}
+use Rattle.exact.specs.Matrix.{Exact, SameValue, sqrt2s, identity}
+use Rattle.exact.proofs.Words.{Equal, Proper}
+use Rattle.exact.specs.Rows.{flip, ones, phase, exchange, had, column, raw, bitOf, gate, gateOf}
 use Rattle.exact.specs.Lists.{after, product}
 use Rattle.exact.specs.Paper.{Single, hadamard, pauliX, phaseGate, controlled, matrixOf, paperGate, paperOf, sumω, multiply, paperAfter, paperProduct}
 use Rattle.exact.proofs.Flips.{bit-own, flip-differs, flip-lt}

@@ -1,5 +1,5 @@
--- The phase of a matrix, and "equal up to phase": document 01's test holds exactly where one power of omega takes each entry of the one
--- to the other's; of lowest matrices, exactly where the one is a power of omega times the other by value. Assumes nothing.
+-- The phase of a matrix, and what `upToPhase` decides: exponents are equal and one power of omega takes each entry of the one to the other's; of
+-- matrices in lowest denominator, that the one is a power of omega times the other by value. Assumes nothing.
 use mathlib.Core.Path.{_≡_, refl, sym, ap, _∙_}
 use mathlib.Core.Logic.{_↔_}
 use mathlib.Core.Bool.{Bool, true, false, _&&_}
@@ -16,7 +16,8 @@ use Rattle.cyclotomic.proofs.Turns.{turn-sum, turn-back, turn-zero}
 use Rattle.cyclotomic.proofs.Order
 use Rattle.cyclotomic.proofs.Order.{phase-turn}
 use Rattle.cyclotomic.proofs.Answers.{eqZ-true, eqZ-self, zero-yes, zero-no, zero-is, zero-turn}
-use Rattle.exact.specs.Matrix.{Exact, Equal, Lowest, allEntries, turned, PowerOf}
+use Rattle.exact.specs.Matrix.{Exact, Lowest, allEntries, turned, PowerOf}
+use Rattle.exact.proofs.Words.{Equal}
 use Rattle.exact.specs.Phase.{flat, firstNonzero, pivot, phaseOf, phased, upToPhase}
 use Rattle.exact.proofs.Values.{entries-to, entries-from, equal-sym, equal-trans, equal-same, unique, turned-lowest}
 
@@ -124,7 +125,7 @@ module _ (n : ℕ) where
   unfolding phaseOf
   phase-least x p h = Order.phase-least (pivot n x) p h
 
-  -- "0 for the zero matrix"
+  -- the zero matrix has phase 0 (SPECIFICATION 1.11)
   pub phase-of-zero : (x : Exact) → ((r c : ℕ) → r < 2 ^ n → c < 2 ^ n → x .e r c ≡ zeroω) → phaseOf n x ≡ 0
   unfolding phaseOf
   phase-of-zero x h = ap phase (zero-pivot x h) ∙ phase-zero
@@ -157,7 +158,7 @@ module _ (n : ℕ) where
 
   -- ---- the test
 
-  -- the test of one entry, after each one's own phase
+  -- the test of one entry of the two phased matrices
   abbrev alike : Exact → Exact → ℕ → ℕ → Bool
   alike x y r c = eqω (phased n x .e r c) (phased n y .e r c)
 

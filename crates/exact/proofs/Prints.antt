@@ -6,7 +6,8 @@ use Prim.Native.Nat.{ℕ, zero, suc, _*_, _^_, _%_, _<_}
 use native.Mathlib.Omega.{arith}
 use Rattle.cyclotomic.specs.Zomega.{Zω}
 use Rattle.words.specs.Words.{words}
-use Rattle.exact.specs.Matrix.{Exact, Equal, Lowest, PowerOf}
+use Rattle.exact.specs.Matrix.{Exact, Lowest, PowerOf}
+use Rattle.exact.proofs.Words.{Equal}
 use Rattle.exact.specs.Phase.{flat, phased, upToPhase}
 use Rattle.exact.specs.Fingerprint.{start, mixAll, fold, fourWords, wordsOf, fingerprint}
 use Rattle.exact.proofs.Phases.{flat-equal, phased-equal, test-phased, test-of-power}

@@ -1,4 +1,4 @@
--- A list is too large exactly where a step passes the limit, at the first such step: the walk of `steps` against each step by itself, and the
+-- A list is too large exactly where a step passes the limit, at the first such step: what `steps` tells, against each step by itself, and the
 -- exponent, which never decides. Assumes nothing.
 use mathlib.Core.Path.{_≡_, refl, sym, ap, _∙_, subst}
 use mathlib.Core.Bool.{Bool, true, false}
@@ -31,7 +31,7 @@ module _ (n : ℕ) where
     before : (j : ℕ) → j < i → stepAt x l j ≡ true
     past : stepAt x l i ≡ false
 
-  -- what the walk tells of each step
+  -- what `steps` tells of each step
   abbrev Says : Exact → List ℕ → Steps → Type 0
   Says x l allFit = (j : ℕ) → j < length l → stepAt x l j ≡ true
   Says x l (unfitAt i) = First x l i
@@ -110,7 +110,7 @@ module _ (n : ℕ) where
     within-fit zero q f j p = absurd (omega arith)
     within-fit (suc i) q f j p = fit-more i (omega arith) (f i (omega arith)) (within-fit i (omega arith) (λ k r. f k (omega arith))) j p
 
-    -- "refused as too large exactly where a step passes 127", at the first such step
+    -- gate i is told as the first that does not fit exactly where its step is the first past the limit (SPECIFICATION 8.2)
     pub too-large-exactly : (i : ℕ) → (steps n l ≡ unfitAt i) ↔ FirstPast n l i
     unfolding steps product
     too-large-exactly i = (to, from)

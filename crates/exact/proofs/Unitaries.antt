@@ -19,7 +19,8 @@ use Rattle.cyclotomic.proofs.Turns.{turn-none, turn-zero, sub-is}
 use Rattle.cyclotomic.proofs.Division.{sqrt2-zero, sqrt2-sqrt2}
 use Rattle.cyclotomic.proofs.Product.{mul-zero, mul-one, mul-add, add-mul}
 use Rattle.exact.specs.Matrix.{Exact, sqrt2s, SameValue, lower, identity, turned, PowerOf}
-use Rattle.exact.specs.Rows.{flip, ones, Gate, phase, exchange, had, column, raw, act, gateOf, Lacks, Proper}
+use Rattle.exact.specs.Rows.{flip, ones, Gate, phase, exchange, had, column, raw, act, gateOf}
+use Rattle.exact.proofs.Words.{Lacks, Proper}
 use Rattle.exact.specs.Lists.{after, product}
 use Rattle.exact.specs.Paper.{sumω}
 use Rattle.exact.specs.Unitary.{conj, inner, natω, Unitary}

@@ -1,5 +1,5 @@
--- Values and lowest denominators: "one value" and "equal" are equivalences, `lower` keeps the value and ends lowest, the lowest form is
--- unique, and turns of all entries go with all of it. Assumes nothing.
+-- Values and lowest denominators: `SameValue` and `Equal` are equivalences, `lower` keeps the value and gives a matrix in lowest denominator, of
+-- which each value has one, and turns of all entries commute with all of it. Assumes nothing.
 use mathlib.Core.Path.{_≡_, refl, sym, ap, _∙_}
 use mathlib.Core.Bool.{Bool, true, false}
 use Prim.Native.Nat.{ℕ, zero, suc, _+_, _-_, _^_, _≤_, _<_}
@@ -10,7 +10,8 @@ use Rattle.ints.specs.Lists.{pick, range, all}
 use Rattle.ints.proofs.Bools.{clash, all-range, range-all}
 use Rattle.cyclotomic.specs.Zomega.{Zω, turn, sqrt2, divisible, overSqrt2}
 use Rattle.cyclotomic.proofs.Division.{sqrt2-over, sqrt2-divisible, sqrt2-cancel, turn-sqrt2, divisible-turn}
-use Rattle.exact.specs.Matrix.{Exact, sqrt2s, SameValue, Equal, allEntries, allDivisible, Lowest, lowered, lower, turned}
+use Rattle.exact.specs.Matrix.{Exact, sqrt2s, SameValue, allEntries, allDivisible, Lowest, lowered, lower, turned}
+use Rattle.exact.proofs.Words.{Equal}
 
 -- ---- powers of √2
 
@@ -60,7 +61,7 @@ module _ (n : ℕ) where
   unfolding allDivisible
   divisible-from e = entries-from (λ r c. divisible (e r c))
 
-  -- ---- "one value" and "equal" are equivalences
+  -- ---- `SameValue` and `Equal` are equivalences
   pub same-refl : (x : Exact) → SameValue n x x
   same-refl x = record { at = λ r c p q. refl }
 

@@ -1,4 +1,5 @@
--- Answers in document 01's terms, and what a step and a list are answered by. Assumes nothing.
+-- What a list of gates is answered: a number, or a refusal by number and position. The contracts of the code speak of these numbers and not of
+-- the cases of an enum (SPECIFICATION 12.8). Assumes nothing.
 use mathlib.Core.List.{List}
 use Prim.Native.Nat.{ℕ}
 use Rattle.ints.specs.Lists.{pick}
@@ -8,20 +9,16 @@ use Rattle.exact.specs.Rows.{Gate, act}
 use Rattle.exact.specs.Lists.{product}
 use Rattle.exact.specs.Fits.{stepFits, Steps, allFit, unfitAt, steps}
 
--- a number (an exponent, a fingerprint), or a refusal: "its number and position", which is 0 where there is none
+-- what was asked for (an exponent, a fingerprint), or a refusal: first its number, then its position (SPECIFICATION 9.1)
 pub data Answer : Type 0 where
   given : ℕ → Answer
   refused : ℕ → ℕ → Answer
 
--- one gate: the exponent of the exact step where it fits, "does not fit" where it does not
-unfoldable pub stepAnswer : ℕ → Gate → Exact → Answer
-stepAnswer n g x = pick (stepFits n g x) (given (act n g x .k)) (refused doesNotFit 0)
-
--- by how its steps went, and its product's exponent
+-- by its product's exponent, and by how its steps went
 abbrev pub bySteps : ℕ → Steps → Answer
 bySteps k allFit = given k
 bySteps k (unfitAt i) = refused doesNotFit i
 
--- a list: the exponent of its product where every step fits, "does not fit; position of the gate" where one does not
+-- a list: the exponent of its product where every step fits, and otherwise 8 at the first gate whose step does not (SPECIFICATION 4.2, 4.3)
 unfoldable pub listAnswer : ℕ → List ℕ → Answer
 listAnswer n codes = bySteps (product n codes .k) (steps n codes)

@@ -1,4 +1,5 @@
--- What fits: a step's raw result within a limit, and the first step of a list that does not. Assumes nothing.
+-- What fits: a step's raw result within the limit, and the first step of a list that does not. Products are exact, so what fits is said apart
+-- from them: by the raw result, before lowering, as the code meets it. Assumes nothing.
 use mathlib.Core.Path.{_≡_}
 use mathlib.Core.Bool.{Bool, true, false, _&&_}
 use mathlib.Core.List.{List, [], _∷_}
@@ -11,44 +12,39 @@ use Rattle.exact.specs.Matrix.{Exact, allEntries, identity}
 use Rattle.exact.specs.Rows.{Gate, raw, act, gateOf}
 use Rattle.exact.specs.Lists.{product}
 
--- the largest exponent: "or k past 65535"
+-- the largest exponent that fits (SPECIFICATION 3.4)
 abbrev pub mostK : ℕ
 mostK = 65535
 
--- "a result past 127 either way, or k past 65535, is 'does not fit'": the raw row operation, before lowering
+-- the step fits: the raw result has no coefficient past the limit, and an exponent of at most `mostK` (SPECIFICATION 3.4)
 unfoldable pub stepFits : ℕ → Gate → Exact → Bool
 stepFits n g x = leb (raw g x .k) mostK && allEntries n (λ r c. fits (raw g x .e r c))
 
--- every coefficient of every entry is within a bound
-pub record AllWithin (n bound : ℕ) (e : ℕ → ℕ → Zω) : Type 0 where
-  pub small : (r c : ℕ) → r < 2 ^ n → c < 2 ^ n → WithinBound bound (e r c)
-
--- every coefficient of every entry is within the limit
-abbrev pub AllSmall : ℕ → (ℕ → ℕ → Zω) → Type 0
-AllSmall n e = AllWithin n limit e
-
--- whether every step of a list fits, or the position of the first that does not
+-- every step of a list fits, or the position of the first that does not (SPECIFICATION 3.6)
 pub data Steps : Type 0 where
   allFit : Steps
   unfitAt : ℕ → Steps
 
+-- of a list with one more gate before it, whose step fits
 abbrev pub next : Steps → Steps
 next allFit = allFit
 next (unfitAt i) = unfitAt (suc i)
 
+-- the steps of a list from the matrix x on
 abbrev pub stepsFrom : ℕ → Exact → List ℕ → Steps
 stepsFrom n x [] = allFit
 stepsFrom n x (g ∷ l) = pick (stepFits n (gateOf n g) x) (next (stepsFrom n (act n (gateOf n g) x) l)) (unfitAt 0)
 
+-- and from the identity on
 unfoldable pub steps : ℕ → List ℕ → Steps
 steps n l = stepsFrom n identity l
 
 -- the step by gate j of a list, taken from the product of those before it, keeps every raw coefficient within the limit; where it does not, it
--- "passes 127"
+-- passes the limit. The exponent plays no part here (SPECIFICATION 8.2)
 unfoldable pub stepWithin : ℕ → List ℕ → ℕ → Bool
 stepWithin n l j = allEntries n (λ r c. fits (raw (gateOf n (getD l j 0)) (product n (take j l)) .e r c))
 
--- gate i is the first whose step passes the limit
+-- gate i is the first whose step passes the limit (SPECIFICATION 8.2)
 pub record FirstPast (n : ℕ) (l : List ℕ) (i : ℕ) : Type 0 where
   pub inside : i < length l
   pub before : (j : ℕ) → j < i → stepWithin n l j ≡ true

@@ -1,4 +1,5 @@
--- The gates as Giles and Selinger have them: matrices by their entries, and the product of matrices as a finite sum. Assumes nothing.
+-- The gates as Giles and Selinger have them: matrices by their entries, and the product of matrices as a finite sum. The row operations of
+-- Rows.antt are shown to be products with these, so that their meaning is the paper's and not the code's (SPECIFICATION 3.1). Assumes nothing.
 use mathlib.Core.Bool.{Bool, true, false, _&&_, _||_}
 use mathlib.Core.List.{List, [], _∷_}
 use Prim.Native.Nat.{ℕ, zero, suc, _+_, _^_}
@@ -68,6 +69,7 @@ paperGate n Ccx a b c = matrixOf pauliX (bitOf n a ∷ bitOf n b ∷ []) (bitOf 
 paperGate n Ccz a b c = matrixOf (phaseGate 4) (bitOf n a ∷ bitOf n b ∷ []) (bitOf n c)
 paperGate n Other a b c = identity
 
+-- the matrix of a code; one that is not valid at the width stands for the identity
 unfoldable pub paperOf : ℕ → ℕ → Exact
 paperOf n g = pick (valid n g) (paperGate n (kindOf g) (first g) (second g) (third g)) identity
 
@@ -76,11 +78,11 @@ abbrev pub sumω : ℕ → (ℕ → Zω) → Zω
 sumω zero f = zeroω
 sumω (suc m) f = addω (sumω m f) (f m)
 
--- the product of two matrices of width n
+-- the product of two matrices of width n: the entry at r and c is the sum over s, and the exponents add up
 abbrev pub multiply : ℕ → Exact → Exact → Exact
 multiply n x y = record { k = x .k + y .k; e = λ r c. sumω (2 ^ n) (λ s. mulω (x .e r s) (y .e s c)) }
 
--- the paper's product of a list, oldest gate first in the list, newest on the left in the product
+-- the paper's product of a list: the oldest gate is first in the list, the newest leftmost in the product (SPECIFICATION 3.5)
 abbrev pub paperAfter : ℕ → Exact → List ℕ → Exact
 paperAfter n x [] = x
 paperAfter n x (g ∷ l) = paperAfter n (multiply n (paperOf n g) x) l

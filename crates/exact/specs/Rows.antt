@@ -1,4 +1,5 @@
--- Document 01's row operations. "Qubit 0 is the most significant row bit": qubit q of n is bit n - 1 - q of a row's number. Assumes nothing.
+-- What gates do to rows: multiplying by a gate on the left, said without a product of matrices, as the code does it (SPECIFICATION 3.2). The
+-- kinds come to three operations, so that most laws have three cases. Assumes nothing.
 use mathlib.Core.Bool.{Bool}
 use mathlib.Core.List.{List, [], _∷_}
 use Prim.Native.Nat.{ℕ, suc, _+_, _-_, _%_, _^_, _<_}
@@ -26,32 +27,32 @@ pub data Gate : Type 0 where
   exchange : List ℕ → ℕ → Gate
   had : ℕ → Gate
 
--- "turn .. the rows that have all their bits", "exchange the rows that differ in the target bit, where all control bits are 1",
--- "replaces each row pair by sum and difference": what comes to row r of a column v
+-- what comes to row r of a column v: itself, turned where the bits are 1; the row that it is exchanged with; of H the sum of the two rows where
+-- the bit is 0, and where it is 1 the row with 0 less the row with 1 (SPECIFICATION 3.2)
 unfoldable pub column : Gate → (ℕ → Zω) → ℕ → Zω
 column (phase ks p) v r = pick (ones ks r) (turn p (v r)) (v r)
 column (exchange ks k) v r = v (pick (ones ks r) (flip k r) r)
 column (had k) v r = pick (bit r k) (subω (v (flip k r)) (v r)) (addω (v r) (v (flip k r)))
 
--- "H raises k by one"
+-- the exponent: H adds 1, the others leave it (SPECIFICATION 3.2)
 abbrev pub raise : Gate → ℕ → ℕ
 raise (phase ks p) k = k
 raise (exchange ks j) k = k
 raise (had j) k = suc k
 
--- the row operation, before lowering
+-- the raw result: the row operation, before lowering (SPECIFICATION 3.2)
 abbrev pub raw : Gate → Exact → Exact
 raw g x = record { k = raise g (x .k); e = λ r c. column g (λ s. x .e s c) r }
 
--- a step: the row operation, then lowering
+-- a step: the row operation, then lowering (SPECIFICATION 3.3)
 abbrev pub act : ℕ → Gate → Exact → Exact
 act n g x = lower n (raw g x)
 
+-- the bit of a row's number that is qubit q of n (SPECIFICATION 1.6)
 abbrev pub bitOf : ℕ → ℕ → ℕ
 bitOf n q = n - suc q
 
--- "S, Sdg, T, Tdg turn the one-rows by 2, 6, 1, 7; Z, Cz and Ccz turn by 4 the rows that have all their bits. X, Cx, Ccx exchange the rows
--- that differ in the target bit, where all control bits are 1."
+-- the row operation of each kind, with operands a, b, c (SPECIFICATION 3.2)
 abbrev pub gate : ℕ → Kind → ℕ → ℕ → ℕ → Gate
 gate n H a b c = had (bitOf n a)
 gate n X a b c = exchange [] (bitOf n a)
@@ -69,33 +70,3 @@ gate n Other a b c = phase [] 0
 -- the gate of a code; a code that is not valid at the width does nothing
 unfoldable pub gateOf : ℕ → ℕ → Gate
 gateOf n g = pick (valid n g) (gate n (kindOf g) (first g) (second g) (third g)) (phase [] 0)
-
--- ---- gates of a width, gates with no common bit, gates that undo each other
-
-abbrev pub Lacks : ℕ → List ℕ → Type 0
-Lacks k [] = Unit {0}
-Lacks k (j ∷ js) = (j ≡ k → ⊥) × Lacks k js
-
-abbrev pub AllBelow : ℕ → List ℕ → Type 0
-AllBelow n [] = Unit {0}
-AllBelow n (j ∷ js) = (j < n) × AllBelow n js
-
--- the bits are the width's, and a target is no control
-abbrev pub Proper : ℕ → Gate → Type 0
-Proper n (phase ks p) = AllBelow n ks
-Proper n (exchange ks k) = (k < n) × AllBelow n ks × Lacks k ks
-Proper n (had k) = k < n
-
-abbrev pub touches : Gate → List ℕ
-touches (phase ks p) = ks
-touches (exchange ks k) = k ∷ ks
-touches (had k) = k ∷ []
-
-abbrev pub Apart : List ℕ → List ℕ → Type 0
-Apart [] l = Unit {0}
-Apart (j ∷ js) l = Lacks j l × Apart js l
-
-pub data Undoes : Gate → Gate → Type 0 where
-  turns : {ks : List ℕ} {p q : ℕ} → (p + q) % 8 ≡ 0 → Undoes (phase ks p) (phase ks q)
-  exchanges : {ks : List ℕ} {k : ℕ} → Lacks k ks → Undoes (exchange ks k) (exchange ks k)
-  hads : {k : ℕ} → Undoes (had k) (had k)

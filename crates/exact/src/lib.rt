@@ -1,2 +1,2 @@
-// Exact matrices over Z[omega], with no bound on coefficients or exponent: values, lowest denominators, the paper's gates and document 01's
-// row operations, products of lists, unitarity, phase, fingerprint. Definitions and laws, no functions.
+// Exact matrices over Z[omega], with no bound on coefficients or exponent: values, lowest denominators, the paper's gates and the row
+// operations, products of lists, unitarity, phase, fingerprint. Definitions and laws, no functions.

@@ -1,4 +1,4 @@
--- The generators of a basis at a width. Assumes nothing.
+-- The generators of a basis at a width (SPECIFICATION 2.8). Assumes nothing.
 use mathlib.Core.Path.{_≡_}
 use mathlib.Core.Bool.{true}
 use mathlib.Core.List.{List, [], _∷_, List·Memᴰ}
@@ -28,7 +28,7 @@ seconds n basis k a = each (range 0 n) (λ b. thirds n basis k a b)
 abbrev pub firsts : ℕ → ℕ → ℕ → List ℕ
 firsts n basis k = each (range 0 n) (λ a. seconds n basis k a)
 
--- "The generators come in library_gates order: kinds rising, operands as the nested loops there run."
+-- by kind, then first, second, third operand, each rising (SPECIFICATION 2.8)
 unfoldable pub generators : ℕ → ℕ → List ℕ
 generators n basis = each (range 0 tried) (λ k. firsts n basis k)
 

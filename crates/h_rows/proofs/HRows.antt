@@ -17,7 +17,7 @@ use Rattle.ints.proofs.Bits.{digit-lt, ext, and-digit, or-digit}
 use Rattle.ints.proofs.Bools.{clash}
 use Rattle.cyclotomic.specs.Zomega.{Zω, limit, addω, subω, Small, sizesPass}
 use Rattle.cyclotomic.proofs.Sizes.{SizesSmall, sizes-sum, sizes-difference, both-sizes}
-use Rattle.exact.specs.Fits.{AllSmall}
+use Rattle.exact.proofs.Words.{AllSmall}
 use Rattle.exact.specs.Places.{entry, read}
 use Rattle.places.specs.Places.{places, put, Same, Kept}
 use Rattle.rows.specs.Rows.{has, hRows}
@@ -242,7 +242,7 @@ all-pair t {n} {l} {r} w ht hr = record {
 -- ---- the sweep
 
 -- row s and its partner are their sums and their differences; they are as they were
-pub record Worked (n bit : ℕ) (l l′ : List ℤ) (s : ℕ) : Type 0 where
+pub record PairWorked (n bit : ℕ) (l l′ : List ℤ) (s : ℕ) : Type 0 where
   pub low : (c : ℕ) → c < 2 ^ n → read n l′ s c ≡ addω (read n l s c) (read n l (bitOr s bit) c)
   pub high : (c : ℕ) → c < 2 ^ n → read n l′ (bitOr s bit) c ≡ subω (read n l s c) (read n l (bitOr s bit) c)
 
@@ -253,7 +253,7 @@ pub record Still (n bit : ℕ) (l l′ : List ℤ) (s : ℕ) : Type 0 where
 -- the pairs whose lower row is below r are worked, the others are as they were, and so are the places past the matrix
 pub record Halfway (n bit : ℕ) (l l′ : List ℤ) (r : ℕ) : Type 0 where
   pub long : length l′ ≡ length l
-  pub done : (s : ℕ) → s < r → has s bit ≡ false → Worked n bit l l′ s
+  pub done : (s : ℕ) → s < r → has s bit ≡ false → PairWorked n bit l l′ s
   pub rest : (s : ℕ) → r ≤ s → has s bit ≡ false → Still n bit l l′ s
   pub kept : Kept n l l′
 
@@ -294,7 +294,7 @@ module _ (t : ℕ) {n : ℕ} {l l1 : List ℤ} {r : ℕ} (w : Halfway n (2 ^ t) 
       by : (q : Bool) → has r (2 ^ t) ≡ q → Halfway n (2 ^ t) l l2 (r + 1)
       by true hr = record {
         long = ap length (p .alone hr) ∙ w .long;
-        done = below-more _ r (λ s b h. subst (λ (m : List ℤ). Worked n (2 ^ t) l m s) (sym (p .alone hr)) (w .done s b h)) (λ h. clash hr h);
+        done = below-more _ r (λ s b h. subst (λ (m : List ℤ). PairWorked n (2 ^ t) l m s) (sym (p .alone hr)) (w .done s b h)) (λ h. clash hr h);
         rest = λ s b h. subst (λ (m : List ℤ). Still n (2 ^ t) l m s) (sym (p .alone hr)) (w .rest s (omega arith) h);
         kept = kept-trans n (w .kept) (kept-same n (p .alone hr));
       }
@@ -305,7 +305,7 @@ module _ (t : ℕ) {n : ℕ} {l l1 : List ℤ} {r : ℕ} (w : Halfway n (2 ^ t) 
         kept = kept-trans n (w .kept) (past (p .pair hr));
       }
         where
-          worked : {s : ℕ} → Still n (2 ^ t) l1 l2 s → Worked n (2 ^ t) l l1 s → Worked n (2 ^ t) l l2 s
+          worked : {s : ℕ} → Still n (2 ^ t) l1 l2 s → PairWorked n (2 ^ t) l l1 s → PairWorked n (2 ^ t) l l2 s
           worked k d = record { low = λ c hc. k .low c hc ∙ d .low c hc; high = λ c hc. k .high c hc ∙ d .high c hc }
 
           still : {s : ℕ} → Still n (2 ^ t) l1 l2 s → Still n (2 ^ t) l l1 s → Still n (2 ^ t) l l2 s
@@ -316,7 +316,7 @@ module _ (t : ℕ) {n : ℕ} {l l1 : List ℤ} {r : ℕ} (w : Halfway n (2 ^ t) 
               kept-entries n
               (λ k h. s .other k (λ i b q. omega (arith, row-inside n r lt)) (λ i b q. omega (arith, row-inside n (bitOr r (2 ^ t)) (or-lt n r (2 ^ t) lt (pow-lt ht)))))
 
-          new : Summed l1 l2 (r * 2 ^ n) (bitOr r (2 ^ t) * 2 ^ n) (2 ^ n) → Still n (2 ^ t) l l1 r → Worked n (2 ^ t) l l2 r
+          new : Summed l1 l2 (r * 2 ^ n) (bitOr r (2 ^ t) * 2 ^ n) (2 ^ n) → Still n (2 ^ t) l l1 r → PairWorked n (2 ^ t) l l2 r
           new s k = record {
             low = λ c hc. s .sums c hc ∙ (λ i. addω (k .low c hc i) (k .high c hc i));
             high = λ c hc. s .differences c hc ∙ (λ i. subω (k .low c hc i) (k .high c hc i));

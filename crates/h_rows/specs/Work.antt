@@ -7,7 +7,7 @@ use lib.IntN.{ℤ, natAbs}
 use lib.ListN.{length}
 use lib.Bits.{bitOr}
 use Rattle.cyclotomic.specs.Zomega.{Zω, limit, addω, subω, Small}
-use Rattle.exact.specs.Fits.{AllSmall}
+use Rattle.exact.proofs.Words.{AllSmall}
 use Rattle.exact.specs.Places.{entry, read}
 use Rattle.places.specs.Places.{places, Same, Kept}
 use Rattle.rows.specs.Rows.{has}

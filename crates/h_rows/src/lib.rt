@@ -4,7 +4,7 @@
 ghost use mathlib.Core.Path.{_≡_};
 ghost use Prim.Native.Nat.{_+_, _*_, _^_, _<_, _≤_};
 ghost use lib.ListN.{length};
-ghost use Rattle.exact.specs.Fits.{AllSmall};
+ghost use Rattle.exact.proofs.Words.{AllSmall};
 ghost use Rattle.exact.specs.Places.{read};
 ghost use Rattle.places.specs.Places.{places, Same, Kept};
 ghost use Rattle.rows.specs.Rows.{hRows};
@@ -93,9 +93,9 @@ fn h_rows(m: &mut [Coefficient; 4096], n: usize, t: usize)
     requires { ⌜ length (now m) ≡ places ⌝ }
     requires { ⌜ (n ≤ 5) × (t < n) ⌝ }
     requires { ⌜ AllSmall n (hRows (2 ^ t) (read n (now m))) ⌝ }
-    ensures { λ _. ⌜ length (now (m .exit)) ≡ places ⌝ }
-    ensures { λ _. ⌜ Same n (read n (now (m .exit))) (hRows (2 ^ t) (read n (now (m .entry)))) ⌝ }
-    ensures { λ _. ⌜ Kept n (now (m .entry)) (now (m .exit)) ⌝ }
+    ensures sized { λ _. ⌜ length (now (m .exit)) ≡ places ⌝ }
+    ensures summed { λ _. ⌜ Same n (read n (now (m .exit))) (hRows (2 ^ t) (read n (now (m .entry)))) ⌝ }
+    ensures kept { λ _. ⌜ Kept n (now (m .entry)) (now (m .exit)) ⌝ }
 {
     let d = places::dim(n);
     let bit = places::mask(t);
@@ -106,7 +106,7 @@ fn h_rows(m: &mut [Coefficient; 4096], n: usize, t: usize)
     }
 }
 
-// H on bit t, the exponent left to the caller. A refusal leaves the places as they were.
+// H on bit t (SPECIFICATION 3.2), the exponent left to the caller. A refusal leaves the places as they were.
 pub fn apply_h_left(m: &mut [Coefficient; 4096], n: usize, t: usize) -> bool
     requires { ⌜ length (now m) ≡ places ⌝ }
     requires { ⌜ (n ≤ 5) × (t < n) ⌝ }

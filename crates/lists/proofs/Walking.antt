@@ -8,7 +8,8 @@ use lib.IntN.{ℤ}
 use lib.ListN.{length, getD, take, drop, drop-of-length-le}
 use lib.Seq.{drop-cons, take-suc, take-all}
 use Rattle.ints.specs.Lists.{pick, all}
-use Rattle.exact.specs.Matrix.{Exact, Equal, identity}
+use Rattle.exact.specs.Matrix.{Exact, identity}
+use Rattle.exact.proofs.Words.{Equal}
 use Rattle.exact.specs.Rows.{Gate, act, gateOf}
 use Rattle.exact.specs.Lists.{product}
 use Rattle.exact.specs.Fits.{Steps, allFit, unfitAt, next, stepsFrom, steps}

@@ -1,4 +1,4 @@
--- What a list of valid codes leaves in the places. Assumes nothing.
+-- What a list of valid codes leaves in the places (SPECIFICATION 3.5, 3.6). Assumes nothing.
 use mathlib.Core.Path.{_≡_}
 use mathlib.Core.List.{List}
 use Prim.Native.Nat.{ℕ}

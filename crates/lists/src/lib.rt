@@ -13,7 +13,7 @@ use circuit::LibraryGate;
 use cyclotomic::Coefficient;
 use matrix::Applied;
 
-// How a list ended: all its steps fit, and the exponent; or the position of the first that does not fit.
+// How a list ended: all its steps fit, and the exponent; or the position of the first that does not fit (SPECIFICATION 3.6).
 pub enum Walked {
     Fits(u16),
     UnfitAt(usize),
@@ -24,8 +24,8 @@ pub fn apply_gates(m: &mut [Coefficient; 4096], n: usize, codes: &[u32]) -> Walk
     requires { ⌜ n ≤ 5 ⌝ }
     requires { ⌜ all (valid n) (now codes) ≡ true ⌝ }
     requires { ⌜ Holds n 0 (now m) identity ⌝ }
-    ensures { λ r. ⌜ Ended n (now (codes .entry)) (now (m .exit)) r ⌝ }
-    ensures { λ _. ⌜ Kept n (now (m .entry)) (now (m .exit)) ⌝ }
+    ensures ended { λ r. ⌜ Ended n (now (codes .entry)) (now (m .exit)) r ⌝ }
+    ensures kept { λ _. ⌜ Kept n (now (m .entry)) (now (m .exit)) ⌝ }
 {
     let mut k: u16 = 0;
     let mut i = 0;

@@ -20,7 +20,7 @@ use Rattle.exact.proofs.Phases.{flat-lt}
 use Rattle.matrix.specs.Step.{Holds}
 
 -- the first i rows are the identity's, the others 0, and so are the places past the matrix
-pub record Filled (n : ℕ) (l : List ℤ) (i : ℕ) : Type 0 where
+pub record PlacesFilled (n : ℕ) (l : List ℤ) (i : ℕ) : Type 0 where
   pub long : length l ≡ places
   pub done : (r : ℕ) → r < i → (c : ℕ) → c < 2 ^ n → read n l r c ≡ identity .e r c
   pub ahead : (r : ℕ) → i ≤ r → (c : ℕ) → c < 2 ^ n → read n l r c ≡ zeroω
@@ -37,12 +37,12 @@ unfolding entry zeroω
 none-entry m e = each (none-at m (4 * e)) (none-at m (4 * e + 1)) (none-at m (4 * e + 2)) (none-at m (4 * e + 3))
 
 module _ (n : ℕ) where
-  pub filled-none : Filled n (replicate 4096 (pos 0)) 0
+  pub filled-none : PlacesFilled n (replicate 4096 (pos 0)) 0
   filled-none = record { long = refl; done = λ r b. absurd (omega arith); ahead = λ r b c q. none-entry 4096 (r * 2 ^ n + c); blank = record { past = λ j h. none-at 4096 j } }
 
   -- 1 at the diagonal's place of the next row
-  pub filled-more : {l l′ : List ℤ} {z : Zω} (i : ℕ) {e : ℕ} → n ≤ 5 → Filled n l i → i < 2 ^ n → l′ ≡ put l e z → z ≡ oneω → e ≡ i * 2 ^ n + i
-      → Filled n l′ (i + 1)
+  pub filled-more : {l l′ : List ℤ} {z : Zω} (i : ℕ) {e : ℕ} → n ≤ 5 → PlacesFilled n l i → i < 2 ^ n → l′ ≡ put l e z → z ≡ oneω → e ≡ i * 2 ^ n + i
+      → PlacesFilled n l′ (i + 1)
   filled-more {l} {l′} {z} i {e} b w h q t p = record {
     long = ap length q ∙ length-put l e z ∙ w .long;
     done = below-more (λ r. (c : ℕ) → c < 2 ^ n → read n l′ r c ≡ identity .e r c) i
@@ -64,7 +64,7 @@ module _ (n : ℕ) where
   identity-small : (r c : ℕ) → Small (identity .e r c)
   identity-small r c = pick-ind Small (eqb r c) (λ h. small-one) (λ h. small-zero)
 
-  pub filled-end : {l : List ℤ} (i : ℕ) → Filled n l i → 2 ^ n ≤ i → Holds n 0 l identity
+  pub filled-end : {l : List ℤ} (i : ℕ) → PlacesFilled n l i → 2 ^ n ≤ i → Holds n 0 l identity
   filled-end {l} i w h = record {
     long = w .long;
     equal = record { exponent = refl; entries = known };

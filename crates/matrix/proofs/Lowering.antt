@@ -10,9 +10,9 @@ use lib.ListN.{length}
 use Rattle.cyclotomic.specs.Zomega.{Zω, divisible, overSqrt2}
 use Rattle.cyclotomic.proofs.Division.{sqrt2-over}
 use Rattle.cyclotomic.proofs.Squares.{small-over}
-use Rattle.exact.specs.Matrix.{sqrt2s, Equal, allDivisible, lower}
+use Rattle.exact.specs.Matrix.{sqrt2s, allDivisible, lower}
+use Rattle.exact.proofs.Words.{Equal, AllSmall}
 use Rattle.exact.proofs.Values.{sqrt2s-sqrt2, divisible-to, equal-refl, equal-sym, equal-trans, lower-unique, lower-stays}
-use Rattle.exact.specs.Fits.{AllSmall}
 use Rattle.exact.specs.Places.{read, held}
 use Rattle.places.specs.Places.{places, Same, Kept}
 use Rattle.places.proofs.Placed.{kept-refl, kept-trans}

@@ -14,10 +14,11 @@ use Rattle.circuit.specs.Pairs.{maskOf}
 use Rattle.circuit.proofs.ByNumber.{kind-past}
 use Rattle.circuit.proofs.Sets.{mask-apart}
 use Rattle.circuit.specs.Kinds.{kindAt, isKind}
-use Rattle.exact.specs.Rows.{exchange, had, gate, gateOf, Lacks, Proper}
+use Rattle.exact.specs.Rows.{exchange, had, gate, gateOf}
+use Rattle.exact.proofs.Words.{Lacks, Proper}
 use Rattle.exact.proofs.Coded.{proper}
 use lib.IntN.{ℤ}
-use Rattle.matrix.specs.Step.{Stepped, Exchanged}
+use Rattle.matrix.specs.Step.{Stepped, ExchangesRows}
 use Rattle.matrix.specs.declared.Applied.{Applied}
 
 pub mask-none : 0 ≡ maskOf []
@@ -69,9 +70,9 @@ module _ {n k : ℕ} {l l′ : List ℤ} {r : Applied} where
   pub h-at : {t j : ℕ} → t ≡ j → Stepped n k (had t) l l′ r → Stepped n k (had j) l l′ r
   h-at e w = subst (λ (x : ℕ). Stepped n k (had x) l l′ r) e w
 
-  pub exchange-at : (ks : List ℕ) {control t j : ℕ} → t ≡ j → control ≡ maskOf ks → Proper n (exchange ks j) → Exchanged n k control t l l′ r
+  pub exchange-at : (ks : List ℕ) {control t j : ℕ} → t ≡ j → control ≡ maskOf ks → Proper n (exchange ks j) → ExchangesRows n k control t l l′ r
       → Stepped n k (exchange ks j) l l′ r
-  exchange-at ks {control} e m p w = subst (λ (x : ℕ). Exchanged n k control x l l′ r) e w .by ks m p
+  exchange-at ks {control} e m p w = subst (λ (x : ℕ). ExchangesRows n k control x l l′ r) e w .by ks m p
 
   -- the kind is known by an equation
   pub kind-at : (a b c : ℕ) {x y : ℕ} → x ≡ y → Stepped n k (gate n (kindAt y) a b c) l l′ r → Stepped n k (gate n (kindAt x) a b c) l l′ r

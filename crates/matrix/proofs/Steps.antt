@@ -9,9 +9,10 @@ use lib.ListN.{length}
 use Rattle.cyclotomic.specs.Zomega.{Small, fits}
 use Rattle.cyclotomic.proofs.Answers.{small-fits, fits-small}
 use Rattle.circuit.specs.Pairs.{maskOf}
-use Rattle.exact.specs.Matrix.{Exact, Equal, allEntries, lower}
-use Rattle.exact.specs.Rows.{Gate, phase, exchange, had, raw, act, Proper}
-use Rattle.exact.specs.Fits.{mostK, AllSmall}
+use Rattle.exact.specs.Matrix.{Exact, allEntries, lower}
+use Rattle.exact.proofs.Words.{Equal, Proper, AllSmall}
+use Rattle.exact.specs.Rows.{Gate, phase, exchange, had, raw, act}
+use Rattle.exact.specs.Fits.{mostK}
 use Rattle.exact.proofs.Values.{equal-sym, equal-trans, equal-same, lower-unique, entries-to, entries-from}
 use Rattle.exact.proofs.Answered.{given-step, refused-step}
 use Rattle.exact.proofs.Keeps.{phase-act, exchange-act, phase-small, exchange-small, phase-step-fits, exchange-step-fits, had-step, had-step-k}

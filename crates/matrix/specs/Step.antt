@@ -4,12 +4,12 @@ use mathlib.Core.List.{List}
 use Prim.Native.Nat.{ℕ}
 use lib.IntN.{ℤ}
 use lib.ListN.{length}
-use Rattle.exact.specs.Matrix.{Exact, Equal, Lowest}
+use Rattle.exact.specs.Matrix.{Exact, Lowest}
+use Rattle.exact.proofs.Words.{Equal, Proper, AllSmall, stepAnswer}
 use Rattle.cyclotomic.specs.Told.{doesNotFit}
 use Rattle.circuit.specs.Pairs.{maskOf}
-use Rattle.exact.specs.Rows.{Gate, phase, exchange, act, Proper}
-use Rattle.exact.specs.Fits.{AllSmall}
-use Rattle.exact.specs.Answers.{Answer, given, refused, stepAnswer}
+use Rattle.exact.specs.Rows.{Gate, phase, exchange, act}
+use Rattle.exact.specs.Answers.{Answer, given, refused}
 use Rattle.exact.specs.Places.{read, held}
 use Rattle.places.specs.Places.{places, Kept}
 use Rattle.matrix.specs.declared.UnitaryMatrix.{UnitaryMatrix}
@@ -51,8 +51,8 @@ pub record Stepped (n k : ℕ) (g : Gate) (l l′ : List ℤ) (r : Applied) : Ty
   pub kept : Kept n l l′
 
 -- the same for a turn and for an exchange, whose bits are given as a mask
-pub record Turned (n k mask p : ℕ) (l l′ : List ℤ) (r : Applied) : Type 0 where
+pub record TurnsRows (n k mask p : ℕ) (l l′ : List ℤ) (r : Applied) : Type 0 where
   pub by : (ks : List ℕ) → mask ≡ maskOf ks → Stepped n k (phase ks p) l l′ r
 
-pub record Exchanged (n k control t : ℕ) (l l′ : List ℤ) (r : Applied) : Type 0 where
+pub record ExchangesRows (n k control t : ℕ) (l l′ : List ℤ) (r : Applied) : Type 0 where
   pub by : (ks : List ℕ) → control ≡ maskOf ks → Proper n (exchange ks t) → Stepped n k (exchange ks t) l l′ r

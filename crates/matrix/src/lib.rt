@@ -8,19 +8,19 @@ ghost use lib.ListN.{length};
 ghost use Rattle.circuit.specs.Kinds.{kindAt, isKind};
 ghost use Rattle.circuit.specs.Codes.{valid};
 ghost use Rattle.exact.specs.Matrix.{lower, identity};
-ghost use Rattle.exact.specs.Rows.{had, Proper, bitOf, gate, gateOf};
-ghost use Rattle.exact.specs.Fits.{AllSmall};
+ghost use Rattle.exact.specs.Rows.{had, bitOf, gate, gateOf};
+ghost use Rattle.exact.proofs.Words.{Proper, AllSmall};
 ghost use Rattle.exact.specs.Places.{read, held};
 ghost use Rattle.places.specs.Places.{places, Kept, Blank};
-ghost use Rattle.matrix.specs.Step.{IsMatrix, Holds, Ready, Stepped, Turned, Exchanged};
+ghost use Rattle.matrix.specs.Step.{IsMatrix, Holds, Ready, Stepped, TurnsRows, ExchangesRows};
 use circuit::LibraryGate;
 use cyclotomic::Coefficient;
 use cyclotomic::Cyclotomic;
 
-// The largest exponent, `mostK` of the definitions: "or k past 65535, is 'does not fit'".
+// The largest exponent, `mostK` of the definitions: a step whose raw result has a larger one does not fit (SPECIFICATION 3.4).
 const MOST_K: u16 = 65535;
 
-// What a gate left: the exponent, or that a coefficient or the exponent passes its limit.
+// What a gate left: the exponent, or that its step does not fit, by a coefficient or by the exponent (SPECIFICATION 3.4).
 pub enum Applied {
     Done(u16),
     DoesNotFit,
@@ -36,8 +36,8 @@ pub struct UnitaryMatrix {
 // The identity of width n: 1 at the diagonal's places, 0 at all others.
 pub fn identity_data(n: usize) -> [Coefficient; 4096]
     requires { ⌜ n ≤ 5 ⌝ }
-    ensures { λ r. ⌜ Holds n 0 r identity ⌝ }
-    ensures { λ r. ⌜ Blank n r ⌝ }
+    ensures identity { λ r. ⌜ Holds n 0 r identity ⌝ }
+    ensures blank { λ r. ⌜ Blank n r ⌝ }
 {
     let mut data: [Coefficient; 4096] = [0; 4096];
     let d = places::dim(n);
@@ -53,8 +53,8 @@ impl UnitaryMatrix {
     // The identity of width n.
     pub fn identity(n: usize) -> UnitaryMatrix
         requires { ⌜ n ≤ 5 ⌝ }
-        ensures { λ r. ⌜ IsMatrix n 0 r identity ⌝ }
-        ensures { λ r. ⌜ Blank n (r .data) ⌝ }
+        ensures identity { λ r. ⌜ IsMatrix n 0 r identity ⌝ }
+        ensures blank { λ r. ⌜ Blank n (r .data) ⌝ }
     {
         let data = identity_data(n);
         UnitaryMatrix {
@@ -65,13 +65,13 @@ impl UnitaryMatrix {
     }
 }
 
-// While k > 0 and every entry is divisible by sqrt(2), all are divided and k falls by one. Returns k.
+// Lowering (SPECIFICATION 1.9): while k > 0 and every entry is divisible by sqrt(2), all are divided and k falls by one. Returns k.
 pub fn normalize_denominator(m: &mut [Coefficient; 4096], n: usize, k: u16) -> u16
     requires { ⌜ length (now m) ≡ places ⌝ }
     requires { ⌜ n ≤ 5 ⌝ }
     requires { ⌜ AllSmall n (read n (now m)) ⌝ }
-    ensures { λ r. ⌜ Holds n r (now (m .exit)) (lower n (held n k (now (m .entry)))) ⌝ }
-    ensures { λ _. ⌜ Kept n (now (m .entry)) (now (m .exit)) ⌝ }
+    ensures lowered { λ r. ⌜ Holds n r (now (m .exit)) (lower n (held n k (now (m .entry)))) ⌝ }
+    ensures kept { λ _. ⌜ Kept n (now (m .entry)) (now (m .exit)) ⌝ }
 {
     let mut j = k;
     while j > 0 {
@@ -88,7 +88,7 @@ pub fn normalize_denominator(m: &mut [Coefficient; 4096], n: usize, k: u16) -> u
 fn phase_step(m: &mut [Coefficient; 4096], n: usize, mask: usize, power: u8, k: u16) -> Applied
     requires { ⌜ n ≤ 5 ⌝ }
     requires { ⌜ Ready n k (now m) ⌝ }
-    ensures { λ r. ⌜ Turned n k mask power (now (m .entry)) (now (m .exit)) r ⌝ }
+    ensures { λ r. ⌜ TurnsRows n k mask power (now (m .entry)) (now (m .exit)) r ⌝ }
 {
     rows::apply_phase_left(m, n, mask, power);
     Applied::Done(k)
@@ -99,7 +99,7 @@ fn exchange_step(m: &mut [Coefficient; 4096], n: usize, control: usize, t: usize
     requires { ⌜ (n ≤ 5) × (t < n) ⌝ }
     requires { ⌜ bitAnd control (2 ^ t) ≡ 0 ⌝ }
     requires { ⌜ Ready n k (now m) ⌝ }
-    ensures { λ r. ⌜ Exchanged n k control t (now (m .entry)) (now (m .exit)) r ⌝ }
+    ensures { λ r. ⌜ ExchangesRows n k control t (now (m .entry)) (now (m .exit)) r ⌝ }
 {
     rows::apply_controlled_x_left(m, n, control, t);
     Applied::Done(k)
@@ -120,7 +120,7 @@ fn h_step(m: &mut [Coefficient; 4096], n: usize, t: usize, k: u16) -> Applied
     Applied::Done(normalize_denominator(m, n, k + 1))
 }
 
-// The bit of a row's number that stands for qubit q: qubit 0 is the most significant.
+// The bit of a row's number that stands for qubit q: qubit 0 is the highest (SPECIFICATION 1.6).
 fn row_bit(n: usize, q: u32) -> usize
     ensures { λ r. ⌜ r ≡ bitOf n q ⌝ }
 {

@@ -18,38 +18,18 @@ use Rattle.refusal.specs.Told.{Reason, numberOf, positionOf}
 use Rattle.refusal.specs.declared.Refusal.{Refusal}
 use Rattle.refusal.proofs.Numbers.{Refuses}
 use Rattle.tables.specs.Checks.{byteCount, anyBelow, firstRow, queryRows}
+use Rattle.tables.specs.Lists.{firstInvalid, outcome, listed}
 use Rattle.tables.proofs.Rows.{first-none}
-use Rattle.murm.specs.Entries.{firstInvalid, coefficients, outcome, listed, printedBy, fingerprinted}
-use Rattle.murm.proofs.Bytes.{places-are, byte-count}
+use Rattle.tables.proofs.Coefficients.{byte-count}
+use Rattle.tables.proofs.Lists.{list-formed}
+use Rattle.murm.specs.Entries.{printedBy, fingerprinted}
+use Rattle.murm.proofs.Bytes.{places-are}
 
-module _ (n : ℕ) (codes : List ℕ) (bytes : List ℤ) where
-  pub list-6 : 5 < n → outcome (refused 6 0) bytes ≡ listed n codes bytes
-  unfolding listed
-  list-6 h = rw (lt-ltb 5 n h)
-
-  module _ (h : n ≤ 5) where
-    pub list-9 : (length bytes ≡ byteCount n → ⊥) → outcome (refused 9 0) bytes ≡ listed n codes bytes
-    unfolding listed
-    list-9 p = rw (le-ltb 5 n h, ne-eqb (length bytes) (byteCount n) p)
-
-    module _ (p : length bytes ≡ byteCount n) where
-      pub list-7 : firstInvalid n codes < length codes → outcome (refused 7 (firstInvalid n codes)) bytes ≡ listed n codes bytes
-      unfolding listed
-      list-7 q = rw (le-ltb 5 n h, eq-eqb (length bytes) (byteCount n) p, lt-ltb (firstInvalid n codes) (length codes) q)
-
-      module _ (q : length codes ≤ firstInvalid n codes) where
-        pub list-8 : (i : ℕ) → refused 8 i ≡ listAnswer n codes → outcome (refused 8 i) bytes ≡ listed n codes bytes
-        unfolding listed
-        list-8 i e = rw (le-ltb 5 n h, eq-eqb (length bytes) (byteCount n) p, le-ltb (firstInvalid n codes) (length codes) q, sym e)
-
-        list-formed : (k : ℕ) → given k ≡ listAnswer n codes → outcome (given k) (coefficients n (product n codes)) ≡ listed n codes bytes
-        unfolding listed
-        list-formed k e = rw (le-ltb 5 n h, eq-eqb (length bytes) (byteCount n) p, le-ltb (firstInvalid n codes) (length codes) q, sym e)
-
-        -- the places hold the product, and their first bytes are what was lent
-        pub list-held : (k : ℕ) (l after : List ℤ) → after ≡ take (byteCount n) l → given k ≡ listAnswer n codes
-            → Holds n (product n codes .k) l (product n codes) → outcome (given k) after ≡ listed n codes bytes
-        list-held k l after c e w = ap (outcome (given k)) (c ∙ places-are n (product n codes .k) l (product n codes) h w) ∙ list-formed k e
+module _ (n : ℕ) (codes : List ℕ) (bytes : List ℤ) (h : n ≤ 5) (p : length bytes ≡ byteCount n) (q : length codes ≤ firstInvalid n codes) where
+  -- the places hold the product, and the first of them, as many as were lent, are what the caller gets
+  pub list-held : (k : ℕ) (l after : List ℤ) → after ≡ take (byteCount n) l → given k ≡ listAnswer n codes
+      → Holds n (product n codes .k) l (product n codes) → outcome (given k) after ≡ listed n codes bytes
+  list-held k l after c e w = ap (outcome (given k)) (c ∙ places-are n (product n codes .k) l (product n codes) h w) ∙ list-formed n codes bytes h p q k e
 
 -- ---- the rows of a query
 

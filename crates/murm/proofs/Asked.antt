@@ -5,7 +5,7 @@ use mathlib.Core.List.{List}
 use Prim.Native.Nat.{ℕ, _≤_, _<_}
 use borrow.Author.Tests.{eq-eqb, ne-eqb, lt-ltb, le-ltb}
 use lib.ListN.{length}
-use Rattle.width_answer.specs.Answers.{none, refused, outcome}
+use Rattle.walk.specs.Answers.{none, refused, outcome}
 use Rattle.refusal.specs.Told.{Reason, numberOf, positionOf}
 use Rattle.refusal.specs.declared.Refusal.{Refusal}
 use Rattle.refusal.proofs.Numbers.{Refuses}

@@ -1,6 +1,6 @@
 -- The tests of codes and coefficients, one by one. Assumes nothing.
 use mathlib.Core.Path.{_≡_, refl, sym, ap, _∙_}
-use mathlib.Core.Bool.{Bool, true, false, not, _&&_, _||_}
+use mathlib.Core.Bool.{Bool, true, false, not, _||_}
 use mathlib.Core.List.{List, [], _∷_, _++_}
 use Prim.Native.Nat.{ℕ, suc, _+_, _-_, _≤_, _<_}
 use native.Mathlib.Numerals.{add-one}
@@ -13,13 +13,13 @@ use mir.Val.{SFits}
 use borrow.Author.Count.{below-more}
 use borrow.Author.Tests.{eq-eqb, ne-eqb, ltb-true, ltb-false, not-true}
 use lib.Dec.{eqb, ltb}
-use Rattle.ints.specs.Lists.{pick, all}
-use Rattle.ints.proofs.Bools.{and-left, and-right, or-false, or-assoc, neither}
+use Rattle.ints.specs.Lists.{pick}
+use Rattle.ints.proofs.Bools.{or-false, or-assoc, neither}
 use Rattle.ints.proofs.Machine.{range}
 use Rattle.cyclotomic.specs.Zomega.{limit, near, eqZ}
 use Rattle.circuit.specs.Codes.{valid}
 use Rattle.tables.specs.Checks.{anyBelow}
-use Rattle.murm.specs.Entries.{firstInvalid}
+use Rattle.tables.specs.Lists.{firstInvalid}
 use Rattle.murm.specs.Work.{PastLimit, InRange}
 
 -- ---- codes: the first i are valid
@@ -48,23 +48,7 @@ module _ {n : ℕ} {codes : List ℕ} {i : ℕ} (w : ValidTo n codes i) where
   pub valid-end : length codes ≤ i → i ≡ firstInvalid n codes
   valid-end h = sym (w .first ∙ ap (λ (l : List ℕ). i + firstInvalid n l) (drop-of-length-le codes {i = i} h) ∙ omega arith)
 
-one-valid : (t rest : Bool) (m k : ℕ) → (k ≤ m → rest ≡ true) → suc k ≤ pick t (suc m) 0 → (t && rest) ≡ true
-one-valid true rest m k f h = f (omega arith)
-one-valid false rest m k f h = absurd (omega arith)
-
-pub all-valid : (n : ℕ) (l : List ℕ) → length l ≤ firstInvalid n l → all (valid n) l ≡ true
-unfolding all
-all-valid n [] h = refl
-all-valid n (g ∷ l) h = one-valid (valid n g) (all (valid n) l) (firstInvalid n l) (length l) (all-valid n l) h
-
-pub valid-first : (n : ℕ) (l : List ℕ) → all (valid n) l ≡ true → length l ≤ firstInvalid n l
-unfolding all
-valid-first n [] h = omega arith
-valid-first n (g ∷ l) h =
-    let rest = valid-first n l (and-right (valid n g) (all (valid n) l) h) in
-    rw (and-left (valid n g) (all (valid n) l) h) (omega arith)
-
--- ---- coefficients: a byte is -128 or within the limit
+-- ---- coefficients: a signed byte is -128 or within the limit
 
 pub past-is : (z : ℤ) → SFits near z → ltZ z (negℤ (pos limit)) ≡ eqZ z (negsuc limit)
 past-is (pos n) f = refl

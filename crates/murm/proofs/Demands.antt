@@ -1,7 +1,8 @@
 -- The demands hold of what the public entries answer. Assumes nothing.
-use Rattle.tables.proofs.Demand3.{demand}
+use Rattle.tables.proofs.Demand2.{demand-2}
+use Rattle.tables.proofs.Demand3.{demand, beside}
+use Rattle.tables.proofs.Exactly.{exactly}
 use Rattle.murm.specs.Demands.{Demands}
-use Rattle.murm.proofs.Demand2.{demand-2}
 
 pub demands : Demands
-demands = record { second = λ n codes bytes. demand-2 n codes bytes; third = demand }
+demands = record { refusals = exactly; second = λ n codes bytes. demand-2 n codes bytes; third = demand; beside = beside }

@@ -4,6 +4,5 @@ pub mod Answers
 pub mod Parts
 pub mod Builds
 pub mod Asked
-pub mod Demand2
 pub mod Demands
 pub mod Queried

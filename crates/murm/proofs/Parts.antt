@@ -2,34 +2,35 @@
 use mathlib.Core.Path.{_≡_, refl, sym, ap, _∙_}
 use mathlib.Core.Bool.{Bool, true, false, not, _&&_}
 use mathlib.Core.List.{List}
-use Prim.Native.Nat.{ℕ, zero, suc, _+_, _*_, _-_, _≤_, _<_}
+use Prim.Native.Nat.{ℕ, _+_, _*_, _-_, _≤_, _<_}
 use native.Mathlib.Omega.{arith}
 use native.Mathlib.Nat.{mul-le-mul}
 use borrow.Author.Tests.{ltb-false, eqb-true, le-ltb, not-false}
 use lib.Dec.{eqb, ltb}
 use lib.ListN.{length}
+use Rattle.ints.specs.Lists.{range}
 use Rattle.ints.proofs.Bools.{neither, clash}
 use Rattle.walk.specs.Walk.{any}
-use Rattle.width_answer.specs.Answers.{Outcome, outcome, answerOf, toldAnswered}
+use Rattle.width_answer.specs.Answers.{toldAnswered}
+use Rattle.walk.specs.Answers.{Outcome, outcome, answerOf}
 use Rattle.width_answer.specs.declared.Answered.{Answered}
 use Rattle.tables.specs.Checks.{firstRow, limitRows, Arrays, roomRow}
-use Rattle.tables.specs.Tables.{Width, Table, allWidths, widthAt, badCount, recordRow, Query, matrixOf, partOf, partAsked}
+use Rattle.tables.specs.Tables.{Width, Table, allWidths, widthAt, badCount, recordRow, Query, matrixOf, limitsAt, partAsked}
+use Rattle.murm.specs.Entries.{partFrom}
 use Rattle.tables.proofs.Accepted.{Accepted, accepted, roomy}
 use Rattle.tables.proofs.Filled.{room-at}
+use Rattle.tables.proofs.InWords.{any-to}
 
 -- no width's count is bad
 count-good : (t : Table) (w : ℕ) → any (badCount t) allWidths ≡ false → 0 < w → w ≤ 5 → badCount t w ≡ false
-count-good t zero e p q = absurd (omega arith)
-count-good t (suc zero) e p q = neither (badCount t 1) _ e .0
-count-good t (suc (suc zero)) e p q = neither (badCount t 2) _ (neither (badCount t 1) _ e .1) .0
-count-good t (suc (suc (suc zero))) e p q = neither (badCount t 3) _ (neither (badCount t 2) _ (neither (badCount t 1) _ e .1) .1) .0
-count-good t (suc (suc (suc (suc zero)))) e p q =
-    neither (badCount t 4) _ (neither (badCount t 3) _ (neither (badCount t 2) _ (neither (badCount t 1) _ e .1) .1) .1) .0
-count-good t (suc (suc (suc (suc (suc zero))))) e p q =
-    neither (badCount t 5) _ (neither (badCount t 4) _ (neither (badCount t 3) _ (neither (badCount t 2) _ (neither (badCount t 1) _ e .1) .1) .1) .1) .0
-count-good t (suc (suc (suc (suc (suc (suc w)))))) e p q = absurd (omega arith)
+unfolding range
+count-good t w e p q = by (badCount t w) refl
+  where
+    by : (b : Bool) → badCount t w ≡ b → badCount t w ≡ false
+    by true h = clash (any-to (badCount t) 5 1 w (omega arith) (omega arith) h) e
+    by false h = h
 
-pub record Part (t : Table) (a : Arrays) (w : ℕ) : Type 0 where
+pub record PartBounds (t : Table) (a : Arrays) (w : ℕ) : Type 0 where
   pub width : w ≤ 5
   pub gates : t .limits .gates ≤ 64
   pub entries : t .limits .entries ≤ 1000000
@@ -43,7 +44,7 @@ pub record Part (t : Table) (a : Arrays) (w : ℕ) : Type 0 where
 pub record-limits : (t : Table) → recordRow t .holds ≡ false → Accepted (t .limits)
 record-limits t r = accepted (t .limits) (eqb-true (firstRow (limitRows (t .limits))) 0 (not-false _ (neither (not (eqb (firstRow (limitRows (t .limits))) 0)) _ r .0)))
 
-pub part : (t : Table) (a : Arrays) (w : ℕ) → recordRow t .holds ≡ false → roomRow (t .limits) a .holds ≡ false → 0 < w → w ≤ t .limits .qubits → Part t a w
+pub part : (t : Table) (a : Arrays) (w : ℕ) → recordRow t .holds ≡ false → roomRow (t .limits) a .holds ≡ false → 0 < w → w ≤ t .limits .qubits → PartBounds t a w
 part t a w r m p q =
     let l = record-limits t r in
     let s = roomy (t .limits) a m in
@@ -75,12 +76,12 @@ told-as {l = l} e h = ap (λ (x : Answered). outcome (toldAnswered x) l) (sym e)
 
 -- the count is the record's
 pub with-count : (t : Table) (a : Arrays) (q : Query) (out : List ℕ) {v : Width} → v ≡ widthAt t (q .width)
-    → answerOf (partOf (q .width) (t .limits .entries) (a .prints)) (partOf (q .width) (t .limits .entries) (a .parents))
-    (partOf (q .width) (t .limits .entries) (a .codes)) (v .count) (q .width) (t .limits .basis) (t .limits .gates) (matrixOf q) out
+    → answerOf (limitsAt (t .limits) (q .width)) (partFrom ((q .width - 1) * t .limits .entries) (t .limits .entries) (v .count) (a .prints) (a .parents) (a .codes))
+    (matrixOf q) out
     ≡ partAsked t a q out
 with-count t a q out e =
     ap
     (λ (v : Width).
-    answerOf (partOf (q .width) (t .limits .entries) (a .prints)) (partOf (q .width) (t .limits .entries) (a .parents))
-    (partOf (q .width) (t .limits .entries) (a .codes)) (v .count) (q .width) (t .limits .basis) (t .limits .gates) (matrixOf q) out)
+    answerOf (limitsAt (t .limits) (q .width))
+    (partFrom ((q .width - 1) * t .limits .entries) (t .limits .entries) (v .count) (a .prints) (a .parents) (a .codes)) (matrixOf q) out)
     e

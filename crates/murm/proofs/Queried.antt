@@ -13,7 +13,8 @@ use Rattle.ints.proofs.Bools.{clash}
 use Rattle.cyclotomic.specs.Zomega.{Zω, limit, eqZ, WithinBound}
 use Rattle.exact.specs.Matrix.{Exact, allDivisible, Lowest}
 use Rattle.exact.specs.Lists.{product}
-use Rattle.exact.specs.Fits.{AllSmall, Steps, allFit, unfitAt, steps}
+use Rattle.exact.specs.Fits.{Steps, allFit, unfitAt, steps}
+use Rattle.exact.proofs.Words.{AllSmall}
 use Rattle.exact.specs.Answers.{given, refused, bySteps, listAnswer}
 use Rattle.exact.specs.Phase.{flat}
 use Rattle.exact.proofs.Phases.{row-lt, col-lt}
@@ -21,10 +22,10 @@ use Rattle.exact.proofs.Bounds.{product-small}
 use Rattle.exact.proofs.Answered.{isGiven}
 use Rattle.exact.specs.Places.{read, held}
 use Rattle.tables.specs.Checks.{byteCount, anyBelow, firstRow, queryRows}
-use Rattle.murm.specs.Entries.{Outcome, outcome, bytesOf, coefficients, formed, listed}
-use Rattle.murm.proofs.Bytes.{byte-count}
+use Rattle.tables.specs.Lists.{ListOutcome, outcome, bytesOf, coefficients, formed, listed}
+use Rattle.tables.proofs.Coefficients.{byte-count}
 use Rattle.murm.proofs.Answers.{query-allowed}
-use Rattle.murm.proofs.Demand2.{accepted-formed, accepted-lowest}
+use Rattle.tables.proofs.Demand2.{accepted-formed, accepted-lowest}
 
 -- a coefficient within the limit is not -128
 not-below : (x : ℤ) → natAbs x ≤ limit → eqZ x (negsuc limit) ≡ false
@@ -63,8 +64,8 @@ module _ (n : ℕ) (codes : List ℕ) (bytes : List ℤ) (k : ℕ) (after : List
   unfolding listed
   width-small = by (ltb 5 n) refl _ e
     where
-      by : (b : Bool) → ltb 5 n ≡ b → (o : Outcome) → pick b (outcome (refused 6 0) bytes) o ≡ outcome (given k) after → n ≤ 5
-      by true f o g = clash (ap (λ (o : Outcome). isGiven (o .answer)) g) refl
+      by : (b : Bool) → ltb 5 n ≡ b → (o : ListOutcome) → pick b (outcome (refused 6 0) bytes) o ≡ outcome (given k) after → n ≤ 5
+      by true f o g = clash (ap (λ (o : ListOutcome). isGiven (o .answer)) g) refl
       by false f o g = ltb-false 5 n f
 
   bytes-are : (steps n codes ≡ allFit) × (after ≡ coefficients n (product n codes))
@@ -73,8 +74,8 @@ module _ (n : ℕ) (codes : List ℕ) (bytes : List ℤ) (k : ℕ) (after : List
     where
       by : (s : Steps) → steps n codes ≡ s → formed n codes bytes (bySteps (product n codes .k) s) ≡ outcome (given k) after
           → (steps n codes ≡ allFit) × (after ≡ coefficients n (product n codes))
-      by allFit f g = (f, sym (ap (λ (o : Outcome). o .bytes) g))
-      by (unfitAt i) f g = clash (ap (λ (o : Outcome). isGiven (o .answer)) g) refl
+      by allFit f g = (f, sym (ap (λ (o : ListOutcome). o .bytes) g))
+      by (unfitAt i) f g = clash (ap (λ (o : ListOutcome). isGiven (o .answer)) g) refl
 
   pub accepted-allowed : firstRow (queryRows n k after) ≡ 0
   accepted-allowed =

@@ -1,32 +1,22 @@
--- The demands, stated of what the public entries answer, for every input: `library_circuit_matrix` answers `listed`, `build` answers `buildOf`,
--- `synthesize` answers `synthesized`. Demand 1 is what the proofs of the functions say: every entry ends on every input without an undefined
--- step, and the clauses name each refusal and what the lent places then hold. Assumes nothing.
-use mathlib.Core.Path.{_≡_}
-use mathlib.Core.Bool.{true}
+-- The demands (SPECIFICATION 8.1 to 8.5), stated of what the public entries answer: `library_circuit_matrix` answers `listed`, `build`
+-- answers `buildOf`, `synthesize` answers `synthesized`, for every input. Demand 1 is what the proofs of the functions say: every entry ends
+-- on every input without an undefined step, and the clauses name each refusal and what the lent places then hold; where each refusal is told
+-- is `Exactly`. Assumes nothing.
 use mathlib.Core.List.{List}
-use mathlib.Core.Logic.{_↔_}
-use Prim.Native.Nat.{ℕ, _≤_}
+use Prim.Native.Nat.{ℕ}
 use lib.IntN.{ℤ}
-use lib.ListN.{length}
-use Rattle.ints.specs.Lists.{all}
-use Rattle.circuit.specs.Codes.{valid}
-use Rattle.exact.specs.Matrix.{SameValue, Lowest}
-use Rattle.exact.specs.Paper.{paperProduct}
-use Rattle.exact.specs.Fits.{FirstPast}
-use Rattle.exact.specs.Answers.{given, refused}
-use Rattle.exact.specs.Places.{held}
-use Rattle.tables.specs.Checks.{byteCount}
+use Rattle.tables.specs.Demand2 as lists
 use Rattle.tables.specs.Demand3.{Demand3}
-use Rattle.murm.specs.Entries.{outcome, listed}
+use Rattle.tables.specs.Beside.{Beside}
+use Rattle.tables.specs.Exactly.{Exactly}
 
--- Demand 2, its first half: "a list's matrix is its exact product in lowest denominator, refused as too large exactly where a step passes
--- 127". The last is said of a width, bytes and codes that no earlier row refuses, and of the first such step
-pub record Demand2 (n : ℕ) (codes : List ℕ) (bytes : List ℤ) : Type 0 where
-  pub value : (k : ℕ) (after : List ℤ) → listed n codes bytes ≡ outcome (given k) after → SameValue n (paperProduct n codes) (held n k after)
-  pub lowest : (k : ℕ) (after : List ℤ) → listed n codes bytes ≡ outcome (given k) after → Lowest n (held n k after)
-  pub too-large : n ≤ 5 → length bytes ≡ byteCount n → all (valid n) codes ≡ true → (i : ℕ) → (listed n codes bytes .answer ≡ refused 8 i) ↔ FirstPast n codes i
+-- demand 2's first half, of a list: tables/specs/Demand2.antt
+abbrev pub Demand2 : ℕ → List ℕ → List ℤ → Type 0
+Demand2 n codes bytes = lists.Demand2 n codes bytes
 
--- Demand 3, "Whatever the lent table holds, ..": the record `Demand3` of tables/specs/Demand3.antt, with `Built` of tables/specs/Built.antt
+-- demand 3: the record `Demand3` of tables/specs/Demand3.antt, with `Built` of tables/specs/Built.antt
 pub record Demands : Type 0 where
+  pub refusals : Exactly
   pub second : (n : ℕ) (codes : List ℕ) (bytes : List ℤ) → Demand2 n codes bytes
   pub third : Demand3
+  pub beside : Beside

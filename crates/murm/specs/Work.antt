@@ -1,4 +1,4 @@
--- What the tests of coefficients tell. Assumes nothing.
+-- What the tests of coefficients tell, besides the row: that all are within the limit, as the functions below ask. Assumes nothing.
 use mathlib.Core.Path.{_≡_}
 use mathlib.Core.Bool.{Bool, true, false, not}
 use mathlib.Core.List.{List}
@@ -6,12 +6,12 @@ use Prim.Native.Nat.{ℕ, _≤_, _<_}
 use lib.IntN.{ℤ, pos, negsuc, natAbs}
 use lib.ListN.{length, getD}
 use Rattle.cyclotomic.specs.Zomega.{limit, eqZ}
-use Rattle.exact.specs.Fits.{AllSmall}
+use Rattle.exact.proofs.Words.{AllSmall}
 use Rattle.exact.specs.Places.{read}
 use Rattle.refusal.specs.Told.{Reason, byRow}
 use Rattle.tables.specs.Checks.{anyBelow, firstRow, queryRows}
 
--- whether a coefficient is -128; a byte that is not is within the limit
+-- whether a coefficient is -128; one that is not is within the limit
 pub record PastLimit (x : ℤ) (r : Bool) : Type 0 where
   pub told : r ≡ eqZ x (negsuc limit)
   pub small : r ≡ false → natAbs x ≤ limit

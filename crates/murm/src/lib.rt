@@ -1,22 +1,23 @@
-// The public entries: each decides every input. murm.rs of the original: `library_circuit_matrix`, `Murm::build`, `Murm::synthesize`;
-// matrix.rs: `unitary_fingerprint`.
+// The public entries: none asks anything of its caller, and each decides every input (SPECIFICATION 8.1). murm.rs of the original:
+// `library_circuit_matrix`, `Murm::build`, `Murm::synthesize`; matrix.rs: `unitary_fingerprint`.
 ghost use mathlib.Core.Path.{_≡_};
 ghost use mathlib.Core.Bool.{false, _&&_};
 ghost use Prim.Native.Nat.{_+_, _*_, _^_, _≤_, _<_};
 ghost use lib.Dec.{ltb};
 ghost use lib.ListN.{length, take, drop};
 ghost use Rattle.exact.specs.Matrix.{allDivisible};
-ghost use Rattle.exact.specs.Fits.{AllSmall};
+ghost use Rattle.exact.proofs.Words.{AllSmall};
 ghost use Rattle.exact.specs.Places.{read, held};
-ghost use Rattle.width_answer.specs.Answers.{answerOf, toldAnswered};
-ghost use Rattle.width_answer.specs.Answers.{outcome as replied};
+ghost use Rattle.synthesis_arena.specs.Limits.{toldLimits};
+ghost use Rattle.width_answer.specs.Answers.{AskedPlaces, toldAnswered};
+ghost use Rattle.walk.specs.Answers.{answerOf, outcome as replied};
 ghost use Rattle.tables.specs.Checks.{firstRow, queryRows, arrays, roomRow};
 ghost use Rattle.tables.specs.Tables.{left, buildOf, query, recordRow, partAsked, synthesized};
 ghost use Rattle.refusal.specs.Told.{toldCheck};
 ghost use Rattle.murm_config.specs.Told.{toldConfig, toldMurm};
-ghost use Rattle.murm.specs.Entries.{firstInvalid, outcome, listed, toldListed, fingerprinted, toldFingerprinted, toldBuilding, askedOf, toldSynthesized};
+ghost use Rattle.tables.specs.Lists.{firstInvalid, outcome, listed};
+ghost use Rattle.murm.specs.Entries.{partFrom, toldListed, fingerprinted, toldFingerprinted, toldBuilding, askedOf, toldSynthesized};
 ghost use Rattle.murm.specs.Work.{PastLimit, InRange, Checked};
-use circuit::GateSet;
 use circuit::LibraryGate;
 use cyclotomic::Coefficient;
 use cyclotomic::LIMIT;
@@ -26,9 +27,10 @@ use murm_config::Murm;
 use murm_config::MurmConfig;
 use refusal::Check;
 use refusal::Refusal;
+use synthesis_arena::WidthLimits;
 use width_answer::Answered;
 
-// What a list became: its exponent, or why it was refused.
+// What a list became: a matrix of this exponent, or why it was refused.
 pub enum Listed {
     Matrix(u16),
     Refused(Refusal),
@@ -40,7 +42,7 @@ pub enum Fingerprinted {
     Refused(Refusal),
 }
 
-// The position of the first code that is not valid; the number of codes if all are.
+// The position of the first code that is not valid at the width; the number of codes if all are.
 fn first_invalid(codes: &[u32], width: u32) -> usize
     ensures { λ r. ⌜ r ≡ firstInvalid width (now (codes .entry)) ⌝ }
 {
@@ -66,7 +68,8 @@ fn copy_places(to: &mut [Coefficient], from: &[Coefficient])
     }
 }
 
-// "a list becomes a matrix": the lent bytes get the product's coefficients. A refusal leaves them as they were.
+// A list becomes a matrix (SPECIFICATION, chapter 4): rows 6, 9, 7, 8. The lent places get the coefficients of the list's product; a refusal
+// leaves them as they were.
 pub fn library_circuit_matrix(width: u32, codes: &[u32], out: &mut [Coefficient]) -> Listed
     ensures { λ r. ⌜ outcome (toldListed r) (now (out .exit)) ≡ listed width (now (codes .entry)) (now (out .entry)) ⌝ }
 {
@@ -99,7 +102,7 @@ fn past_limit(x: Coefficient) -> bool
     (x as Wide) < -LIMIT
 }
 
-// Whether no coefficient is -128. There is no early return: this loop is many times faster without one.
+// Row 10: whether no coefficient is -128. There is no early return: this loop is many times faster without one.
 fn in_range(entries: &[Coefficient]) -> bool
     ensures { λ r. ⌜ InRange (now (entries .entry)) r ⌝ }
 {
@@ -112,7 +115,7 @@ fn in_range(entries: &[Coefficient]) -> bool
     !found
 }
 
-// Whether k > 0 and all entries are divisible.
+// Row 11: whether k is above 0 and all entries are divisible, so that the matrix is not in lowest denominator.
 fn is_divisible(entries: &[Coefficient], n: usize, k: u16) -> bool
     requires { ⌜ n ≤ 5 ⌝ }
     requires { ⌜ 4 * (2 ^ n * 2 ^ n) ≤ length (now entries) ⌝ }
@@ -124,7 +127,7 @@ fn is_divisible(entries: &[Coefficient], n: usize, k: u16) -> bool
     rows::all_divisible(entries, n)
 }
 
-// Whether a matrix may be asked; else which of the rows 6, 9, 10, 11 is the first to refuse it.
+// Whether a matrix may be asked; else which of the rows 6, 9, 10, 11 is the first to refuse it (SPECIFICATION 9.1).
 fn check_query(width: u32, exponent: u16, entries: &[Coefficient]) -> Check
     ensures { λ r. ⌜ Checked width exponent (now (entries .entry)) (toldCheck r) ⌝ }
 {
@@ -145,7 +148,7 @@ fn check_query(width: u32, exponent: u16, entries: &[Coefficient]) -> Check
     Check::Passed
 }
 
-// The fingerprint of a matrix given by its bytes, with the checks of a query.
+// The fingerprint of a matrix that is given by its coefficients, with the checks of a query (SPECIFICATION 5.5).
 pub fn library_fingerprint(width: u32, exponent: u16, entries: &[Coefficient]) -> Fingerprinted
     ensures { λ r. ⌜ toldFingerprinted r ≡ fingerprinted width exponent (now (entries .entry)) ⌝ }
 {
@@ -165,15 +168,16 @@ pub enum Building {
     Refused(Refusal),
 }
 
-// "a table is built": rows 1, 2, 3, 4, 5. A refusal leaves the three arrays as they were; else widths 1 to Q are filled, and all other places
-// keep what they held.
+// A table is built (SPECIFICATION, chapter 6): rows 1, 2, 3, 4, 5. A refusal leaves the three arrays as they were; else widths 1 to Q are
+// filled, and all other places keep what they held.
 pub fn build(
     config: MurmConfig,
     fingerprints: &mut [u64],
     parents: &mut [u32],
     codes: &mut [u32],
 ) -> Building
-    ensures { λ r. ⌜ left (toldBuilding r) (arrays (now (fingerprints .exit)) (now (parents .exit)) (now (codes .exit))) ≡ buildOf (toldConfig config) (arrays (now (fingerprints .entry)) (now (parents .entry)) (now (codes .entry))) ⌝ }
+    ensures { λ r. ⌜ left (toldBuilding r) (arrays (now (fingerprints .exit)) (now (parents .exit)) (now (codes .exit)))
+        ≡ buildOf (toldConfig config) (arrays (now (fingerprints .entry)) (now (parents .entry)) (now (codes .entry))) ⌝ }
 {
     match murm_config::limits(config) {
         Check::Passed => {
@@ -195,35 +199,34 @@ pub enum Synthesized {
 
 // The places from `start` on, as many as a width has, are asked.
 fn ask_from(
+    limits: WidthLimits,
+    start: usize,
+    count: usize,
+    exponent: u16,
     fingerprints: &[u64],
     parents: &[u32],
     codes: &[u32],
-    start: usize,
-    entries: usize,
-    count: usize,
-    width: u32,
-    basis: GateSet,
-    limit: usize,
-    exponent: u16,
     matrix: &[Coefficient],
     out: &mut [u32],
 ) -> Answered
-    requires { ⌜ (width ≤ 5) × (limit ≤ 64) × (limit ≤ length (now out)) ⌝ }
-    requires { ⌜ (start ≤ 5000000) × (entries ≤ 1000000) × (count ≤ entries) ⌝ }
-    requires { ⌜ (start + entries ≤ length (now fingerprints)) × (start + entries ≤ length (now parents)) × (start + entries ≤ length (now codes)) ⌝ }
-    requires { ⌜ (4 * (2 ^ width * 2 ^ width) ≤ length (now matrix)) × AllSmall width (read width (now matrix)) ⌝ }
-    ensures { λ r. ⌜ replied (toldAnswered r) (now (out .exit)) ≡ answerOf (take entries (drop start (now (fingerprints .entry)))) (take entries (drop start (now (parents .entry)))) (take entries (drop start (now (codes .entry)))) count width (basis .0) limit (held width exponent (now (matrix .entry))) (now (out .entry)) ⌝ }
+    requires { ⌜ (limits .width ≤ 5) × (limits .gates ≤ 64) × (limits .gates ≤ length (now out)) ⌝ }
+    requires { ⌜ (start ≤ 5000000) × (limits .entries ≤ 1000000) × (count ≤ limits .entries) ⌝ }
+    requires { ⌜ (start + limits .entries ≤ length (now fingerprints)) × (start + limits .entries ≤ length (now parents))
+        × (start + limits .entries ≤ length (now codes)) ⌝ }
+    requires { ⌜ AskedPlaces (limits .width) (now matrix) ⌝ }
+    ensures { λ r. ⌜ replied (toldAnswered r) (now (out .exit))
+        ≡ answerOf (toldLimits limits)
+        (partFrom start (limits .entries) count (now (fingerprints .entry)) (now (parents .entry)) (now (codes .entry)))
+        (held (limits .width) exponent (now (matrix .entry))) (now (out .entry)) ⌝ }
 {
-    let end = start + entries;
+    let end = start + limits.entries;
     width_answer::answer_width(
+        limits,
+        count,
+        exponent,
         &fingerprints[start..end],
         &parents[start..end],
         &codes[start..end],
-        count,
-        width,
-        basis,
-        limit,
-        exponent,
         matrix,
         out,
     )
@@ -244,22 +247,27 @@ fn ask_part(
     requires { ⌜ roomRow (toldConfig (table .config)) (arrays (now fingerprints) (now parents) (now codes)) .holds ≡ false ⌝ }
     requires { ⌜ (firstRow (queryRows width exponent (now matrix)) ≡ 0) × AllSmall width (read width (now matrix)) ⌝ }
     requires { ⌜ table .config .«max_gates» ≤ length (now out) ⌝ }
-    ensures { λ r. ⌜ replied (toldSynthesized r) (now (out .exit)) ≡ partAsked (toldMurm table) (arrays (now (fingerprints .entry)) (now (parents .entry)) (now (codes .entry))) (query width exponent (now (matrix .entry))) (now (out .entry)) ⌝ }
+    ensures { λ r. ⌜ replied (toldSynthesized r) (now (out .exit))
+        ≡ partAsked (toldMurm table) (arrays (now (fingerprints .entry)) (now (parents .entry)) (now (codes .entry))) (query width exponent (now (matrix .entry))) (now (out .entry)) ⌝ }
 {
     let e = table.config.max_entries_per_qubit as usize;
     let start = (width as usize - 1) * e;
     let row = murm_config::width_table(table, width);
+    let basis = table.config.basis;
+    let limits = WidthLimits {
+        width,
+        basis: basis.0,
+        gates: table.config.max_gates as usize,
+        entries: e,
+    };
     match ask_from(
+        limits,
+        start,
+        row.count,
+        exponent,
         fingerprints,
         parents,
         codes,
-        start,
-        e,
-        row.count,
-        width,
-        table.config.basis,
-        table.config.max_gates as usize,
-        exponent,
         matrix,
         out,
     ) {
@@ -269,7 +277,7 @@ fn ask_part(
     }
 }
 
-// "Width 0 or above Q, once the checks up to 12 are passed: none."; else the width's part is asked.
+// Row 12, after which a width that the table does not have gets none, and the part of any other is asked (SPECIFICATION 7.3).
 fn ask(
     table: Murm,
     fingerprints: &[u64],
@@ -283,7 +291,8 @@ fn ask(
     requires { ⌜ recordRow (toldMurm table) .holds ≡ false ⌝ }
     requires { ⌜ roomRow (toldConfig (table .config)) (arrays (now fingerprints) (now parents) (now codes)) .holds ≡ false ⌝ }
     requires { ⌜ (firstRow (queryRows width exponent (now matrix)) ≡ 0) × AllSmall width (read width (now matrix)) ⌝ }
-    ensures { λ r. ⌜ replied (toldSynthesized r) (now (out .exit)) ≡ askedOf (toldMurm table) (arrays (now (fingerprints .entry)) (now (parents .entry)) (now (codes .entry))) (query width exponent (now (matrix .entry))) (now (out .entry)) ⌝ }
+    ensures { λ r. ⌜ replied (toldSynthesized r) (now (out .exit))
+        ≡ askedOf (toldMurm table) (arrays (now (fingerprints .entry)) (now (parents .entry)) (now (codes .entry))) (query width exponent (now (matrix .entry))) (now (out .entry)) ⌝ }
 {
     if out.len() < table.config.max_gates as usize {
         return Synthesized::Refused(Refusal::ListTooShort);
@@ -306,8 +315,8 @@ fn ask(
     )
 }
 
-// "a matrix is answered": 13 of the record, then 5, 6, 9, 10, 11, 12, then 13 on the found chain. The lent list keeps its content unless a
-// list is answered, which fills its first places.
+// A matrix is answered (SPECIFICATION, chapter 7): 13 of the record, then 5, 6, 9, 10, 11, 12, then 13 of the chain found. The lent list
+// keeps what it held unless a list is answered, which fills its first places.
 pub fn synthesize(
     table: Murm,
     fingerprints: &[u64],
@@ -318,7 +327,8 @@ pub fn synthesize(
     matrix: &[Coefficient],
     out: &mut [u32],
 ) -> Synthesized
-    ensures { λ r. ⌜ replied (toldSynthesized r) (now (out .exit)) ≡ synthesized (toldMurm table) (arrays (now (fingerprints .entry)) (now (parents .entry)) (now (codes .entry))) (query width exponent (now (matrix .entry))) (now (out .entry)) ⌝ }
+    ensures { λ r. ⌜ replied (toldSynthesized r) (now (out .exit))
+        ≡ synthesized (toldMurm table) (arrays (now (fingerprints .entry)) (now (parents .entry)) (now (codes .entry))) (query width exponent (now (matrix .entry))) (now (out .entry)) ⌝ }
 {
     if murm_config::bad_record(table) {
         return Synthesized::Refused(Refusal::BadTable);

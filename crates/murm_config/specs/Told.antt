@@ -1,4 +1,5 @@
--- The numbers and values of the structs and of each case of an enum, and what the functions on a record give. Assumes nothing.
+-- The structs of the code as the records of the definitions, so that contracts speak of these alone (SPECIFICATION 12.8); and what the functions
+-- that form a record give. Assumes nothing.
 use mathlib.Core.List.{[], _∷_}
 use Prim.Native.Nat.{ℕ, _-_}
 use lib.ListN.{set, replicate}
@@ -8,22 +9,25 @@ use Rattle.width_table.specs.declared.WidthTable.{WidthTable}
 use Rattle.murm_config.specs.declared.MurmConfig.{MurmConfig}
 use Rattle.murm_config.specs.declared.Murm.{Murm}
 
+-- the limits (SPECIFICATION 6.1)
 abbrev pub toldConfig : MurmConfig → Limits
 toldConfig m = record { qubits = m .«max_qubits»; gates = m .«max_gates»; entries = m .«max_entries_per_qubit»; basis = m .basis .0 }
 
+-- a width's row (SPECIFICATION 6.10)
 abbrev pub toldWidth : WidthTable → Width
 toldWidth w = record { count = w .count; depth = w .depth; saturated = w .saturated }
 
+-- the record, its rows in a list: widths 1 to 5
 abbrev pub toldMurm : Murm → Table
 toldMurm m = record {
   limits = toldConfig (m .config);
   widths = toldWidth (m .width1) ∷ toldWidth (m .width2) ∷ toldWidth (m .width3) ∷ toldWidth (m .width4) ∷ toldWidth (m .width5) ∷ [];
 }
 
--- no width is built
+-- the record before any width is built
 abbrev pub emptyOf : Limits → Table
 emptyOf l = record { limits = l; widths = replicate 5 notBuilt }
 
--- another row for a width
+-- the record with another row for a width
 abbrev pub withWidth : Table → ℕ → Width → Table
 withWidth t w x = record { limits = t .limits; widths = set (t .widths) (w - 1) x }

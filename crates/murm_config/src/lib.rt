@@ -11,7 +11,7 @@ use refusal::Check;
 use refusal::Refusal;
 use width_table::WidthTable;
 
-// Q, G, E and B.
+// The width limit Q, the gate limit G, the entry limit E and the basis B (SPECIFICATION 6.1).
 pub struct MurmConfig {
     pub max_qubits: u32,
     pub max_gates: u32,
@@ -19,7 +19,8 @@ pub struct MurmConfig {
     pub basis: GateSet,
 }
 
-// What a build returns: the limits, and for each width its entry count, completed depth, saturated yes or no.
+// What a build returns, the record: its limits, and for each width how many nodes, the completed depth, whether it is saturated
+// (SPECIFICATION 6.10).
 pub struct Murm {
     pub config: MurmConfig,
     pub width1: WidthTable,
@@ -29,7 +30,7 @@ pub struct Murm {
     pub width5: WidthTable,
 }
 
-// Whether the limits may be built with; else which of the rows 1 to 4 is the first to refuse them.
+// Whether the limits may be built with; else which of the rows 1 to 4 is the first to refuse them (SPECIFICATION 9.1).
 pub fn limits(config: MurmConfig) -> Check
     ensures { λ r. ⌜ toldCheck r ≡ byRow (firstRow (limitRows (toldConfig config))) ⌝ }
 {
@@ -58,7 +59,7 @@ pub fn limits(config: MurmConfig) -> Check
     Check::Passed
 }
 
-// Whether one of three arrays of these lengths is shorter than Q × E.
+// Row 5: whether one of three arrays of these lengths has fewer than Q × E places (SPECIFICATION 9.1).
 pub fn too_short(config: MurmConfig, prints: usize, parents: usize, codes: usize) -> bool
     requires { ⌜ (config .«max_qubits» ≤ 5) × (config .«max_entries_per_qubit» ≤ 1000000) ⌝ }
     ensures { λ r. ⌜ r ≡ tooShort (toldConfig config) prints parents codes ⌝ }
@@ -91,7 +92,7 @@ pub fn width_table(table: Murm, width: u32) -> WidthTable
     }
 }
 
-// Whether a width up to Q has a count that is 0 or above E.
+// Whether a width up to Q has a count that is 0 or above E (SPECIFICATION 9.3).
 fn bad_count(width: u32, qubits: u32, entries: u32, count: usize) -> bool
     ensures { λ r. ⌜ r ≡ badCountOf qubits entries width count ⌝ }
 {
@@ -125,7 +126,7 @@ fn bad_counts(table: Murm) -> bool
     bad_count(5, q, e, table.width5.count)
 }
 
-// "13 for a record whose limits break 1 to 4 or whose count at any width up to Q is 0 or above E".
+// Row 13 of the record: whether one of the rows 1 to 4 refuses its limits, or a count is bad (SPECIFICATION 9.3).
 pub fn bad_record(table: Murm) -> bool
     ensures { λ r. ⌜ r ≡ recordRow (toldMurm table) .holds ⌝ }
 {

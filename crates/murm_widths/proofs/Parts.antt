@@ -8,7 +8,8 @@ use borrow.Rule.Slice.PartMut.{midOf, putMid}
 use Rattle.ints.specs.Lists.{over}
 use Rattle.walk.specs.Walk.{Node, Build, gate}
 use Rattle.width_table.specs.declared.WidthTable.{WidthTable}
-use Rattle.width_table.specs.Table.{Column, printOf, parentOf}
+use Rattle.next_node.specs.Arrays.{Column}
+use Rattle.walk.specs.AtWidth.{printOf, parentOf}
 use Rattle.tables.specs.Checks.{Limits}
 use Rattle.tables.specs.Tables.{walkOf, widthOf, printsOf, parentsOf, codesOf, within}
 use Rattle.murm_config.specs.Told.{toldWidth}
@@ -30,7 +31,7 @@ row-is r b p q s = rw (p, q, s)
 -- ---- the three arrays, the parts of a width lent to its build
 
 module _ (l : Limits) (w a n count : ℕ) (same : count ≡ length (walkOf l w .nodes)) (xs ys : List ℕ) where
-  pub prints-back : Column (printOf w (l .basis)) (midOf a (a + n - a) xs) (walkOf l w .nodes) ys count
+  pub prints-back : Column (printOf w) (midOf a (a + n - a) xs) (walkOf l w .nodes) ys count
       → putMid a (a + n - a) xs ys ≡ within a n (over (printsOf l w)) xs
   unfolding printsOf
   prints-back c = part-back a n (over (printsOf l w)) xs ys (column-over _ _ _ _ _ same c)

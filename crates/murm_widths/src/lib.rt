@@ -1,18 +1,18 @@
-// All widths of a table, murm.rs of the original, `Murm::build`, below the entry: its checks are passed. "Width w owns the E places from
-// (w-1) × E on": that part of each array is lent to the build of one width.
+// All widths of a table, murm.rs of the original, `Murm::build`, below the entry: its checks are passed. Width w has the E places from (w-1) × E on
+// (SPECIFICATION 6.2): that part of each array is lent to the build of one width.
 ghost use mathlib.Core.Path.{_≡_};
 ghost use Prim.Native.Nat.{_+_, _*_, _≤_, _<_};
 ghost use lib.ListN.{length};
-ghost use Rattle.ints.specs.Lists.{over};
-ghost use Rattle.tables.specs.Tables.{widthOf, walkOf, recordOf, printsOf, parentsOf, codesOf, within, filledTo};
-ghost use Rattle.tables.specs.Checks.{limitsOf, placesOf};
-ghost use Rattle.murm_config.specs.Told.{toldConfig, toldWidth, toldMurm};
+ghost use Rattle.tables.specs.Tables.{recordOf, printsOf, parentsOf, codesOf, filledTo};
+ghost use Rattle.tables.specs.Checks.{placesOf};
+ghost use Rattle.murm_config.specs.Told.{toldConfig, toldMurm};
+ghost use Rattle.murm_widths.specs.Parts.{PartBuilt};
 use murm_config::Murm;
 use murm_config::MurmConfig;
-use width_table::WidthLimits;
+use synthesis_arena::WidthLimits;
 use width_table::WidthTable;
 
-// The part of width v + 1. The width limit, 0 in the clauses, plays no part in a width's walk.
+// The part of width v + 1.
 fn build_part(
     v: u32,
     gates: u32,
@@ -22,12 +22,12 @@ fn build_part(
     parents: &mut [u32],
     codes: &mut [u32],
 ) -> WidthTable
-    requires { ⌜ (v < 5) × (gates ≤ 64) × (0 < entries) × (entries ≤ 1000000) ⌝ }
-    requires { ⌜ (v * entries + entries ≤ length (now fingerprints)) × (v * entries + entries ≤ length (now parents)) × (v * entries + entries ≤ length (now codes)) ⌝ }
-    ensures { λ r. ⌜ toldWidth r ≡ widthOf (walkOf (limitsOf 0 gates entries basis) (v + 1)) ⌝ }
-    ensures { λ _. ⌜ now (fingerprints .exit) ≡ within (v * entries) entries (over (printsOf (limitsOf 0 gates entries basis) (v + 1))) (now (fingerprints .entry)) ⌝ }
-    ensures { λ _. ⌜ now (parents .exit) ≡ within (v * entries) entries (over (parentsOf (limitsOf 0 gates entries basis) (v + 1))) (now (parents .entry)) ⌝ }
-    ensures { λ _. ⌜ now (codes .exit) ≡ within (v * entries) entries (over (codesOf (limitsOf 0 gates entries basis) (v + 1))) (now (codes .entry)) ⌝ }
+    requires bounds { ⌜ (v < 5) × (gates ≤ 64) × (0 < entries) × (entries ≤ 1000000) ⌝ }
+    requires room { ⌜ (v * entries + entries ≤ length (now fingerprints)) × (v * entries + entries ≤ length (now parents))
+        × (v * entries + entries ≤ length (now codes)) ⌝ }
+    ensures built { λ r. ⌜ PartBuilt v gates entries basis
+        (now (fingerprints .entry)) (now (parents .entry)) (now (codes .entry))
+        (now (fingerprints .exit)) (now (parents .exit)) (now (codes .exit)) r ⌝ }
 {
     let e = entries as usize;
     let a = v as usize * e;
@@ -46,19 +46,24 @@ fn build_part(
     )
 }
 
-// "For each width from 1 to Q".
+// The widths 1 to Q, one after the other.
 pub fn build_widths(
     config: MurmConfig,
     fingerprints: &mut [u64],
     parents: &mut [u32],
     codes: &mut [u32],
 ) -> Murm
-    requires { ⌜ (config .«max_qubits» ≤ 5) × (config .«max_gates» ≤ 64) × (0 < config .«max_entries_per_qubit») × (config .«max_entries_per_qubit» ≤ 1000000) ⌝ }
-    requires { ⌜ (placesOf (toldConfig config) ≤ length (now fingerprints)) × (placesOf (toldConfig config) ≤ length (now parents)) × (placesOf (toldConfig config) ≤ length (now codes)) ⌝ }
-    ensures { λ r. ⌜ toldMurm r ≡ recordOf (toldConfig config) ⌝ }
-    ensures { λ _. ⌜ now (fingerprints .exit) ≡ filledTo (printsOf (toldConfig config)) (config .«max_entries_per_qubit») (config .«max_qubits») (now (fingerprints .entry)) ⌝ }
-    ensures { λ _. ⌜ now (parents .exit) ≡ filledTo (parentsOf (toldConfig config)) (config .«max_entries_per_qubit») (config .«max_qubits») (now (parents .entry)) ⌝ }
-    ensures { λ _. ⌜ now (codes .exit) ≡ filledTo (codesOf (toldConfig config)) (config .«max_entries_per_qubit») (config .«max_qubits») (now (codes .entry)) ⌝ }
+    requires bounds { ⌜ (config .«max_qubits» ≤ 5) × (config .«max_gates» ≤ 64)
+        × (0 < config .«max_entries_per_qubit») × (config .«max_entries_per_qubit» ≤ 1000000) ⌝ }
+    requires room { ⌜ (placesOf (toldConfig config) ≤ length (now fingerprints)) × (placesOf (toldConfig config) ≤ length (now parents))
+        × (placesOf (toldConfig config) ≤ length (now codes)) ⌝ }
+    ensures rows { λ r. ⌜ toldMurm r ≡ recordOf (toldConfig config) ⌝ }
+    ensures fingerprints { λ _. ⌜ now (fingerprints .exit) ≡ filledTo (printsOf (toldConfig config)) (config .«max_entries_per_qubit»)
+        (config .«max_qubits») (now (fingerprints .entry)) ⌝ }
+    ensures parents { λ _. ⌜ now (parents .exit) ≡ filledTo (parentsOf (toldConfig config)) (config .«max_entries_per_qubit»)
+        (config .«max_qubits») (now (parents .entry)) ⌝ }
+    ensures codes { λ _. ⌜ now (codes .exit) ≡ filledTo (codesOf (toldConfig config)) (config .«max_entries_per_qubit»)
+        (config .«max_qubits») (now (codes .entry)) ⌝ }
 {
     let q = config.max_qubits;
     let g = config.max_gates;

@@ -1,4 +1,4 @@
--- The table's one lemma: every row computes to what document 01 states. Assumes nothing.
+-- The table's one lemma: every row computes to what the specification states (SPECIFICATION 11.1). Assumes nothing.
 use mathlib.Core.Path.{_≡_, refl}
 use mathlib.Core.List.{map}
 use Rattle.ints.specs.Bits.{bit}
@@ -12,7 +12,7 @@ use Rattle.exact.specs.Matrix.{allDivisible, lower}
 use Rattle.exact.specs.Rows.{flip, column, gateOf}
 use Rattle.exact.specs.Lists.{product}
 use Rattle.exact.specs.Phase.{pivot, phaseOf}
-use Rattle.murm.specs.Entries.{listed}
+use Rattle.tables.specs.Lists.{listed}
 use Rattle.pencil.specs.Cases.{Case, cases}
 
 pub as-stated : map (λ (c : Case). c .computed) cases ≡ map (λ (c : Case). c .stated) cases

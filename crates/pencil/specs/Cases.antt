@@ -1,5 +1,5 @@
--- Document 01's cases "checked by pencil (P: proved)", as one table: in each row what the definitions give, and what the document states.
--- Assumes nothing.
+-- The cases that the checker computes, as one table: in each row what the definitions give, and what the specification states
+-- (SPECIFICATION 11.1). Assumes nothing.
 use mathlib.Core.Bool.{Bool, true, false}
 use mathlib.Core.List.{List, [], _∷_}
 use Prim.Native.Nat.{ℕ, zero, suc, _*_, _^_}
@@ -16,7 +16,7 @@ use Rattle.exact.specs.Phase.{flat, phaseOf}
 use Rattle.exact.specs.Answers.{Answer}
 use Rattle.exact.specs.Answers as e
 use Rattle.tables.specs.Checks.{byteCount}
-use Rattle.murm.specs.Entries.{listed}
+use Rattle.tables.specs.Lists.{listed}
 
 -- what a row speaks of: an element, a test, a number, a sum with its refusal's number, an entry's answer with its refusal's number and
 -- position, or a matrix: its exponent and its entries
@@ -41,7 +41,7 @@ _is_ x y = record { computed = x; stated = y }
 abbrev int : ℤ → Zω
 int z = mk z (pos 0) (pos 0) (pos 0)
 
--- m entries in row-major order
+-- m entries, row after row
 abbrev listing : ℕ → (ℕ → Zω) → List Zω
 listing zero f = []
 listing (suc m) f = f 0 ∷ listing m (λ i. f (suc i))
@@ -55,32 +55,32 @@ row a b c d l = int a ∷ int b ∷ int c ∷ int d ∷ l
 
 abbrev pub cases : List Case
 cases =
-    -- omega × (1,2,3,4) = (-4,1,2,3); omega^4 × (1,-127,0,5) = (-1,127,0,-5)
+    -- turns by 1 and by 4; the second takes -127 to 127, which is within the limit (SPECIFICATION 1.2)
     (element (turn 1 (mk (pos 1) (pos 2) (pos 3) (pos 4))) is element (mk (negsuc 3) (pos 1) (pos 2) (pos 3)))
     ∷ (element (turn 4 (mk (pos 1) (negsuc 126) (pos 0) (pos 5))) is element (mk (negsuc 0) (pos 127) (pos 0) (negsuc 4)))
-    -- (1,1,1,1) divides to (0,1,1,0); (2,0,0,0) to (0,1,0,-1); (1,0,0,0) doesn't divide
+    -- division by √2: two entries that are divisible, with their quotients, and one that is not (SPECIFICATION 1.4)
     ∷ (test (divisible (mk (pos 1) (pos 1) (pos 1) (pos 1))) is test true)
     ∷ (element (overSqrt2 (mk (pos 1) (pos 1) (pos 1) (pos 1))) is element (mk (pos 0) (pos 1) (pos 1) (pos 0)))
     ∷ (test (divisible (int (pos 2))) is test true)
     ∷ (element (overSqrt2 (int (pos 2))) is element (mk (pos 0) (pos 1) (pos 0) (negsuc 0)))
     ∷ (test (divisible (int (pos 1))) is test false)
-    -- 127 + 0 fits, 127 + 1 and -127 - 1 don't
+    -- a sum at the limit, and a sum and a difference past it (SPECIFICATION 1.3)
     ∷ (sum (checked (addω (int (pos 127)) (int (pos 0)))) is sum (entry (int (pos 127))))
     ∷ (sum (checked (addω (int (pos 127)) (int (pos 1)))) is sum (refused 8))
     ∷ (sum (checked (subω (int (negsuc 126)) (int (pos 1)))) is sum (refused 8))
-    -- width 1, list 0 (H): k 1, entries 1, 1, 1, -1. List 0 0: identity, k 0
+    -- code 0 is H on qubit 0: its matrix at width 1, and H twice, which is the identity in lowest denominator (SPECIFICATION 3.2, 3.3)
     ∷ (shown 1 (product 1 (0 ∷ [])) is matrix 1 (row (pos 1) (pos 1) (pos 1) (negsuc 0) []))
     ∷ (shown 1 (product 1 (0 ∷ 0 ∷ [])) is matrix 0 (row (pos 1) (pos 0) (pos 0) (pos 1) []))
-    -- 32784 at width 2 exchanges rows 2 and 3
+    -- 32784 is Cx with control 0 and target 1: at width 2 it exchanges the rows whose high bit is 1 (SPECIFICATION 1.6, 3.2)
     ∷ (shown 2 (product 2 (32784 ∷ []))
     is matrix 0 (row (pos 1) (pos 0) (pos 0) (pos 0) (row (pos 0) (pos 1) (pos 0) (pos 0) (row (pos 0) (pos 0) (pos 0) (pos 1) (row (pos 0) (pos 0) (pos 1) (pos 0) [])))))
-    -- 36880 is valid at width 2, 37120 is refused by 7
+    -- Cz on qubits 0 and 1 in rising order is valid, in the other order it is not (SPECIFICATION 2.1, 2.4)
     ∷ (test (valid 2 36880) is test true)
     ∷ (answer (listed 2 (37120 ∷ []) (replicate (byteCount 2) (pos 0)) .answer) is answer (e.refused 7 0))
-    -- pivot (1,0,0,0) has phase 4
+    -- the phase of the entry 1, and of the identity, whose pivot it is: -1 is the least of its turns (SPECIFICATION 1.11)
     ∷ (number (phase (int (pos 1))) is number 4)
     ∷ (number (phaseOf 1 (product 1 [])) is number 4)
-    -- basis 3967 has 7, 17, 34, 62, 105 generators at widths 1 to 5
+    -- how many generators the largest basis, 3967, has at each width from 1 to 5 (SPECIFICATION 2.8)
     ∷ (number (length (generators 1 supported)) is number 7)
     ∷ (number (length (generators 2 supported)) is number 17)
     ∷ (number (length (generators 3 supported)) is number 34)

@@ -1,1 +1,1 @@
-// Document 01's cases "checked by pencil (P: proved)": one table and one lemma, no functions.
+// The cases that the checker computes (SPECIFICATION 11.1): one table and one lemma, no functions.

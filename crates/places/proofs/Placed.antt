@@ -16,7 +16,7 @@ use Rattle.ints.proofs.Bools.{clash, iff}
 use Rattle.cyclotomic.specs.Zomega.{Zω, divisible, Small}
 use Rattle.cyclotomic.proofs.Number.{each}
 use Rattle.exact.specs.Matrix.{allDivisible}
-use Rattle.exact.specs.Fits.{AllSmall}
+use Rattle.exact.proofs.Words.{AllSmall}
 use Rattle.exact.proofs.Values.{divisible-to, divisible-from}
 use Rattle.exact.proofs.Phases.{row-lt, col-lt, flat-lt}
 use Rattle.exact.specs.Places.{entry, read}

@@ -1,4 +1,4 @@
-// How 4,096 signed places hold a matrix of width up to 5: four for each entry, row-major. Reading and storing an entry.
+// How 4,096 signed places hold a matrix of width up to 5: four for each entry, row after row (SPECIFICATION 1.7). Reading and storing an entry.
 ghost use mathlib.Core.Path.{_≡_};
 ghost use Prim.Native.Nat.{_+_, _*_, _^_, _<_, _≤_};
 ghost use lib.ListN.{length};

@@ -1,11 +1,11 @@
 // The phase of a matrix, equality up to phase, and the fingerprint. matrix.rs of the original: `canonical_phase_power`,
-// `equivalent_up_to_global_phase`, `unitary_fingerprint`. Entries are turned one by one on the way, and nothing is copied.
+// `equivalent_up_to_global_phase`, `unitary_fingerprint`. Entries are turned one by one as they are read, and nothing is copied.
 ghost use mathlib.Core.Path.{_≡_};
 ghost use Prim.Native.Nat.{_*_, _^_, _<_, _≤_};
 ghost use lib.ListN.{length};
 ghost use Rattle.cyclotomic.specs.Zomega.{phase, Small, turn};
 ghost use Rattle.exact.specs.Places.{entry, read, held};
-ghost use Rattle.exact.specs.Fits.{AllSmall};
+ghost use Rattle.exact.proofs.Words.{AllSmall};
 ghost use Rattle.exact.specs.Phase.{phaseOf, upToPhase};
 ghost use Rattle.exact.specs.Fingerprint.{mix, mixAll, fold, fourWords, wordsOf, fingerprint};
 ghost use Rattle.prints.specs.Prints.{FirstNonzero, SmallTo, streams};
@@ -27,7 +27,7 @@ fn first_nonzero(m: &[Coefficient], size: usize) -> usize
     size
 }
 
-// The power 0 to 7 that makes an entry least, compared as four signed numbers.
+// The power 0 to 7 whose turn of an entry is least, in the order of SPECIFICATION 1.11.
 fn least_power(z: Cyclotomic) -> u8
     requires { ⌜ Small z ⌝ }
     ensures { λ r. ⌜ r ≡ phase z ⌝ }
@@ -61,7 +61,7 @@ pub fn canonical_phase_power(m: &[Coefficient], n: usize) -> u8
     least_power(places::get(m, e))
 }
 
-// Whether two matrices of width n are equal up to phase: same exponent, same entries after each one's own phase.
+// Whether two matrices of width n are equal up to phase: same exponent, same entries after each one's own phase (SPECIFICATION 1.12).
 pub fn equivalent_up_to_global_phase(
     left: &[Coefficient],
     right: &[Coefficient],
@@ -92,7 +92,7 @@ pub fn equivalent_up_to_global_phase(
     true
 }
 
-// The two streams of the fingerprint.
+// The two streams of the fingerprint (SPECIFICATION 5.2).
 pub struct Streams {
     pub first: u64,
     pub second: u64,

@@ -1,4 +1,4 @@
--- Each refusal by its number and its position, 0 where there is none. Document 01's table of checks. Assumes nothing.
+-- Each refusal by its number and its position, 0 where there is none (SPECIFICATION 9.1). Assumes nothing.
 use Prim.Native.Nat.{ℕ}
 use Rattle.refusal.specs.declared.Refusal.{Refusal}
 use Rattle.refusal.specs.declared.Refusal.the-variants as r

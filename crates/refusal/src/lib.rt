@@ -1,5 +1,5 @@
-// Why an operation is refused: document 01's table of checks, a case for each number. A new number is a case here, a line in `number_of` and a
-// line in specs/Told.antt.
+// Why an operation is refused: a case for each number of SPECIFICATION 9.1. A new number is a case here, a line in `number_of` and a line in
+// specs/Told.antt.
 ghost use mathlib.Core.Path.{_≡_};
 ghost use Prim.Native.Nat.{_≤_};
 ghost use Rattle.refusal.specs.Told.{numberOf, positionOf};
@@ -32,9 +32,9 @@ pub enum Check {
 pub struct Numbered(pub u64, pub u64);
 
 pub fn number_of(refusal: Refusal) -> Numbered
-    ensures { λ r. ⌜ r .0 ≡ numberOf refusal ⌝ }
-    ensures { λ r. ⌜ r .1 ≡ positionOf refusal ⌝ }
-    ensures { λ r. ⌜ r .0 ≤ 15 ⌝ }
+    ensures number { λ r. ⌜ r .0 ≡ numberOf refusal ⌝ }
+    ensures position { λ r. ⌜ r .1 ≡ positionOf refusal ⌝ }
+    ensures most { λ r. ⌜ r .0 ≤ 15 ⌝ }
 {
     match refusal {
         Refusal::WidthLimit => Numbered(1, 0),

@@ -1,5 +1,6 @@
-// Prints what the port says of every gate code, pair of codes and basis, in the form of the recording of the original. The gate compares
-// it with crates/replay/stdout, which oracle/record writes from the original itself; the first line is that recording's header.
+// A test program: prints what this library says of every gate code, pair of codes and basis (SPECIFICATION, chapter 2), in the form of the
+// recording of the original. The output is compared with crates/replay/stdout, which oracle/record writes from the original itself; the first
+// line is that recording's header.
 ghost use Prim.Native.Nat.{_≤_, _<_};
 use circuit::GateSet;
 use circuit::LibraryGate;
@@ -27,7 +28,7 @@ fn line_end() {
     io::write_all(STDOUT_FILENO, b"\n");
 }
 
-// `codes N` and every valid code; the port is asked about all numbers below 65536.
+// `codes N` and every code that is valid at width N; the library is asked about all numbers below 65536.
 fn codes_line(width: u32) {
     io::write_all(STDOUT_FILENO, b"codes");
     spaced(width);

@@ -7,7 +7,7 @@ use borrow.Author.Tests.{eq-eqb, ne-eqb}
 use lib.IntN.{ℤ}
 use lib.Bits.{bitAnd}
 use Rattle.cyclotomic.specs.Zomega.{turn, Small}
-use Rattle.exact.specs.Fits.{AllSmall}
+use Rattle.exact.proofs.Words.{AllSmall}
 use Rattle.exact.specs.Places.{read}
 use Rattle.rows.specs.Rows.{phaseRows}
 use Rattle.rows.specs.Work.{Turned, SmallFrom}

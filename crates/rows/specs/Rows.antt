@@ -1,4 +1,4 @@
--- The row operations as the code finds rows: by and, or, minus. Assumes nothing.
+-- The row operations (SPECIFICATION 3.2) as the code finds rows: by and, or, minus. Assumes nothing.
 use mathlib.Core.Bool.{Bool}
 use Prim.Native.Nat.{ℕ, _-_}
 use lib.Dec.{eqb}

@@ -6,7 +6,7 @@ ghost use Prim.Native.Nat.{_+_, _*_, _^_, _<_, _≤_};
 ghost use lib.ListN.{length};
 ghost use lib.Bits.{bitAnd};
 ghost use Rattle.exact.specs.Matrix.{allDivisible};
-ghost use Rattle.exact.specs.Fits.{AllSmall};
+ghost use Rattle.exact.proofs.Words.{AllSmall};
 ghost use Rattle.exact.specs.Places.{read};
 ghost use Rattle.places.specs.Places.{places, Same, Kept};
 ghost use Rattle.rows.specs.Rows.{phaseRows, lowRow, exchangeRows, dividedAll};
@@ -53,9 +53,9 @@ pub fn apply_controlled_x_left(m: &mut [Coefficient; 4096], n: usize, control: u
     requires { ⌜ length (now m) ≡ places ⌝ }
     requires { ⌜ (n ≤ 5) × (t < n) ⌝ }
     requires { ⌜ bitAnd control (2 ^ t) ≡ 0 ⌝ }
-    ensures { λ _. ⌜ length (now (m .exit)) ≡ places ⌝ }
-    ensures { λ _. ⌜ Same n (read n (now (m .exit))) (exchangeRows control (2 ^ t) (read n (now (m .entry)))) ⌝ }
-    ensures { λ _. ⌜ Kept n (now (m .entry)) (now (m .exit)) ⌝ }
+    ensures sized { λ _. ⌜ length (now (m .exit)) ≡ places ⌝ }
+    ensures exchanged { λ _. ⌜ Same n (read n (now (m .exit))) (exchangeRows control (2 ^ t) (read n (now (m .entry)))) ⌝ }
+    ensures kept { λ _. ⌜ Kept n (now (m .entry)) (now (m .exit)) ⌝ }
 {
     let d = places::dim(n);
     let mut r = 0;
@@ -85,9 +85,9 @@ fn phase_rows(m: &mut [Coefficient; 4096], n: usize, mask: usize, power: u8)
     requires { ⌜ length (now m) ≡ places ⌝ }
     requires { ⌜ n ≤ 5 ⌝ }
     requires { ⌜ AllSmall n (read n (now m)) ⌝ }
-    ensures { λ _. ⌜ length (now (m .exit)) ≡ places ⌝ }
-    ensures { λ _. ⌜ Same n (read n (now (m .exit))) (phaseRows mask power (read n (now (m .entry)))) ⌝ }
-    ensures { λ _. ⌜ Kept n (now (m .entry)) (now (m .exit)) ⌝ }
+    ensures sized { λ _. ⌜ length (now (m .exit)) ≡ places ⌝ }
+    ensures turned { λ _. ⌜ Same n (read n (now (m .exit))) (phaseRows mask power (read n (now (m .entry)))) ⌝ }
+    ensures kept { λ _. ⌜ Kept n (now (m .entry)) (now (m .exit)) ⌝ }
 {
     let d = places::dim(n);
     let mut r = 0;
@@ -104,9 +104,9 @@ pub fn apply_phase_left(m: &mut [Coefficient; 4096], n: usize, mask: usize, powe
     requires { ⌜ length (now m) ≡ places ⌝ }
     requires { ⌜ n ≤ 5 ⌝ }
     requires { ⌜ AllSmall n (read n (now m)) ⌝ }
-    ensures { λ _. ⌜ length (now (m .exit)) ≡ places ⌝ }
-    ensures { λ _. ⌜ Same n (read n (now (m .exit))) (phaseRows mask power (read n (now (m .entry)))) ⌝ }
-    ensures { λ _. ⌜ Kept n (now (m .entry)) (now (m .exit)) ⌝ }
+    ensures sized { λ _. ⌜ length (now (m .exit)) ≡ places ⌝ }
+    ensures turned { λ _. ⌜ Same n (read n (now (m .exit))) (phaseRows mask power (read n (now (m .entry)))) ⌝ }
+    ensures kept { λ _. ⌜ Kept n (now (m .entry)) (now (m .exit)) ⌝ }
 {
     match power {
         1 => phase_rows(m, n, mask, 1),
@@ -140,9 +140,9 @@ pub fn divide_all(m: &mut [Coefficient; 4096], n: usize)
     requires { ⌜ length (now m) ≡ places ⌝ }
     requires { ⌜ n ≤ 5 ⌝ }
     requires { ⌜ AllSmall n (read n (now m)) ⌝ }
-    ensures { λ _. ⌜ length (now (m .exit)) ≡ places ⌝ }
-    ensures { λ _. ⌜ Same n (read n (now (m .exit))) (dividedAll (read n (now (m .entry)))) ⌝ }
-    ensures { λ _. ⌜ Kept n (now (m .entry)) (now (m .exit)) ⌝ }
+    ensures sized { λ _. ⌜ length (now (m .exit)) ≡ places ⌝ }
+    ensures divided { λ _. ⌜ Same n (read n (now (m .exit))) (dividedAll (read n (now (m .entry)))) ⌝ }
+    ensures kept { λ _. ⌜ Kept n (now (m .entry)) (now (m .exit)) ⌝ }
 {
     let size = places::area(n);
     let mut e = 0;

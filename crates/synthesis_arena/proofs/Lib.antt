@@ -1,4 +1,3 @@
-pub mod Lookups
-pub mod Chaining
+pub mod Depths
 pub mod Writing
 pub mod Told

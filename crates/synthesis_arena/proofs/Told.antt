@@ -5,15 +5,18 @@ use Prim.Native.Nat.{ℕ}
 use native.Mathlib.Omega.{arith}
 use lib.ListN.{length, take, drop}
 use lib.Seq.{take-at, drop-at}
-use Rattle.synthesis_arena.specs.Lookup.{lowestFrom, toldFound, LowestNode, Nowhere}
+use Rattle.synthesis_arena.specs.Lookup.{toldFound}
+use Rattle.walk.specs.Lookup.{lowestFrom}
+use Rattle.walk.specs.Meaning.{LowestNode, Nowhere, Gates}
 use Rattle.exact.specs.Answers.{given, refused}
-use Rattle.synthesis_arena.specs.Chains.{Chain, good, bad, chainOf, Outcome, outcome, circuitOf, toldCircuit, Gates}
+use Rattle.synthesis_arena.specs.Chains.{circuitOf, toldCircuit, ChainWritten, written}
+use Rattle.walk.specs.Chains.{Chain, good, bad, chainOf}
 use Rattle.synthesis_arena.specs.declared.Found.{Found}
 use Rattle.synthesis_arena.specs.declared.Found.the-variants.{At, NotFound}
 use Rattle.synthesis_arena.specs.declared.NodeCircuit.{NodeCircuit}
 use Rattle.synthesis_arena.specs.declared.NodeCircuit.the-variants.{Length, Bad}
-use Rattle.synthesis_arena.proofs.Lookups.{looks-up}
-use Rattle.synthesis_arena.proofs.Chaining.{gates-of}
+use Rattle.walk.proofs.Lookups.{looks-up}
+use Rattle.walk.proofs.Chaining.{gates-of}
 
 -- ---- of `node_for`
 
@@ -41,15 +44,15 @@ module _ (n basis : ℕ) (parents codes : List ℕ) (limit node : ℕ) (old new 
     pub is-bad : chainOf n basis parents codes limit node ≡ bad
     pub same : new ≡ old
 
-  module _ {r : NodeCircuit} (told : outcome (toldCircuit r) new ≡ circuitOf (chainOf n basis parents codes limit node) old) where
+  module _ {r : NodeCircuit} (told : written (toldCircuit r) new ≡ circuitOf (chainOf n basis parents codes limit node) old) where
     pub circuit-read : {m : ℕ} → r ≡ Length m → Read m
-    circuit-read {m} e = by (chainOf n basis parents codes limit node) refl (sym (ap (λ (x : NodeCircuit). outcome (toldCircuit x) new) e) ∙ told)
+    circuit-read {m} e = by (chainOf n basis parents codes limit node) refl (sym (ap (λ (x : NodeCircuit). written (toldCircuit x) new) e) ∙ told)
       where
-        by : (k : Chain) → chainOf n basis parents codes limit node ≡ k → outcome (given m) new ≡ circuitOf k old → Read m
+        by : (k : Chain) → chainOf n basis parents codes limit node ≡ k → written (given m) new ≡ circuitOf k old → Read m
         by (good l) f h =
-            let a = ap (λ (o : Outcome). o .answer) h in
+            let a = ap (λ (o : ChainWritten). o .answer) h in
             let z : m ≡ length l = cc in
-            let b : new ≡ l ++ drop (length l) old = ap (λ (o : Outcome). o .list) h in
+            let b : new ≡ l ++ drop (length l) old = ap (λ (o : ChainWritten). o .list) h in
             record {
               list = l;
               is = f;
@@ -58,11 +61,11 @@ module _ (n basis : ℕ) (parents codes : List ℕ) (limit node : ℕ) (old new 
               first = ap (take m) b ∙ take-at l (drop (length l) old) m (sym z);
               later = ap (drop m) b ∙ drop-at l (drop (length l) old) m (sym z) ∙ ap (λ (i : ℕ). drop i old) (sym z);
             }
-        by bad f h = let a = ap (λ (o : Outcome). o .answer) h in let z : _≡_ {A = ℕ} 0 1 = cc in absurd (omega arith)
+        by bad f h = let a = ap (λ (o : ChainWritten). o .answer) h in let z : _≡_ {A = ℕ} 0 1 = cc in absurd (omega arith)
 
     pub circuit-refused : r ≡ Bad → Refused
-    circuit-refused e = by (chainOf n basis parents codes limit node) refl (sym (ap (λ (x : NodeCircuit). outcome (toldCircuit x) new) e) ∙ told)
+    circuit-refused e = by (chainOf n basis parents codes limit node) refl (sym (ap (λ (x : NodeCircuit). written (toldCircuit x) new) e) ∙ told)
       where
-        by : (k : Chain) → chainOf n basis parents codes limit node ≡ k → outcome (refused 13 0) new ≡ circuitOf k old → Refused
-        by (good l) f h = let a = ap (λ (o : Outcome). o .answer) h in let z : _≡_ {A = ℕ} 0 1 = cc in absurd (omega arith)
-        by bad f h = record { is-bad = f; same = ap (λ (o : Outcome). o .list) h }
+        by : (k : Chain) → chainOf n basis parents codes limit node ≡ k → written (refused 13 0) new ≡ circuitOf k old → Refused
+        by (good l) f h = let a = ap (λ (o : ChainWritten). o .answer) h in let z : _≡_ {A = ℕ} 0 1 = cc in absurd (omega arith)
+        by bad f h = record { is-bad = f; same = ap (λ (o : ChainWritten). o .list) h }

@@ -1,4 +1,4 @@
--- The gates of a good chain, written from the last place down while the walk goes along the parents. Assumes nothing.
+-- The gates of a good chain, written from the last place down along the way. Assumes nothing.
 use mathlib.Core.Path.{_≡_, refl, sym, ap, _∙_}
 use mathlib.Core.List.{List, [], _∷_, _++_, append-assoc, append-nil}
 use Prim.Native.Nat.{ℕ, suc, _+_, _-_, _≤_, _<_}
@@ -6,17 +6,19 @@ use native.Mathlib.Omega.{arith}
 use lib.ListN.{length, getD, take, drop, set, length-append, length-set, take-append-drop}
 use lib.Seq.{take-suc, set-at, length-take-le}
 use Rattle.exact.specs.Answers.{given, refused}
-use Rattle.synthesis_arena.specs.Chains.{Chain, good, chainOf, depthOf, toldDepth, outcome, circuitOf}
+use Rattle.synthesis_arena.specs.Chains.{depthOf, toldDepth, circuitOf, written}
+use Rattle.walk.specs.Chains.{Chain, good, chainOf}
 use Rattle.synthesis_arena.specs.declared.NodeDepth.{NodeDepth}
 use Rattle.synthesis_arena.specs.declared.NodeDepth.the-variants.{At, Bad}
-use Rattle.synthesis_arena.proofs.Chaining.{Link, link, deep, not-deep}
+use Rattle.walk.proofs.Chaining.{LastGate, link}
+use Rattle.synthesis_arena.proofs.Depths.{deep, not-deep}
 
 empty : (l : List ℕ) → length l ≡ 0 → l ≡ []
 empty [] e = refl
 empty (x ∷ l) e = absurd (omega arith)
 
 module _ (n basis : ℕ) (parents codes : List ℕ) (limit node : ℕ) (old : List ℕ) where
-  -- i gates of the chain are written and stand behind the rest, whose last gate is that of the node `at`
+  -- i gates of the chain are written and stand after the rest, whose last gate is that of the node `at`
   pub record Writing (size i at : ℕ) (out : List ℕ) : Type 0 where
     pub rest : List ℕ
     pub done : List ℕ
@@ -52,7 +54,7 @@ module _ (n basis : ℕ) (parents codes : List ℕ) (limit node : ℕ) (old : Li
   module _ {size i at : ℕ} {out : List ℕ} (w : Writing size i at out) where
     pub writing-more : i < size → Writing size (i + 1) (getD parents at 0) (set out (size - 1 - i) (getD codes at 0))
     writing-more h =
-        let k : Link n basis parents codes (w .left) at (w .rest) = link n basis parents codes (w .left) at (w .here) (omega (arith, w .sum)) in
+        let k : LastGate n basis parents codes (w .left) at (w .rest) = link n basis parents codes (w .left) at (w .here) (omega (arith, w .sum)) in
         let g : ℕ = getD codes at 0 in
         let m : ℕ = length (k .rest) in
         let behind : List ℕ = w .done ++ drop size old in
@@ -75,13 +77,13 @@ module _ (n basis : ℕ) (parents codes : List ℕ) (limit node : ℕ) (old : Li
               ∙ set-at (take m old) (getD old m 0) behind g m (length-take-le m old (omega (arith, w .sum, w .room)));
         }
 
-    pub writing-end : size ≤ i → outcome (given size) out ≡ circuitOf (chainOf n basis parents codes limit node) old
+    pub writing-end : size ≤ i → written (given size) out ≡ circuitOf (chainOf n basis parents codes limit node) old
     writing-end h =
         let none : w .rest ≡ [] = empty (w .rest) (omega (arith, w .sum)) in
         let e : size ≡ length (w .done) = omega (arith, w .sum, w .count) in
-        ap (outcome (given size)) (w .is ∙ ap (λ (l : List ℕ). take (length l) old ++ (w .done ++ drop size old)) none)
-        ∙ ap (λ (m : ℕ). outcome (given m) (w .done ++ drop m old)) e
+        ap (written (given size)) (w .is ∙ ap (λ (l : List ℕ). take (length l) old ++ (w .done ++ drop size old)) none)
+        ∙ ap (λ (m : ℕ). written (given m) (w .done ++ drop m old)) e
         ∙ sym (ap (λ (k : Chain). circuitOf k old) (w .whole ∙ ap (λ (l : List ℕ). good (l ++ w .done)) none))
 
-  pub written-not : {r : NodeDepth} → r ≡ Bad → toldDepth r ≡ depthOf (chainOf n basis parents codes limit node) → outcome (refused 13 0) old ≡ circuitOf (chainOf n basis parents codes limit node) old
+  pub written-not : {r : NodeDepth} → r ≡ Bad → toldDepth r ≡ depthOf (chainOf n basis parents codes limit node) → written (refused 13 0) old ≡ circuitOf (chainOf n basis parents codes limit node) old
   written-not e h = sym (ap (λ (k : Chain). circuitOf k old) (not-deep n basis parents codes limit node e h))

@@ -1,17 +1,27 @@
 // One width's part of a table, in three lent arrays: fingerprints, parents, gate codes. synthesis_arena.rs of the original, `WidthTable`:
-// a node is its last gate and the node that holds the rest, and its circuit is read by walking to node 0. Whatever the arrays hold is
-// decided: "Only caller-altered tables meet 13."
+// a node is its last gate and its parent, which has the gates before it, and its list is read along the parents to node 0 (SPECIFICATION 7.4,
+// 7.5). Whatever the arrays hold is decided; a chain is bad only where a caller made or altered the table.
 ghost use mathlib.Core.Path.{_≡_};
 ghost use mathlib.Core.Bool.{false};
 ghost use Prim.Native.Nat.{ℕ, _%_, _<_, _≤_};
 ghost use lib.ListN.{length};
-ghost use Rattle.synthesis_arena.specs.Lookup.{lowestFrom, toldFound};
-ghost use Rattle.synthesis_arena.specs.Chains.{marked, chainOf, depthOf, toldDepth, outcome, circuitOf, toldCircuit};
+ghost use Rattle.synthesis_arena.specs.Lookup.{toldFound};
+ghost use Rattle.walk.specs.Lookup.{lowestFrom};
+ghost use Rattle.synthesis_arena.specs.Chains.{depthOf, toldDepth, circuitOf, toldCircuit, written};
+ghost use Rattle.walk.specs.Chains.{marked, chainOf};
 use circuit::GateSet;
 use circuit::LibraryGate;
 
-// "Its parent and gate both read 4294967295."
+// The mark: node 0 has it in the place of a parent and of a code (SPECIFICATION 2.10).
 pub const MARK: u32 = 4294967295;
+
+// The limits of a width: its number, the basis as a set, the gate limit, the entry limit.
+pub struct WidthLimits {
+    pub width: u32,
+    pub basis: u32,
+    pub gates: usize,
+    pub entries: usize,
+}
 
 // A node with a fingerprint, or that there is none.
 pub enum Found {
@@ -19,13 +29,13 @@ pub enum Found {
     NotFound,
 }
 
-// How deep a node lies, or that its chain is bad.
+// The depth of a node, or that its chain is bad.
 pub enum NodeDepth {
     At(usize),
     Bad,
 }
 
-// How many gates a node's circuit has, or that its chain is bad.
+// How many gates a node's list has, or that its chain is bad.
 pub enum NodeCircuit {
     Length(usize),
     Bad,
@@ -33,7 +43,7 @@ pub enum NodeCircuit {
 
 // The lower 32 bits of a fingerprint.
 fn low(fingerprint: u64) -> u32
-    ensures { λ r. ⌜ r ≡ fingerprint % 4294967296 ⌝ }
+    ensures half { λ r. ⌜ r ≡ fingerprint % 4294967296 ⌝ }
 {
     (fingerprint % 4294967296) as u32
 }
@@ -41,8 +51,9 @@ fn low(fingerprint: u64) -> u32
 // Whether one of the nodes from one on and below another may have the fingerprint: its lower half, four of which are compared at once. There
 // is no early return: this loop is many times faster without one.
 fn may_have(fingerprints: &[u64], from: usize, end: usize, fingerprint: u64) -> bool
-    requires { ⌜ (from ≤ end) × (end ≤ length (now fingerprints)) ⌝ }
-    ensures { λ r. ⌜ ((count : ℕ) → end ≤ count → r ≡ false → lowestFrom (now (fingerprints .entry)) count end fingerprint ≡ lowestFrom (now (fingerprints .entry)) count from fingerprint) ⌝ }
+    requires within { ⌜ (from ≤ end) × (end ≤ length (now fingerprints)) ⌝ }
+    ensures none_has { λ r. ⌜ ((count : ℕ) → end ≤ count → r ≡ false
+        → lowestFrom (now (fingerprints .entry)) count end fingerprint ≡ lowestFrom (now (fingerprints .entry)) count from fingerprint) ⌝ }
 {
     let half = low(fingerprint);
     let mut found = false;
@@ -56,8 +67,8 @@ fn may_have(fingerprints: &[u64], from: usize, end: usize, fingerprint: u64) -> 
 
 // A place before which none of the nodes, from one on, has the fingerprint: whole blocks that do not have it are passed over.
 fn skip_blocks(fingerprints: &[u64], count: usize, from: usize, fingerprint: u64) -> usize
-    requires { ⌜ (from ≤ count) × (count ≤ length (now fingerprints)) ⌝ }
-    ensures { λ r. ⌜ lowestFrom (now (fingerprints .entry)) count r fingerprint ≡ lowestFrom (now (fingerprints .entry)) count from fingerprint ⌝ }
+    requires within { ⌜ (from ≤ count) × (count ≤ length (now fingerprints)) ⌝ }
+    ensures none_before { λ r. ⌜ lowestFrom (now (fingerprints .entry)) count r fingerprint ≡ lowestFrom (now (fingerprints .entry)) count from fingerprint ⌝ }
 {
     let mut i = from;
     while 64 <= count - i {
@@ -70,10 +81,10 @@ fn skip_blocks(fingerprints: &[u64], count: usize, from: usize, fingerprint: u64
     i
 }
 
-// "The lowest node of that width with its fingerprint", of those from a place on and below the count.
+// The lowest node that has the fingerprint, of those from a place on and below the count (SPECIFICATION 7.4).
 pub fn node_for(fingerprints: &[u64], count: usize, from: usize, fingerprint: u64) -> Found
-    requires { ⌜ count ≤ length (now fingerprints) ⌝ }
-    ensures { λ r. ⌜ toldFound r ≡ lowestFrom (now (fingerprints .entry)) count from fingerprint ⌝ }
+    requires within { ⌜ count ≤ length (now fingerprints) ⌝ }
+    ensures lowest { λ r. ⌜ toldFound r ≡ lowestFrom (now (fingerprints .entry)) count from fingerprint ⌝ }
 {
     if count <= from {
         return Found::NotFound;
@@ -90,8 +101,8 @@ pub fn node_for(fingerprints: &[u64], count: usize, from: usize, fingerprint: u6
 
 // Whether node 0 has its marks.
 fn is_marked(parents: &[u32], codes: &[u32]) -> bool
-    requires { ⌜ (0 < length (now parents)) × (0 < length (now codes)) ⌝ }
-    ensures { λ r. ⌜ r ≡ marked (now (parents .entry)) (now (codes .entry)) ⌝ }
+    requires some { ⌜ (0 < length (now parents)) × (0 < length (now codes)) ⌝ }
+    ensures marked { λ r. ⌜ r ≡ marked (now (parents .entry)) (now (codes .entry)) ⌝ }
 {
     if parents[0] != MARK {
         return false;
@@ -99,8 +110,8 @@ fn is_marked(parents: &[u32], codes: &[u32]) -> bool
     codes[0] == MARK
 }
 
-// "The depth of a node is 0 at the root and otherwise one more than its parent's; it is worked by recursion on the node number", which
-// falls because a parent lies below its node. The limit falls by one with each gate, so that no more than limit + 1 calls are open.
+// The depth of a node: 0 for node 0, and for another one more than its parent's (SPECIFICATION 7.5). The recursion is on the node's number, which
+// falls because a parent lies below its node. The gate limit falls by one with each gate, so that no more than `limit` + 1 calls are open.
 pub fn depth(
     parents: &[u32],
     codes: &[u32],
@@ -109,8 +120,8 @@ pub fn depth(
     limit: usize,
     node: usize,
 ) -> NodeDepth
-    requires { ⌜ (node < length (now parents)) × (node < length (now codes)) ⌝ }
-    ensures { λ r. ⌜ toldDepth r ≡ depthOf (chainOf width (basis .0) (now (parents .entry)) (now (codes .entry)) limit node) ⌝ }
+    requires there { ⌜ (node < length (now parents)) × (node < length (now codes)) ⌝ }
+    ensures depth { λ r. ⌜ toldDepth r ≡ depthOf (chainOf width (basis .0) (now (parents .entry)) (now (codes .entry)) limit node) ⌝ }
 {
     if node == 0 {
         if !is_marked(parents, codes) {
@@ -134,8 +145,8 @@ pub fn depth(
     }
 }
 
-// "Its list is read by walking parents, oldest gate first." The gates fill the first places of `out`; later places, and on a bad chain all
-// of them, keep their content.
+// The list of a node, read along its parents, oldest gate first. The gates fill the first places of `out`; later places, and on a bad chain all
+// of them, keep what they held (SPECIFICATION 7.5, 7.7).
 pub fn circuit(
     parents: &[u32],
     codes: &[u32],
@@ -145,8 +156,9 @@ pub fn circuit(
     node: usize,
     out: &mut [u32],
 ) -> NodeCircuit
-    requires { ⌜ (node < length (now parents)) × (node < length (now codes)) × (limit ≤ length (now out)) ⌝ }
-    ensures { λ r. ⌜ outcome (toldCircuit r) (now (out .exit)) ≡ circuitOf (chainOf width (basis .0) (now (parents .entry)) (now (codes .entry)) limit node) (now (out .entry)) ⌝ }
+    requires there { ⌜ (node < length (now parents)) × (node < length (now codes)) × (limit ≤ length (now out)) ⌝ }
+    ensures written { λ r. ⌜ written (toldCircuit r) (now (out .exit))
+        ≡ circuitOf (chainOf width (basis .0) (now (parents .entry)) (now (codes .entry)) limit node) (now (out .entry)) ⌝ }
 {
     let NodeDepth::At(size) = depth(parents, codes, width, basis, limit, node) else {
         return NodeCircuit::Bad;

@@ -1,15 +1,16 @@
 -- What limits are that no row refuses, and that arrays have room exactly where row 5 does not refuse. Assumes nothing.
-use mathlib.Core.Path.{_≡_}
-use mathlib.Core.Bool.{false, not, _||_}
+use mathlib.Core.Path.{_≡_, refl}
+use mathlib.Core.Logic.{inl, inr}
+use mathlib.Core.Bool.{false, _||_}
 use Prim.Native.Nat.{ℕ, _≤_, _<_}
 use native.Mathlib.Omega.{arith}
 use borrow.Author.Tests.{eqb-false, ltb-false, le-ltb}
 use lib.Dec.{eqb, ltb}
 use lib.ListN.{length}
 use Rattle.ints.proofs.Bools.{neither}
-use Rattle.circuit.specs.Sets.{supported, subset}
-use Rattle.tables.specs.Checks.{row, firstRow, Limits, limitRows, Arrays, placesOf, roomRow}
-use Rattle.tables.proofs.Rows.{first-none}
+use Rattle.tables.specs.Checks.{firstRow, Limits, limitRows, Arrays, placesOf, roomRow}
+use Rattle.tables.proofs.Causes.{none-to}
+use Rattle.tables.proofs.InWords.{limits-in-words}
 
 -- the numbers of limits that are not refused
 pub record Accepted (l : Limits) : Type 0 where
@@ -25,21 +26,21 @@ above n e = let f = eqb-false n 0 e in omega (arith, f)
 
 pub accepted : (l : Limits) → firstRow (limitRows l) ≡ 0 → Accepted l
 accepted l e =
-    let r1 = first-none (row (eqb (l .qubits) 0 || ltb 5 (l .qubits)) 1) _ (omega arith) e in
-    let r2 = first-none (row (eqb (l .entries) 0) 2) _ (omega arith) (r1 .1) in
-    let r3 = first-none (row (eqb (l .basis) 0 || not (subset (l .basis) supported)) 3) _ (omega arith) (r2 .1) in
-    let r4 = first-none (row (ltb 64 (l .gates) || ltb 1000000 (l .entries)) 4) _ (omega arith) (r3 .1) in
-    let q = neither (eqb (l .qubits) 0) (ltb 5 (l .qubits)) (r1 .0) in
-    let g = neither (ltb 64 (l .gates)) (ltb 1000000 (l .entries)) (r4 .0) in
+    let n = none-to (limits-in-words l) e in
+    let no-width : l .qubits ≡ 0 → ⊥ = λ z. n .0 0 (inl z, refl) in
+    let wide : 5 < l .qubits → ⊥ = λ z. n .0 0 (inr z, refl) in
+    let no-entry : l .entries ≡ 0 → ⊥ = λ z. n .1 .0 0 (z, refl) in
+    let deep : 64 < l .gates → ⊥ = λ z. n .1 .1 .1 .0 0 (inl z, refl) in
+    let many : 1000000 < l .entries → ⊥ = λ z. n .1 .1 .1 .0 0 (inr z, refl) in
     record {
-      some-width = above (l .qubits) (q .0);
-      widths = ltb-false 5 (l .qubits) (q .1);
-      some = above (l .entries) (r2 .0);
-      entries = ltb-false 1000000 (l .entries) (g .1);
-      gates = ltb-false 64 (l .gates) (g .0);
+      some-width = omega (arith, no-width);
+      widths = omega (arith, wide);
+      some = omega (arith, no-entry);
+      entries = omega (arith, many);
+      gates = omega (arith, deep);
     }
 
--- arrays that row 5 does not refuse have a place for each entry of each width
+-- arrays that row 5 does not refuse have E places for each width
 pub roomy : (l : Limits) (a : Arrays) → roomRow l a .holds ≡ false
     → (placesOf l ≤ length (a .prints)) × (placesOf l ≤ length (a .parents)) × (placesOf l ≤ length (a .codes))
 roomy l a e =

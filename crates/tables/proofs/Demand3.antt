@@ -1,4 +1,4 @@
--- Demand 3 and what stands beside it, of what the public entries answer: the statements of specs/Demand3. Assumes nothing.
+-- Demand 3 and what stands beside it, of what the public entries answer: the statements of specs/Demand3 and specs/Beside. Assumes nothing.
 use mathlib.Core.Path.{_≡_, refl, sym, ap, _∙_}
 use mathlib.Core.Logic.{_⊎_, inl, inr}
 use mathlib.Core.Bool.{Bool, true, false}
@@ -9,22 +9,24 @@ use native.Mathlib.Omega.{arith}
 use borrow.Author.Tests.{le-ltb, ne-eqb}
 use Rattle.exact.specs.Matrix.{Lowest}
 use Rattle.exact.specs.Unitary.{Unitary}
-use Rattle.walk.specs.AtWidth.{atWidth, answered}
+use Rattle.walk.specs.AtWidth.{atWidth}
+use Rattle.walk.proofs.Nodewise.{answered}
 use Rattle.walk.proofs.Nodes.{link, parents-rise, depth-parent, depths-rise, depths-step}
 use Rattle.walk.proofs.Layers.{walk-shape}
 use Rattle.walk.proofs.Exactly.{prints-distinct}
-use Rattle.walk.specs.Demand3.{Answers}
+use Rattle.walk.proofs.WidthDemand.{WidthComplete}
 use Rattle.walk.proofs.Demand3 as at-width
-use Rattle.width_answer.proofs.Meaning.{kind-of}
+use Rattle.walk.proofs.Meaning.{kind-of}
 use Rattle.tables.specs.Checks.{firstRow, Limits, Arrays, queryRows}
-use Rattle.tables.specs.Tables.{Table, Query, matrixOf, listRow, notAWidth}
+use Rattle.tables.specs.Tables.{Table, Width, Query, matrixOf, listRow, notAWidth}
 use Rattle.tables.specs.Built.{Built}
-use Rattle.tables.specs.Demand3.{Gives, GivesNone, Refuses, NotRefused, Decided, a-list, no-list, a-refusal, NoSmaller, Complete, Ordered, Demand3}
+use Rattle.tables.specs.Beside.{Beside, Ordered}
+use Rattle.tables.specs.Demand3.{Gives, GivesNone, Refuses, NotRefused, Decided, a-list, no-list, a-refusal, NoSmaller, Complete, Demand3}
 use Rattle.tables.proofs.Rows.{numbered-query, first-here, first-past, firstRow-append}
 use Rattle.tables.proofs.FromBuild.{build-built, build-refused, built-again}
-use Rattle.tables.proofs.Counts.{counts}
+use Rattle.tables.proofs.Counts.{width-is, counts}
 use Rattle.tables.proofs.Joined.{toldOption}
-use Rattle.tables.proofs.Replies.{number-of, rowOfAnswer, Case, not-a-width, part-asked, by-row, row-refuses, cases}
+use Rattle.tables.proofs.Replies.{number-of, rowOfAnswer, ReplyCase, not-a-width, part-asked, by-row, row-refuses, cases}
 use Rattle.tables.proofs.Replies.{gives-asked, no-row, decided, gives-right}
 use Rattle.tables.proofs.OfBuilt.{asked-lowest, a-width, told-none, not-refusal, rows-are, rows-up-to, query-passed}
 use Rattle.tables.proofs.OfBuilt.{widths-small, told-walk, gives-walk}
@@ -79,14 +81,15 @@ module _ (t t′ : Table) (a a′ : Arrays) (b : Built t a) (b′ : Built t′ a
 
 module _ (t : Table) (a : Arrays) (b : Built t a) where
   -- (c), from the walk's answers
-  answers-complete : (q : Query) → (q .width ≤ 5 → Answers (q .width) (t .limits .basis) (t .limits .gates) (t .limits .entries)) → Complete t a q
+  answers-complete : (q : Query) → (q .width ≤ 5 → WidthComplete (q .width) (t .limits .basis) (t .limits .gates) (t .limits .entries)) → Complete t a q
   answers-complete q w = record {
     shortest = λ out l g m r.
         w (small (a-width t q (gives-asked t a q out l g .1) .1)) .shortest (matrixOf q) (low out (gives-asked t a q out l g .0)) l
         (gives-walk t a b q out l g) m (r .of-basis) (r .power);
     none-exactly = λ p h s out n. let e = no-row t a q out n in
         let k = told-walk t a b q out e (has-width t q p h) in
-        let x = w (small h) .none-exactly s (matrixOf q) (low out e) in (
+        let f = ap (λ (v : Width). v .saturated) (sym (width-is t a b (q .width) p h)) ∙ s in
+        let x = w (small h) .none-exactly f (matrixOf q) (low out e) in (
           (λ g m r c. x .0 (told-none _ out (sym k ∙ g)) m (r .of-basis) c (r .power)),
           (λ f. k ∙ ap (λ (o : Option (List ℕ)). toldOption o out) (x .1 (λ m o c s. f m (record { of-basis = o; power = s }) c))),
         );
@@ -102,7 +105,7 @@ module _ (t : Table) (a : Arrays) (b : Built t a) where
   never-13 : (q : Query) (out : List ℕ) → Refuses t a q out 13 → ⊥
   never-13 q out n = by (cases t a q out)
     where
-      by : Case t a q out → ⊥
+      by : ReplyCase t a q out → ⊥
       by (not-a-width e f m) = absurd (omega (arith, kind-of (sym m ∙ n)))
       by (part-asked e f p) =
           not-refusal (answered (q .width) (t .limits .basis) (t .limits .gates) (t .limits .entries) (matrixOf q)) 13 out
@@ -136,11 +139,17 @@ demand = record {
   larger = λ t t′ a a′ b b′ s q out out′ l g. larger t t′ a a′ b b′ s q out out′ l g;
   complete = λ t a b le q nc. answers-complete t a b q
       (λ small. at-width.demand (q .width) (t .limits .basis) small .complete (t .limits .gates) (t .limits .entries) le nc);
-  complete-rightly = λ t a b le q K. answers-complete t a b q
-      (λ small. at-width.demand (q .width) (t .limits .basis) small .complete-rightly (t .limits .gates) (t .limits .entries) le K);
   unitary = λ t a q out l g. gives-right t a q out l g .unitary;
   not-unitary = not-unitary;
   never-13 = λ t a b q out n. never-13 t a b q out n;
+}
+
+-- ---- beside the demand
+
+pub beside : Beside
+beside = record {
+  complete-rightly = λ t a b le q K. answers-complete t a b q
+      (λ small. at-width.demand (q .width) (t .limits .basis) small .complete-rightly (t .limits .gates) (t .limits .entries) le K);
   counts = λ t a b w p q. counts t a b w p q;
   ordered = λ t a b w p q. in-order (t .limits) w (widths-small t a b w q);
   built-again = λ t a. (built-again t a, λ e. build-built (t .limits) a a t e .0);

@@ -70,7 +70,7 @@ module _ (column : ℕ → List ℕ) (E : ℕ) (short : (w : ℕ) → length (co
       let f : q * E + E ≤ length (filledTo column E q old) = omega (arith, r, l) in
       within-length (q * E) E (over (column (suc q))) (filledTo column E q old) f (one-keeps (q * E) (suc q) _ f) ∙ l
 
-  -- "Unfilled places keep what they held": the places after the last width's
+  -- the places behind the last part are as they were (SPECIFICATION 6.11)
   pub filled-rest : (Q : ℕ) (old : List ℕ) (j : ℕ) → Q * E ≤ length old → getD (filledTo column E Q old) (Q * E + j) 0 ≡ getD old (Q * E + j) 0
   unfolding filledTo
   filled-rest zero old j h = refl
@@ -100,7 +100,7 @@ module _ (column : ℕ → List ℕ) (E : ℕ) (short : (w : ℕ) → length (co
       ∙ filled-at q v j old (omega (arith, r)) less d)
       (eq-or-lt-of-le (omega arith))
 
-  -- "Unfilled places keep what they held": the later places of width v + 1
+  -- and so are the places of width v + 1 behind its column
   pub filled-kept : (Q v j : ℕ) (old : List ℕ) → Q * E ≤ length old → v < Q → length (column (suc v)) ≤ j → j < E
       → getD (filledTo column E Q old) (v * E + j) 0 ≡ getD old (v * E + j) 0
   unfolding filledTo

@@ -12,11 +12,10 @@ use Rattle.ints.specs.Lists.{over}
 use Rattle.ints.proofs.Bools.{clash}
 use Rattle.exact.proofs.Values.{pick-ind}
 use Rattle.walk.specs.Walk.{Node, root, gate}
-use Rattle.walk.specs.AtWidth.{atWidth}
+use Rattle.walk.specs.AtWidth.{atWidth, printOf, parentOf}
 use Rattle.walk.proofs.Nodes.{first}
 use Rattle.walk.proofs.Layers.{walk-shape}
-use Rattle.width_table.specs.Table.{printOf, parentOf}
-use Rattle.width_table.proofs.Columns.{map-at}
+use Rattle.walk.proofs.Held.{map-at}
 use Rattle.tables.specs.Checks.{firstRow, Limits, limitRows, Arrays, placesOf, roomRow}
 use Rattle.tables.specs.Tables.{Table, walkOf, recordOf, printsOf, parentsOf, codesOf, within, filledTo, builtTo}
 use Rattle.tables.specs.Tables.{BuildReply, table, refusal, Left, left, buildRows, leftBy, buildOf}
@@ -68,11 +67,11 @@ built-record l a e =
       accepted = rs .0;
       returned = refl;
       room = room-is l (builtTo l (l .qubits) a)
-          (omega (arith, r .0, column-length l h (λ w. printOf w (l .basis)) (printsOf l) (λ w. refl) (a .prints) (r .0)))
+          (omega (arith, r .0, column-length l h printOf (printsOf l) (λ w. refl) (a .prints) (r .0)))
           (omega (arith, r .1, column-length l h (λ w. parentOf) (parentsOf l) (λ w. refl) (a .parents) (r .1)))
           (omega (arith, r .2, column-length l h (λ w. gate) (codesOf l) (λ w. refl) (a .codes) (r .2)));
       nodes = λ w p q j b. record {
-        print = column-at l h (λ w. printOf w (l .basis)) (printsOf l) (λ w. refl) (a .prints) (r .0) w p q j b;
+        print = column-at l h printOf (printsOf l) (λ w. refl) (a .prints) (r .0) w p q j b;
         parent = column-at l h (λ w. parentOf) (parentsOf l) (λ w. refl) (a .parents) (r .1) w p q j b;
         code = column-at l h (λ w. gate) (codesOf l) (λ w. refl) (a .codes) (r .2) w p q j b;
       };
@@ -166,7 +165,7 @@ built-again t a b =
     let l = t .limits in
     let h = accepted l (b .accepted) .some in
     let r = roomy l a (b .room) in
-    let f = column-same l h (λ w. printOf w (l .basis)) (printsOf l) (λ w. refl) (a .prints) (r .0) (λ w p q j d. b .nodes w p q j d .print) in
+    let f = column-same l h printOf (printsOf l) (λ w. refl) (a .prints) (r .0) (λ w p q j d. b .nodes w p q j d .print) in
     let u = column-same l h (λ w. parentOf) (parentsOf l) (λ w. refl) (a .parents) (r .1) (λ w p q j d. b .nodes w p q j d .parent) in
     let c = column-same l h (λ w. gate) (codesOf l) (λ w. refl) (a .codes) (r .2) (λ w p q j d. b .nodes w p q j d .code) in
     build-fills l a (firstRow-append (limitRows l) (roomRow l a ∷ []) (numbered-limits l) (b .accepted) ∙ first-past (roomRow l a) [] (b .room))

@@ -1,10 +1,9 @@
 -- Arrays that hold the nodes of a width answer as the width of the build does. Assumes nothing.
 use mathlib.Core.Path.{_≡_, refl, sym, ap, _∙_}
 use mathlib.Core.Bool.{Bool, true, false}
-use mathlib.Core.List.{List, [], _∷_, _++_, map, reverse, reverse-reverse}
+use mathlib.Core.List.{List, [], _∷_, _++_, reverse, reverse-reverse}
 use mathlib.Core.Option.{Option, none, some}
 use Prim.Native.Nat.{ℕ, suc, _+_, _-_, _≤_, _<_}
-use native.Mathlib.Nat.{le-refl}
 use native.Mathlib.Omega.{arith}
 use borrow.Author.Tests.{ltb-true, lt-ltb}
 use lib.Dec.{eqb, ltb}
@@ -13,23 +12,22 @@ use Rattle.ints.specs.Lists.{pick}
 use Rattle.ints.proofs.Bools.{iff}
 use Rattle.exact.specs.Matrix.{Exact}
 use Rattle.exact.specs.Fingerprint.{fingerprint}
-use Rattle.synthesis_arena.specs.Lookup.{Lookup, found, lowestOf, lowestFrom}
-use Rattle.synthesis_arena.specs.Lookup as lookup
-use Rattle.synthesis_arena.specs.Chains.{good, chainOf}
+use Rattle.walk.specs.Lookup.{Lookup, found, lowestOf, lowestFrom}
+use Rattle.walk.specs.Lookup as lookup
+use Rattle.walk.specs.Chains.{good, chainOf}
 use Rattle.walk.specs.Walk.{Node, root, gate, listAt}
-use Rattle.walk.specs.Answer.{lowest, recheck, answerBy, answersTo}
-use Rattle.walk.specs.AtWidth.{samePrint, atWidth, built, oldestFirst, answered}
-use Rattle.walk.specs.Grown.{Shape}
-use Rattle.walk.proofs.Nodes.{link}
+use Rattle.walk.proofs.Nodewise.{lowest, recheck, answerBy, answersTo, oldestFirst, answered}
+use Rattle.walk.specs.AtWidth.{samePrint, atWidth, built, printOf, parentOf}
+use Rattle.walk.proofs.Grown.{Shape}
 use Rattle.walk.proofs.Layers.{walk-shape}
 use Rattle.walk.proofs.Rechecks.{recheck-exactly}
-use Rattle.width_table.specs.Table.{printOf, parentOf, Live}
-use Rattle.width_table.proofs.Lists.{chain-is}
-use Rattle.width_answer.specs.Answers.{rechecked, given, Outcome, outcome, ofChain, ofLookup, answerOf}
-use Rattle.width_answer.specs.Answers as a
-use Rattle.width_answer.proofs.Rechecked.{rechecked-exactly}
+use Rattle.walk.proofs.Held.{chain-is}
+use Rattle.walk.proofs.Exactly.{print-is}
+use Rattle.walk.specs.Answers.{WidthLimits, partWith, rechecked, given, Outcome, outcome, ofChain, ofLookup, answerOf}
+use Rattle.walk.specs.Answers as a
+use Rattle.walk.proofs.Rechecked.{rechecked-exactly}
 
--- what a width that a build left answers, as the outcome of an entry
+-- what a width that a build left answers, as an outcome with the lent list
 abbrev pub toldOption : Option (List ℕ) → List ℕ → Outcome
 toldOption none out = outcome a.none out
 toldOption (some l) out = outcome (given (length l)) (l ++ drop (length l) out)
@@ -39,21 +37,11 @@ pub record Holding (n basis : ℕ) (ns : List Node) (f u c : List ℕ) : Type 0 
   pub in-f : length ns ≤ length f
   pub in-u : length ns ≤ length u
   pub in-c : length ns ≤ length c
-  pub prints : (j : ℕ) → j < length ns → getD f j 0 ≡ printOf n basis (getD ns j root)
+  pub prints : (j : ℕ) → j < length ns → getD f j 0 ≡ printOf n (getD ns j root)
   pub parents : (j : ℕ) → j < length ns → getD u j 0 ≡ parentOf (getD ns j root)
   pub codes : (j : ℕ) → j < length ns → getD c j 0 ≡ gate (getD ns j root)
 
--- ---- the arrays as columns
-
--- an array whose first places hold what p says of the nodes begins with it
-begins : (p : Node → ℕ) (ns : List Node) (xs : List ℕ) → length ns ≤ length xs
-    → ((j : ℕ) → j < length ns → getD xs j 0 ≡ p (getD ns j root)) → xs ≡ map p ns ++ drop (length ns) xs
-begins p [] xs h e = refl
-begins p (v ∷ ns) [] h e = absurd (omega arith)
-begins p (v ∷ ns) (x ∷ xs) h e =
-    ap (λ (z : ℕ). z ∷ xs) (e 0 (omega arith)) ∙ ap (λ (z : List ℕ). p v ∷ z) (begins p ns xs (omega arith) (λ j l. e (suc j) (omega arith)))
-
--- ---- the lookup
+-- ---- the look-up
 
 ltb-suc : (j m : ℕ) → ltb j m ≡ ltb (suc j) (suc m)
 ltb-suc j m =
@@ -91,7 +79,7 @@ scan f print test (v ∷ ns) i e =
 module _ (n basis : ℕ) (small : n ≤ 5) where
   -- ---- the recheck
 
-  -- of a node's list, newest gate first, and of the same list as the entries have it
+  -- of a node's list, newest gate first, and of the same list as callers have it
   recheck-same : (l : List ℕ) (x : Exact) → rechecked n (reverse l) x ≡ recheck (atWidth n basis) l x
   recheck-same l x =
       let p = rechecked-exactly n (reverse l) x in
@@ -101,41 +89,19 @@ module _ (n basis : ℕ) (small : n ≤ 5) where
 
   -- ---- the nodes of a build
 
-  module _ (G E : ℕ) (deep : G ≤ 64) {f u c : List ℕ} (h : Holding n basis (built n basis G E .nodes) f u c) where
+  module _ (G E : ℕ) {f u c : List ℕ} (h : Holding n basis (built n basis G E .nodes) f u c) where
+    abbrev at : WidthLimits
+    at = record { width = n; basis = basis; gates = G; entries = E }
+
     abbrev ns : List Node
     ns = built n basis G E .nodes
 
     shape : Shape (atWidth n basis) G E (built n basis G E)
     shape = walk-shape (atWidth n basis) G E
 
-    live : Live n basis (length ns) f u c (length ns) (length ns) (length ns)
-    live = record {
-      f0 = f;
-      u0 = u;
-      c0 = c;
-      ns = ns;
-      d = G;
-      columns = record {
-        count-is = refl;
-        prints = record { is = begins (printOf n basis) ns f (h .in-f) (h .prints) };
-        parents = record { is = begins parentOf ns u (h .in-u) (h .parents) };
-        gates = record { is = begins gate ns c (h .in-c) (h .codes) };
-      };
-      grown = shape .layered .grown;
-      low = λ j l p. omega (arith, link (atWidth n basis) (shape .layered .grown) j l p .below);
-      few = le-refl (length ns);
-      flat = shape .limit;
-      short = λ j l. omega (arith, shape .limit j l);
-      deep = deep;
-      room-f = h .in-f;
-      room-u = h .in-u;
-      room-c = h .in-c;
-    }
-
     -- a node's chain is its list
     chain : (j : ℕ) → j < length ns → chainOf n basis u c G j ≡ good (reverse (listAt ns j))
-    unfolding live
-    chain j l = chain-is small live G j l (shape .limit j l)
+    chain j l = chain-is n basis small (shape .layered .grown) (record { parents = h .parents; codes = h .codes }) G j l (shape .limit j l)
 
     -- the node found is the one that the walk's answer takes
     looked-up : (x : Exact) → lowestFrom f (length ns) 0 (fingerprint n x)
@@ -152,7 +118,7 @@ module _ (n basis : ℕ) (small : n ≤ 5) where
         seen : (j : ℕ) → j < length ns → eqb (getD f (0 + j) 0) (fingerprint n x) ≡ answersTo (atWidth n basis) x (getD ns j root)
         seen j l =
             let z : 0 + j ≡ j = omega arith in
-            ap (λ (i : ℕ). eqb (getD f i 0) (fingerprint n x)) z ∙ ap (λ (p : ℕ). eqb p (fingerprint n x)) (h .prints j l)
+            ap (λ (i : ℕ). eqb (getD f i 0) (fingerprint n x)) z ∙ ap (λ (p : ℕ). eqb p (fingerprint n x)) (h .prints j l ∙ print-is n basis (getD ns j root))
 
     module _ (x : Exact) (out : List ℕ) where
       -- a list by the recheck's answer
@@ -169,20 +135,20 @@ module _ (n basis : ℕ) (small : n ≤ 5) where
       at-node j l =
           ap (ofChain n x out) (chain j l) ∙ rw (recheck-same (listAt ns j) x) (by-test (listAt ns j) (recheck (atWidth n basis) (listAt ns j) x))
 
-      told : answerOf f u c (length ns) n basis G x out ≡ toldOption (answered n basis G E x) out
+      told : answerOf at (partWith f u c (length ns)) x out ≡ toldOption (answered n basis G E x) out
       unfolding answerOf answerBy
-      told = ap (ofLookup u c n basis G x out) (looked-up x) ∙ by (ltb k (length ns)) refl
+      told = ap (ofLookup at (partWith f u c (length ns)) x out) (looked-up x) ∙ by (ltb k (length ns)) refl
         where
           k : ℕ
           k = lowest (answersTo (atWidth n basis) x) ns
 
           by : (t : Bool) → ltb k (length ns) ≡ t
-              → ofLookup u c n basis G x out (pick t (found k) lookup.none)
+              → ofLookup at (partWith f u c (length ns)) x out (pick t (found k) lookup.none)
               ≡ toldOption (oldestFirst (pick t (pick (recheck (atWidth n basis) (listAt ns k) x) (some (listAt ns k)) none) none)) out
           by true e = at-node k (ltb-true k (length ns) e)
           by false e = refl
 
 -- whatever the other places hold, the arrays answer what the width of the build answers
-pub joined : (n basis G E : ℕ) → n ≤ 5 → G ≤ 64 → (f u c : List ℕ) → Holding n basis (built n basis G E .nodes) f u c → (x : Exact) (out : List ℕ)
-    → answerOf f u c (length (built n basis G E .nodes)) n basis G x out ≡ toldOption (answered n basis G E x) out
-joined n basis G E small deep f u c h x out = told n basis small G E deep h x out
+pub joined : (n basis G E : ℕ) → n ≤ 5 → (f u c : List ℕ) → Holding n basis (built n basis G E .nodes) f u c → (x : Exact) (out : List ℕ)
+    → answerOf (record { width = n; basis = basis; gates = G; entries = E }) (partWith f u c (length (built n basis G E .nodes))) x out ≡ toldOption (answered n basis G E x) out
+joined n basis G E small f u c h x out = told n basis small G E h x out

@@ -1,11 +1,11 @@
 -- What a built table answers: rows 13 and 5 do not refuse it, and a width that it has answers as the walk does. Assumes nothing.
 use mathlib.Core.Path.{_≡_, refl, sym, ap, _∙_}
-use mathlib.Core.Bool.{Bool, false, not, _&&_}
+use mathlib.Core.Bool.{false}
 use mathlib.Core.List.{List, [], _∷_, _++_}
 use mathlib.Core.Option.{Option, none, some}
 use Prim.Native.Nat.{ℕ, _+_, _-_, _*_, _≤_, _<_}
 use native.Mathlib.Omega.{arith}
-use borrow.Author.Tests.{ltb-false, lt-ltb}
+use borrow.Author.Tests.{ltb-false}
 use lib.Dec.{eqb, ltb}
 use lib.IntN.{ℤ}
 use lib.ListN.{length, getD, drop}
@@ -14,15 +14,17 @@ use Rattle.ints.proofs.Bools.{neither}
 use Rattle.exact.specs.Matrix.{Exact, Lowest, allDivisible}
 use Rattle.exact.proofs.Values.{pick-ind}
 use Rattle.exact.specs.Places.{read, held}
-use Rattle.walk.specs.AtWidth.{answered}
-use Rattle.width_answer.specs.Answers.{given, refused, outcome, answerOf}
-use Rattle.width_answer.specs.Answers as a
-use Rattle.width_answer.proofs.Meaning.{kind-of}
-use Rattle.tables.specs.Checks.{Row, row, firstRow, Arrays, placesOf, roomRow, byteCount, anyBelow, queryRows}
-use Rattle.tables.specs.Tables.{Table, Width, widthAt, walkOf, Query, matrixOf, recordRow, listRow, partOf, notAWidth, synthesized}
+use Rattle.walk.proofs.Nodewise.{answered}
+use Rattle.walk.specs.Answers.{partWith, given, refused, outcome, answerOf}
+use Rattle.walk.specs.Answers as a
+use Rattle.walk.proofs.Meaning.{kind-of}
+use Rattle.tables.specs.Checks.{Row, firstRow, Arrays, placesOf, roomRow, queryRows}
+use Rattle.tables.specs.Tables.{Table, Width, widthAt, walkOf, Query, query, matrixOf, recordRow, listRow, partOf, notAWidth, synthesized, limitsAt, partAt}
 use Rattle.tables.specs.Built.{Built}
 use Rattle.tables.specs.Demand3.{Gives}
-use Rattle.tables.proofs.Rows.{numbered-query, first-past, first-none, append-none}
+use Rattle.tables.proofs.Rows.{numbered-query, first-past, append-none}
+use Rattle.tables.proofs.Causes.{is-true, fails, none-to}
+use Rattle.tables.proofs.InWords.{query-in-words}
 use Rattle.tables.proofs.Accepted.{above, accepted, roomy}
 use Rattle.tables.proofs.Filled.{part-length, room-at}
 use Rattle.tables.proofs.FromBuild.{walk-count}
@@ -47,12 +49,7 @@ first-up-to m (r ∷ rs) u = pick-ind (λ (z : ℕ). z ≤ m) (r .holds) (λ e. 
 
 -- row 11: it is in lowest denominator
 pub asked-lowest : (n k : ℕ) (bytes : List ℤ) → firstRow (queryRows n k bytes) ≡ 0 → Lowest n (held n k bytes)
-asked-lowest n k bytes e =
-    let r1 = first-none (row (ltb 5 n) 6) _ (omega arith) e in
-    let r2 = first-none (row (not (eqb (length bytes) (byteCount n))) 9) _ (omega arith) (r1 .1) in
-    let r3 = first-none (row (anyBelow bytes) 10) _ (omega arith) (r2 .1) in
-    let r4 = first-none (row (ltb 0 k && allDivisible n (read n bytes)) 11) _ (omega arith) (r3 .1) in
-    record { lowest = λ h. ap (λ (s : Bool). s && allDivisible n (read n bytes)) (sym (lt-ltb 0 k h)) ∙ r4 .0 }
+asked-lowest n k bytes e = record { lowest = λ h. fails (is-true (allDivisible n (read n bytes))) (λ d. none-to (query-in-words (query n k bytes)) e .1 .1 .1 .0 0 ((h, d), refl)) }
 
 -- a width that a table has
 pub a-width : (t : Table) (q : Query) → notAWidth t q ≡ false → (0 < q .width) × (q .width ≤ t .limits .qubits)
@@ -139,12 +136,12 @@ module _ (t : Table) (a : Arrays) (b : Built t a) where
 
     -- it answers as the walk does
     pub part-answers : (x : Exact) (out : List ℕ)
-        → answerOf (partOf w E (a .prints)) (partOf w E (a .parents)) (partOf w E (a .codes)) (widthAt t w .count) w B G x out
+        → answerOf (limitsAt (t .limits) w) (partAt t a w) x out
         ≡ toldOption (answered w B G E x) out
     part-answers x out =
-        ap (λ (v : Width). answerOf (partOf w E (a .prints)) (partOf w E (a .parents)) (partOf w E (a .codes)) (v .count) w B G x out)
+        ap (λ (v : Width). answerOf (limitsAt (t .limits) w) (partWith (partOf w E (a .prints)) (partOf w E (a .parents)) (partOf w E (a .codes)) (v .count)) x out)
         (width-is t a b w p h)
-        ∙ joined w B G E (widths-small w h) (accepted (t .limits) (b .accepted) .gates) (partOf w E (a .prints)) (partOf w E (a .parents))
+        ∙ joined w B G E (widths-small w h) (partOf w E (a .prints)) (partOf w E (a .parents))
         (partOf w E (a .codes)) holding x out
 
   -- ---- a query

@@ -1,65 +1,35 @@
--- Each answer of a lent table, exactly: which row refuses, where there is none, and where a list is given. Assumes nothing.
+-- Where a lent table answers none and where a list, and which rows refuse of a built one, exactly. Assumes nothing.
 use mathlib.Core.Path.{_≡_, refl, sym, ap, _∙_}
 use mathlib.Core.Logic.{_↔_, _⊎_, inl, inr}
-use mathlib.Core.Bool.{Bool, true, false}
+use mathlib.Core.Bool.{true, false}
 use mathlib.Core.List.{List, [], _∷_, _++_}
 use Prim.Native.Nat.{ℕ, _<_}
 use native.Mathlib.Omega.{arith}
 use lib.ListN.{length, drop}
-use Rattle.width_answer.specs.Answers.{refused, outcome, Answers, NoList, BadFound}
-use Rattle.width_answer.proofs.Meaning.{kind-of}
-use Rattle.tables.specs.Checks.{Row, firstRow, Arrays, queryRows}
-use Rattle.tables.specs.Tables.{Table, widthAt, Query, matrixOf, listRow, answerRows, partOf, notAWidth}
+use Rattle.walk.specs.Answers.{refused, outcome}
+use Rattle.walk.specs.Meaning.{AnsweredBy, NoList, BadFound}
+use Rattle.walk.proofs.Meaning.{kind-of}
+use Rattle.tables.specs.Checks.{firstRow, Arrays, queryRows}
+use Rattle.tables.specs.Tables.{Table, widthAt, Query, matrixOf, listRow, partOf, notAWidth, limitsAt, partAt}
 use Rattle.tables.specs.Built.{Built}
 use Rattle.tables.specs.Demand3.{Gives, GivesNone, Refuses, NotRefused}
-use Rattle.tables.proofs.Rows.{first-here, first-past}
-use Rattle.tables.proofs.Replies.{number-of, rowOfAnswer, Case, not-a-width, part-asked, by-row, row-refuses, width-none, width-asked, cases}
+use Rattle.tables.specs.Exactly.{cause, First, queryCauses}
+use Rattle.tables.proofs.Causes.{is-lt, InWords, done, more, words-append, first-to, first-from}
+use Rattle.tables.proofs.InWords.{query-in-words}
+use Rattle.tables.proofs.Replies.{number-of, rowOfAnswer, ReplyCase, not-a-width, part-asked, by-row, row-refuses, width-none, width-asked, cases}
 use Rattle.tables.proofs.Replies.{gives-asked, asked-means, gives-answers}
 use Rattle.tables.proofs.OfBuilt.{rows-are}
 use Rattle.tables.proofs.Demand3.{demand}
-
--- ---- "Rows of a place are tried top down."
-
--- a row of the number r holds, and no row before it does
-abbrev pub FirstIs : ℕ → List Row → Type 0
-FirstIs r [] = ⊥
-FirstIs r (x ∷ rs) = ((x .holds ≡ true) × (x .number ≡ r)) ⊎ ((x .holds ≡ false) × FirstIs r rs)
-
--- one row before the rest
-one-more : (x : Row) (rs : List Row) (r : ℕ) → (firstRow rs ≡ r) ↔ FirstIs r rs → (firstRow (x ∷ rs) ≡ r) ↔ FirstIs r (x ∷ rs)
-one-more x rs r later = (to (x .holds) refl, from)
-  where
-    to : (b : Bool) → x .holds ≡ b → firstRow (x ∷ rs) ≡ r → FirstIs r (x ∷ rs)
-    to true e f = inl (e, sym (first-here x rs e) ∙ f)
-    to false e f = inr (e, later .0 (sym (first-past x rs e) ∙ f))
-
-    from : FirstIs r (x ∷ rs) → firstRow (x ∷ rs) ≡ r
-    from (inl (e, f)) = first-here x rs e ∙ f
-    from (inr (e, f)) = first-past x rs e ∙ later .1 f
-
-pub first-exactly : (rs : List Row) (r : ℕ) → 0 < r → (firstRow rs ≡ r) ↔ FirstIs r rs
-unfolding firstRow
-first-exactly [] r p = (λ e. absurd (omega arith), λ f. absurd f)
-first-exactly (x ∷ rs) r p = one-more x rs r (first-exactly rs r p)
 
 -- ---- a lent table
 
 module _ (t : Table) (a : Arrays) (q : Query) (out : List ℕ) where
   -- the part of the query's width
-  abbrev f : List ℕ
-  f = partOf (q .width) (t .limits .entries) (a .prints)
-
-  abbrev u : List ℕ
-  u = partOf (q .width) (t .limits .entries) (a .parents)
-
-  abbrev c : List ℕ
-  c = partOf (q .width) (t .limits .entries) (a .codes)
-
   abbrev BadPart : Type 0
-  BadPart = BadFound f u c (widthAt t (q .width) .count) (q .width) (t .limits .basis) (t .limits .gates) (matrixOf q)
+  BadPart = BadFound (limitsAt (t .limits) (q .width)) (partAt t a (q .width)) (matrixOf q)
 
   abbrev NoPart : Type 0
-  NoPart = NoList f u c (widthAt t (q .width) .count) (q .width) (t .limits .basis) (t .limits .gates) (matrixOf q)
+  NoPart = NoList (limitsAt (t .limits) (q .width)) (partAt t a (q .width)) (matrixOf q)
 
   -- a refusal comes from the first row that holds, or is 13 for the chain found
   data Refusal (r : ℕ) : Type 0 where
@@ -69,32 +39,10 @@ module _ (t : Table) (a : Arrays) (q : Query) (out : List ℕ) where
   refused-by : (r : ℕ) → Refuses t a q out r → Refusal r
   refused-by r n = by (cases t a q out)
     where
-      by : Case t a q out → Refusal r
+      by : ReplyCase t a q out → Refusal r
       by (not-a-width e w m) = absurd (omega (arith, kind-of (sym m ∙ n)))
       by (part-asked e w p) = let x = asked-means t a q out .is-refused r 0 out .0 (sym p ∙ n) in chain-bad (x .1) e w (x .0)
       by (by-row s h e m) = let z = number-of (sym m ∙ n) in row-holds (omega arith) (e ∙ z)
-
-  -- a number other than 13 is told exactly where its row is the first that holds
-  pub refused-exactly : (r : ℕ) → 0 < r → (r ≡ 13 → ⊥) → Refuses t a q out r ↔ FirstIs r (answerRows t a q out)
-  refused-exactly r p d = (λ n. to (refused-by r n), λ w. row-refuses t a q out r p (first-exactly (answerRows t a q out) r p .1 w))
-    where
-      to : Refusal r → FirstIs r (answerRows t a q out)
-      to (row-holds h e) = first-exactly (answerRows t a q out) r p .0 e
-      to (chain-bad z e w x) = absurd (d z)
-
-  -- 13 is told exactly where its row is the first that holds, or no row holds and the walk from the node found meets a fault
-  pub refused-13 : Refuses t a q out 13
-      ↔ (FirstIs 13 (answerRows t a q out) ⊎ ((rowOfAnswer t a q out ≡ 0) × (notAWidth t q ≡ false) × BadPart))
-  refused-13 = (λ n. to (refused-by 13 n), from)
-    where
-      to : Refusal 13
-          → FirstIs 13 (answerRows t a q out) ⊎ ((rowOfAnswer t a q out ≡ 0) × (notAWidth t q ≡ false) × BadPart)
-      to (row-holds h e) = inl (first-exactly (answerRows t a q out) 13 (omega arith) .0 e)
-      to (chain-bad z e w x) = inr (e, w, x)
-
-      from : FirstIs 13 (answerRows t a q out) ⊎ ((rowOfAnswer t a q out ≡ 0) × (notAWidth t q ≡ false) × BadPart) → Refuses t a q out 13
-      from (inl w) = row-refuses t a q out 13 (omega arith) (first-exactly (answerRows t a q out) 13 (omega arith) .1 w)
-      from (inr (e, w, x)) = width-asked t a q out e w ∙ asked-means t a q out .is-refused 13 0 out .1 (x, refl, refl, refl)
 
   -- none is told exactly where no row holds, and the table has not the width or the part of the width has no list
   pub none-exactly : GivesNone t a q out ↔ ((rowOfAnswer t a q out ≡ 0) × ((notAWidth t q ≡ true) ⊎ ((notAWidth t q ≡ false) × NoPart)))
@@ -103,7 +51,7 @@ module _ (t : Table) (a : Arrays) (q : Query) (out : List ℕ) where
       to : GivesNone t a q out → (rowOfAnswer t a q out ≡ 0) × ((notAWidth t q ≡ true) ⊎ ((notAWidth t q ≡ false) × NoPart))
       to n = by (cases t a q out)
         where
-          by : Case t a q out → (rowOfAnswer t a q out ≡ 0) × ((notAWidth t q ≡ true) ⊎ ((notAWidth t q ≡ false) × NoPart))
+          by : ReplyCase t a q out → (rowOfAnswer t a q out ≡ 0) × ((notAWidth t q ≡ true) ⊎ ((notAWidth t q ≡ false) × NoPart))
           by (not-a-width e w m) = (e, inl w)
           by (part-asked e w p) = (e, inr (w, asked-means t a q out .is-none out .0 (sym p ∙ n) .0))
           by (by-row s h e m) = absurd (omega (arith, kind-of (sym m ∙ n)))
@@ -115,7 +63,7 @@ module _ (t : Table) (a : Arrays) (q : Query) (out : List ℕ) where
   -- a list is given exactly where no row holds, the table has the width, and the part of the width has the list
   pub gives-exactly : (l : List ℕ) → Gives t a q out l
       ↔ ((rowOfAnswer t a q out ≡ 0) × (notAWidth t q ≡ false)
-      × Answers f u c (widthAt t (q .width) .count) (q .width) (t .limits .basis) (t .limits .gates) (matrixOf q) l)
+      × AnsweredBy (limitsAt (t .limits) (q .width)) (partAt t a (q .width)) (matrixOf q) l)
   gives-exactly l = (
     (λ g. let (e, w, p) = gives-asked t a q out l g in (e, w, gives-answers t a q out l g)),
     (λ x. width-asked t a q out (x .0) (x .1) ∙ asked-means t a q out .is-list (length l) (l ++ drop (length l) out) .1 (l, x .2, refl, refl)),
@@ -123,20 +71,17 @@ module _ (t : Table) (a : Arrays) (q : Query) (out : List ℕ) where
 
   -- ---- a built table: the query's rows and the list's are all
 
-  pub refused-built : Built t a → (r : ℕ) → 0 < r
-      → Refuses t a q out r ↔ FirstIs r (queryRows (q .width) (q .exponent) (q .bytes) ++ (listRow t out ∷ []))
-  refused-built b r p = (
-    (λ n. x .0 (sym (rows-are t a b q out) ∙ to n (refused-by r n))),
-    (λ w. row-refuses t a q out r p (rows-are t a b q out ∙ x .1 w)),
+  pub refused-built : Built t a → (r : ℕ) → Refuses t a q out r ↔ First r 0 (queryCauses q ++ (cause 12 (length out < t .limits .gates) ∷ []))
+  refused-built b r = (
+    (λ n. let (h, e) = to n (refused-by r n) in first-to words r h (sym (rows-are t a b q out) ∙ e)),
+    (λ w. let (e, h, z) = first-from words r 0 w in row-refuses t a q out r h (rows-are t a b q out ∙ e)),
   )
     where
-      x : (firstRow (queryRows (q .width) (q .exponent) (q .bytes) ++ (listRow t out ∷ [])) ≡ r)
-          ↔ FirstIs r (queryRows (q .width) (q .exponent) (q .bytes) ++ (listRow t out ∷ []))
-      x = first-exactly (queryRows (q .width) (q .exponent) (q .bytes) ++ (listRow t out ∷ [])) r p
+      words : InWords (queryRows (q .width) (q .exponent) (q .bytes) ++ (listRow t out ∷ [])) (queryCauses q ++ (cause 12 (length out < t .limits .gates) ∷ []))
+      words = words-append (query-in-words q) (more 12 (omega arith) (is-lt (length out) (t .limits .gates)) done)
 
-      to : Refuses t a q out r → Refusal r
-          → rowOfAnswer t a q out ≡ r
-      to n (row-holds h e) = e
+      to : Refuses t a q out r → Refusal r → (0 < r) × (rowOfAnswer t a q out ≡ r)
+      to n (row-holds h e) = (h, e)
       to n (chain-bad z e w x) = absurd (demand .never-13 t a b q out (n ∙ ap (λ (s : ℕ). outcome (refused s 0) out) z))
 
   -- a query that none of these rows refuses is not refused

@@ -8,11 +8,11 @@ use native.Mathlib.Omega.{arith}
 use borrow.Author.Tests.{ne-eqb}
 use lib.ListN.{length, take, drop}
 use lib.Seq.{take-at}
-use Rattle.width_answer.specs.Answers.{Reply, given, none, refused, Outcome, outcome, Answers, Means, Right}
-use Rattle.width_answer.proofs.Meaning.{kind, size, kind-of, means}
-use Rattle.width_answer.proofs.Told.{answers-right}
+use Rattle.walk.specs.Answers.{Reply, given, none, refused, Outcome, outcome}
+use Rattle.walk.specs.Meaning.{AnsweredBy, Means, Right}
+use Rattle.walk.proofs.Meaning.{kind, size, kind-of, means, answers-right}
 use Rattle.tables.specs.Checks.{firstRow, Arrays}
-use Rattle.tables.specs.Tables.{Table, widthAt, Query, matrixOf, answerRows, partOf, partAsked, notAWidth, repliedBy, synthesized}
+use Rattle.tables.specs.Tables.{Table, widthAt, Query, matrixOf, answerRows, partOf, partAsked, notAWidth, repliedBy, synthesized, limitsAt, partAt}
 use Rattle.tables.specs.Demand3.{Gives, GivesNone, Refuses, NotRefused, Decided, a-list, no-list, a-refusal}
 
 -- ---- one answer is one case alone
@@ -44,10 +44,10 @@ module _ (t : Table) (a : Arrays) (q : Query) (out : List ℕ) where
   abbrev pub rowOfAnswer : ℕ
   rowOfAnswer = firstRow (answerRows t a q out)
 
-  pub data Case : Type 0 where
-    not-a-width : rowOfAnswer ≡ 0 → notAWidth t q ≡ true → GivesNone t a q out → Case
-    part-asked : rowOfAnswer ≡ 0 → notAWidth t q ≡ false → synthesized t a q out ≡ partAsked t a q out → Case
-    by-row : (r : ℕ) → 0 < r → rowOfAnswer ≡ r → Refuses t a q out r → Case
+  pub data ReplyCase : Type 0 where
+    not-a-width : rowOfAnswer ≡ 0 → notAWidth t q ≡ true → GivesNone t a q out → ReplyCase
+    part-asked : rowOfAnswer ≡ 0 → notAWidth t q ≡ false → synthesized t a q out ≡ partAsked t a q out → ReplyCase
+    by-row : (r : ℕ) → 0 < r → rowOfAnswer ≡ r → Refuses t a q out r → ReplyCase
 
   -- ---- from the rows to the answer
 
@@ -63,14 +63,14 @@ module _ (t : Table) (a : Arrays) (q : Query) (out : List ℕ) where
   unfolding synthesized
   width-asked e f = ap (repliedBy t a q out) e ∙ rw f
 
-  pub cases : Case
+  pub cases : ReplyCase
   cases = by rowOfAnswer refl
     where
-      at : rowOfAnswer ≡ 0 → (b : Bool) → notAWidth t q ≡ b → Case
+      at : rowOfAnswer ≡ 0 → (b : Bool) → notAWidth t q ≡ b → ReplyCase
       at e true f = not-a-width e f (width-none e f)
       at e false f = part-asked e f (width-asked e f)
 
-      by : (r : ℕ) → rowOfAnswer ≡ r → Case
+      by : (r : ℕ) → rowOfAnswer ≡ r → ReplyCase
       by zero e = at e (notAWidth t q) refl
       by (suc r) e = by-row (suc r) (omega arith) e (row-refuses (suc r) (omega arith) e)
 
@@ -81,7 +81,7 @@ module _ (t : Table) (a : Arrays) (q : Query) (out : List ℕ) where
       → (rowOfAnswer ≡ 0) × (notAWidth t q ≡ false) × (partAsked t a q out ≡ outcome (given (length l)) (l ++ drop (length l) out))
   gives-asked l g = by cases
     where
-      by : Case → (rowOfAnswer ≡ 0) × (notAWidth t q ≡ false) × (partAsked t a q out ≡ outcome (given (length l)) (l ++ drop (length l) out))
+      by : ReplyCase → (rowOfAnswer ≡ 0) × (notAWidth t q ≡ false) × (partAsked t a q out ≡ outcome (given (length l)) (l ++ drop (length l) out))
       by (not-a-width e f n) = not-given (omega arith) (sym n ∙ g)
       by (part-asked e f p) = (e, f, sym p ∙ g)
       by (by-row r h e n) = not-given (omega arith) (sym n ∙ g)
@@ -90,18 +90,15 @@ module _ (t : Table) (a : Arrays) (q : Query) (out : List ℕ) where
   pub no-row : NotRefused t a q out → rowOfAnswer ≡ 0
   no-row h = by cases
     where
-      by : Case → rowOfAnswer ≡ 0
+      by : ReplyCase → rowOfAnswer ≡ 0
       by (not-a-width e f n) = e
       by (part-asked e f p) = e
       by (by-row r p e n) = absurd (h r n)
 
   -- ---- what the part of the width answers
 
-  abbrev pub asked-means : Means (partOf (q .width) (t .limits .entries) (a .prints)) (partOf (q .width) (t .limits .entries) (a .parents))
-      (partOf (q .width) (t .limits .entries) (a .codes)) (widthAt t (q .width) .count) (q .width) (t .limits .basis) (t .limits .gates) (matrixOf q) out
-  asked-means =
-      means (partOf (q .width) (t .limits .entries) (a .prints)) (partOf (q .width) (t .limits .entries) (a .parents))
-      (partOf (q .width) (t .limits .entries) (a .codes)) (widthAt t (q .width) .count) (q .width) (t .limits .basis) (t .limits .gates) (matrixOf q) out
+  abbrev pub asked-means : Means (limitsAt (t .limits) (q .width)) (partAt t a (q .width)) (matrixOf q) out
+  asked-means = means (limitsAt (t .limits) (q .width)) (partAt t a (q .width)) (matrixOf q) out
 
   pub decided : Decided t a q out
   decided = by cases
@@ -119,20 +116,19 @@ module _ (t : Table) (a : Arrays) (q : Query) (out : List ℕ) where
           let (w, x, y, h) = asked-means .is-refused r i (partAsked t a q out .list) .0 f in
           a-refusal r (p ∙ f ∙ (λ k. outcome (refused r (y k)) (h k)))
 
-      by : Case → Decided t a q out
+      by : ReplyCase → Decided t a q out
       by (not-a-width e f n) = no-list n
       by (part-asked e f p) = at p (partAsked t a q out .reply) refl
       by (by-row r h e n) = a-refusal r n
 
   -- the list given is the part's
   pub gives-answers : (l : List ℕ) → Gives t a q out l
-      → Answers (partOf (q .width) (t .limits .entries) (a .prints)) (partOf (q .width) (t .limits .entries) (a .parents))
-      (partOf (q .width) (t .limits .entries) (a .codes)) (widthAt t (q .width) .count) (q .width) (t .limits .basis) (t .limits .gates) (matrixOf q) l
+      → AnsweredBy (limitsAt (t .limits) (q .width)) (partAt t a (q .width)) (matrixOf q) l
   gives-answers l g =
       let (m, w, z, h) = asked-means .is-list (length l) (l ++ drop (length l) out) .0 (gives-asked l g .2) in
       let e : l ≡ m = one-list l m out ((λ k. outcome (given (z k)) (h k)) ∙ ap (λ (j : ℕ). outcome (given (length m)) (m ++ drop j out)) z) in
-      subst (Answers _ _ _ _ _ _ _ _) (sym e) w
+      subst (AnsweredBy _ _ _) (sym e) w
 
   -- (a), and that the matrix asked is unitary
   pub gives-right : (l : List ℕ) → Gives t a q out l → Right (q .width) (t .limits .basis) (t .limits .gates) (matrixOf q) l
-  gives-right l g = answers-right _ _ _ _ _ _ _ _ (gives-answers l g)
+  gives-right l g = answers-right _ _ _ (gives-answers l g)

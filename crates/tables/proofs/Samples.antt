@@ -21,7 +21,8 @@ use Rattle.circuit.specs.Kinds.{kindAt, number, arity, sorted, isKind, dual}
 use Rattle.circuit.specs.Codes.{placed, rises, valid, validFor}
 use Rattle.circuit.specs.Pairs.{inverse, qubits, disjoint}
 use Rattle.generators.specs.Generators.{kept, generators}
-use Rattle.exact.specs.Matrix.{Exact, identity, lower, Equal, PowerOf}
+use Rattle.exact.specs.Matrix.{Exact, identity, lower, PowerOf}
+use Rattle.exact.proofs.Words.{Equal}
 use Rattle.exact.specs.Unitary.{conj, inner, Unitary}
 use Rattle.exact.specs.Rows.{flip, column, gateOf}
 use Rattle.exact.specs.Lists.{product}
@@ -29,19 +30,20 @@ use Rattle.exact.specs.Fits.{stepFits, steps}
 use Rattle.exact.specs.Phase.{pivot, phaseOf, upToPhase}
 use Rattle.exact.specs.Fingerprint.{mix, fold, fingerprint}
 use Rattle.exact.specs.Places.{entry}
-use Rattle.synthesis_arena.specs.Lookup.{lowestFrom}
-use Rattle.synthesis_arena.specs.Chains.{marked, chainOf}
+use Rattle.walk.specs.Lookup.{lowestFrom}
+use Rattle.walk.specs.Chains.{marked, chainOf}
 use Rattle.walk.specs.Walk.{skipped, try, tryAll, layer, deeper, depths, walk}
-use Rattle.walk.specs.Answer.{recheck, answerBy}
-use Rattle.walk.specs.AtWidth.{samePrint, atWidth, built, ListOf, NoSharedPrint, SkippedRightly, answered}
+use Rattle.exact.proofs.Listed.{product-nil}
+use Rattle.walk.proofs.Nodewise.{recheck, answerBy, answered}
+use Rattle.walk.specs.AtWidth.{samePrint, atWidth, built, ListOf, NoSharedPrint, printOf}
+use Rattle.walk.specs.Known.{SkippedRightly}
 use Rattle.walk.proofs.Nodes.{first}
 use Rattle.walk.proofs.Layers.{walk-shape}
 use Rattle.walk.proofs.Known.{present-no-clash}
 use Rattle.walk.proofs.Exactly.{no-clash}
 use Rattle.walk.proofs.NotEmpty.{no-shared, unsaturated}
-use Rattle.width_table.specs.Table.{printOf}
-use Rattle.width_answer.specs.Answers.{rechecked, answerOf}
-use Rattle.width_answer.proofs.Meaning.{kind-of}
+use Rattle.walk.specs.Answers.{rechecked, answerOf}
+use Rattle.walk.proofs.Meaning.{kind-of}
 use Rattle.tables.specs.Checks.{firstRow, Limits, limitRows, Arrays, placesOf, roomRow, anyBelow, queryRows}
 use Rattle.tables.specs.Tables.{recordOf, builtTo, buildRows, Query, matrixOf, listRow, synthesized}
 use Rattle.tables.specs.Built.{Built}
@@ -231,7 +233,7 @@ unfolding recordOf
 not-a-table b =
     let f = first (atWidth 1 2) (walk-shape (atWidth 1 2) 8 2 .layered .grown) in
     let e = b .nodes 1 (omega arith) (omega arith) 0 (f .0) .print in
-    clash (eq-eqb 7 (fingerprint 1 identity) (e ∙ ap (printOf 1 2) (f .1))) (computed .root-print)
+    clash (eq-eqb 7 (fingerprint 1 identity) (e ∙ ap (printOf 1) (f .1) ∙ ap (fingerprint 1) (product-nil 1))) (computed .root-print)
 
 damaged-right : PowerOf 1 (matrixOf askX) (product 1 (4096 ∷ [])) × Unitary 1 (matrixOf askX)
 damaged-right = (
@@ -259,6 +261,7 @@ samples = record {
   none-t = λ a p out h. none-t a p out h;
   no-t = λ a p m r h. no-t a p m r h;
   no-smaller = no-smaller;
+  same-limits = λ l. record { basis = refl; qubits = omega arith; gates = omega arith; entries = omega arith };
   larger-table = λ a p. larger-table a p;
   larger-x = λ a p out h. larger-x a p out h;
   larger-12 = λ a p out h. larger-12 a p out h;

@@ -1,21 +1,22 @@
--- "A built table". Assumes nothing.
+-- A built table (SPECIFICATION 8.11). It is said of the places that hold nodes, not as the result of a call, so that the other places may hold
+-- anything, and copied arrays are a built table too. Assumes nothing.
 use mathlib.Core.Path.{_≡_}
 use mathlib.Core.Bool.{false}
 use Prim.Native.Nat.{ℕ, _+_, _*_, _-_, _≤_, _<_}
 use lib.ListN.{length, getD}
 use Rattle.walk.specs.Walk.{root, gate}
-use Rattle.width_table.specs.Table.{printOf, parentOf}
+use Rattle.walk.specs.AtWidth.{printOf, parentOf}
 use Rattle.tables.specs.Checks.{firstRow, Limits, limitRows, Arrays, roomRow}
 use Rattle.tables.specs.Tables.{Table, recordOf, walkOf}
 
--- the place of node j of width w holds the node: its fingerprint, its parent and its gate
+-- the place of node j of width w holds the node: its fingerprint, its parent and its gate (SPECIFICATION 6.11)
 pub record HoldsNode (l : Limits) (a : Arrays) (w j : ℕ) : Type 0 where
-  pub print : getD (a .prints) ((w - 1) * l .entries + j) 0 ≡ printOf w (l .basis) (getD (walkOf l w .nodes) j root)
+  pub print : getD (a .prints) ((w - 1) * l .entries + j) 0 ≡ printOf w (getD (walkOf l w .nodes) j root)
   pub parent : getD (a .parents) ((w - 1) * l .entries + j) 0 ≡ parentOf (getD (walkOf l w .nodes) j root)
   pub code : getD (a .codes) ((w - 1) * l .entries + j) 0 ≡ gate (getD (walkOf l w .nodes) j root)
 
--- "A built table: the record that a build returned without refusal, and three arrays of at least Q × E places whose filled places hold the
--- nodes of its walk, as that build left them. All other places may hold anything."
+-- no row refuses the limits, the record is what a build of them returns, the arrays have room, and the place of each node holds it
+-- (SPECIFICATION 8.11)
 pub record Built (t : Table) (a : Arrays) : Type 0 where
   pub accepted : firstRow (limitRows (t .limits)) ≡ 0
   pub returned : t ≡ recordOf (t .limits)

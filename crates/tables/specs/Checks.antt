@@ -1,4 +1,5 @@
--- Document 01's table "Checked, and where": rows 1 to 5, and a query's rows 6, 9, 10, 11. Rows 12 and 13 are in Tables.antt. Assumes nothing.
+-- The table of refusals (SPECIFICATION 9.1): rows 1 to 5, and a query's rows 6, 9, 10, 11; rows 12 and 13 are in Tables.antt. A row is a test
+-- and a number, and rows stand in the order in which they are tried, so that an order is read off a list. Assumes nothing.
 use mathlib.Core.Bool.{Bool, false, not, _&&_, _||_}
 use mathlib.Core.List.{List, [], _∷_}
 use Prim.Native.Nat.{ℕ, _*_, _^_}
@@ -11,7 +12,7 @@ use Rattle.circuit.specs.Sets.{supported, subset}
 use Rattle.exact.specs.Matrix.{allDivisible}
 use Rattle.exact.specs.Places.{read}
 
--- ---- "Rows of a place are tried top down."
+-- ---- rows: the first that holds is told (SPECIFICATION 9.2)
 
 -- a row: its condition and its number
 pub record Row : Type 0 where
@@ -28,7 +29,7 @@ firstRow (r ∷ rs) = pick (r .holds) (r .number) (firstRow rs)
 
 -- ---- the four limits
 
--- "Width limit Q", "Gate limit G", "Entry limit E", "Basis B": each a 32-bit number
+-- the width limit Q, the gate limit G, the entry limit E and the basis B (SPECIFICATION 6.1)
 pub record Limits : Type 0 where
   pub qubits : ℕ
   pub gates : ℕ
@@ -38,7 +39,7 @@ pub record Limits : Type 0 where
 abbrev pub limitsOf : ℕ → ℕ → ℕ → ℕ → Limits
 limitsOf q g e b = record { qubits = q; gates = g; entries = e; basis = b }
 
--- rows 1 to 4: "Q outside 1 to 5"; "E is 0"; "B is 0 or has a bit outside 3967"; "G above 64 or E above 1,000,000"
+-- rows 1 to 4: Q not from 1 to 5; no entries; B empty, or not all of it supported; G or E too large (SPECIFICATION 9.1)
 abbrev pub limitRows : Limits → List Row
 limitRows l =
     row (eqb (l .qubits) 0 || ltb 5 (l .qubits)) 1 ∷ row (eqb (l .entries) 0) 2 ∷ row (eqb (l .basis) 0 || not (subset (l .basis) supported)) 3
@@ -46,6 +47,7 @@ limitRows l =
 
 -- ---- the three arrays
 
+-- fingerprints, parents and codes, each as long as the caller has made it (SPECIFICATION 6.2)
 pub record Arrays : Type 0 where
   pub prints : List ℕ
   pub parents : List ℕ
@@ -54,30 +56,30 @@ pub record Arrays : Type 0 where
 abbrev pub arrays : List ℕ → List ℕ → List ℕ → Arrays
 arrays f u c = record { prints = f; parents = u; codes = c }
 
--- how many places a table has
+-- how many places a table has in each array (SPECIFICATION 6.2)
 abbrev pub placesOf : Limits → ℕ
 placesOf l = l .qubits * l .entries
 
--- "an array shorter than Q × E": by the lengths of the three
+-- one of three arrays of these lengths has fewer places than that
 abbrev pub tooShort : Limits → ℕ → ℕ → ℕ → Bool
 tooShort l f u c = ltb f (placesOf l) || (ltb u (placesOf l) || ltb c (placesOf l))
 
--- row 5
+-- row 5 (SPECIFICATION 9.1)
 abbrev pub roomRow : Limits → Arrays → Row
 roomRow l a = row (tooShort l (length (a .prints)) (length (a .parents)) (length (a .codes))) 5
 
 -- ---- a query
 
--- "exactly 4 × 4^n"
+-- how many coefficients a matrix of width n has (SPECIFICATION 1.7)
 abbrev pub byteCount : ℕ → ℕ
 byteCount n = 4 * 4 ^ n
 
--- "a coefficient of -128": one below the limit's negative
+-- some coefficient is -128, one below the limit's negative (SPECIFICATION 1.3)
 unfoldable pub anyBelow : List ℤ → Bool
 anyBelow [] = false
 anyBelow (x ∷ l) = eqZ x (negsuc limit) || anyBelow l
 
--- rows 6, 9, 10, 11: "width above 5"; "bytes lent not exactly 4 × 4^n"; "a coefficient of -128"; "k > 0 and all entries divisible"
+-- rows 6, 9, 10, 11: the width is too large; the coefficients are not as many as they must be; one is -128; not in lowest denominator
 abbrev pub queryRows : ℕ → ℕ → List ℤ → List Row
 queryRows n k bytes =
     row (ltb 5 n) 6 ∷ row (not (eqb (length bytes) (byteCount n))) 9 ∷ row (anyBelow bytes) 10 ∷ row (ltb 0 k && allDivisible n (read n bytes)) 11 ∷ []

@@ -1,18 +1,17 @@
--- Demand 3 and what stands beside it, of what the public entries answer: `build` answers `buildOf`, and `synthesize` answers `synthesized`, for
--- every input. Lists are oldest gate first. Assumes nothing.
+-- Demand 3, of what the public entries answer: `build` answers `buildOf`, and `synthesize` answers `synthesized`, for every input. Its parts
+-- are (a) an answer is right, (b) larger tables agree, (c) shortest, and what none means (SPECIFICATION 8.3 to 8.5), and (d) what follows of
+-- matrices that are not unitary and of built tables (7.8). Lists are oldest gate first. Assumes nothing.
 use mathlib.Core.Path.{_≡_}
 use mathlib.Core.Logic.{_↔_, _⊎_}
 use mathlib.Core.Bool.{false}
 use mathlib.Core.List.{List, _++_}
-use Prim.Native.Nat.{ℕ, suc, _≤_, _<_}
-use lib.ListN.{length, getD, drop}
+use Prim.Native.Nat.{ℕ, _≤_, _<_}
+use lib.ListN.{length, drop}
 use Rattle.exact.specs.Matrix.{PowerOf}
 use Rattle.exact.specs.Lists.{product}
 use Rattle.exact.specs.Unitary.{Unitary}
-use Rattle.walk.specs.Walk.{root, listAt, parentAt}
-use Rattle.walk.specs.AtWidth.{ListOf, NoSharedPrint, SkippedRightly}
-use Rattle.width_table.specs.Table.{printOf}
-use Rattle.width_answer.specs.Answers.{given, none, refused, outcome}
+use Rattle.walk.specs.AtWidth.{ListOf, NoSharedPrint}
+use Rattle.walk.specs.Answers.{given, none, refused, outcome}
 use Rattle.tables.specs.Checks.{Limits, Arrays}
 use Rattle.tables.specs.Tables.{Table, walkOf, table, refusal, left, buildOf, widthAt, Query, matrixOf, synthesized}
 use Rattle.tables.specs.Built.{Built}
@@ -20,29 +19,29 @@ use Rattle.tables.specs.Built.{Built}
 -- ---- what a table answers
 
 module _ (t : Table) (a : Arrays) (q : Query) (out : List ℕ) where
-  -- the list l: it fills the first places of the lent list, and the later ones keep their content
+  -- the list l, which is written over the beginning of the lent list; the later places keep what they held (SPECIFICATION 7.7)
   abbrev pub Gives : List ℕ → Type 0
   Gives l = synthesized t a q out ≡ outcome (given (length l)) (l ++ drop (length l) out)
 
-  -- none, and the lent list keeps its content
+  -- none, and the lent list keeps what it held
   abbrev pub GivesNone : Type 0
   GivesNone = synthesized t a q out ≡ outcome none out
 
-  -- a refusal, and the lent list keeps its content
+  -- a refusal, and the lent list keeps what it held
   abbrev pub Refuses : ℕ → Type 0
   Refuses r = synthesized t a q out ≡ outcome (refused r 0) out
 
-  -- "a matrix that is not refused"
+  -- there is no refusal, by any number
   abbrev pub NotRefused : Type 0
   NotRefused = (r : ℕ) → Refuses r → ⊥
 
-  -- there is no other answer: what a refused entry leaves is what it found
+  -- there is no other answer
   pub data Decided : Type 0 where
     a-list : (l : List ℕ) → Gives l → Decided
     no-list : GivesNone → Decided
     a-refusal : (r : ℕ) → Refuses r → Decided
 
--- "of that basis with no smaller limit": "Q, G and E are each at least the other table's"
+-- limits l′ of the same basis, none of them smaller than that of l (SPECIFICATION 8.12)
 pub record NoSmaller (l l′ : Limits) : Type 0 where
   pub basis : l′ .basis ≡ l .basis
   pub qubits : l .qubits ≤ l′ .qubits
@@ -52,65 +51,39 @@ pub record NoSmaller (l l′ : Limits) : Type 0 where
 -- ---- a list answered is shortest, none is told exactly where there is no list
 
 module _ (t : Table) (q : Query) where
-  -- m is a list of the table's basis at the query's width, and its product is a power of omega times the matrix asked
+  -- m is a list of the table's basis at the query's width, and its product is a power of omega times the matrix asked (SPECIFICATION 8.6, 8.9)
   pub record Reaches (m : List ℕ) : Type 0 where
     pub of-basis : ListOf (q .width) (t .limits .basis) m
     pub power : PowerOf (q .width) (matrixOf q) (product (q .width) m)
 
 module _ (t : Table) (a : Arrays) (q : Query) where
-  -- "a list answered is shortest: every list of that basis and width, of any length, whose product is a power of omega times the matrix has at
-  -- least as many gates"; "at a built width that is not saturated, a matrix that is not refused gets "none" exactly when no list of that basis
-  -- and width within the limit has such a product"
+  -- no list that reaches the matrix, however long, has fewer gates than the one given; and at a width that was built and is not saturated a
+  -- query that is not refused is given none exactly where no list within the gate limit reaches the matrix (SPECIFICATION 8.5, 8.13)
   pub record Complete : Type 0 where
     pub shortest : (out l : List ℕ) → Gives t a q out l → (m : List ℕ) → Reaches t q m → length l ≤ length m
-    pub none-exactly : 0 < q .width → q .width ≤ t .limits .qubits → walkOf (t .limits) (q .width) .saturated ≡ false
+    pub none-exactly : 0 < q .width → q .width ≤ t .limits .qubits → widthAt t (q .width) .saturated ≡ false
         → (out : List ℕ) → NotRefused t a q out → GivesNone t a q out ↔ ((m : List ℕ) → Reaches t q m → length m ≤ t .limits .gates → ⊥)
-
--- ---- the nodes of a width, in their order
-
--- a parent lies below its node, and parents never fall; the depth of a node is one more than its parent's, depths never fall and rise by at most
--- one, and none is above G; no two nodes have one fingerprint
-pub record Ordered (l : Limits) (w : ℕ) : Type 0 where
-  pub below : (j : ℕ) → 0 < j → j < length (walkOf l w .nodes) → parentAt (walkOf l w .nodes) j < j
-  pub parents-rise : (i j : ℕ) → 0 < i → i ≤ j → j < length (walkOf l w .nodes) → parentAt (walkOf l w .nodes) i ≤ parentAt (walkOf l w .nodes) j
-  pub one-deeper : (j : ℕ) → 0 < j → j < length (walkOf l w .nodes)
-      → length (listAt (walkOf l w .nodes) j) ≡ suc (length (listAt (walkOf l w .nodes) (parentAt (walkOf l w .nodes) j)))
-  pub depths-rise : (i j : ℕ) → i ≤ j → j < length (walkOf l w .nodes) → length (listAt (walkOf l w .nodes) i) ≤ length (listAt (walkOf l w .nodes) j)
-  pub depths-step : (j : ℕ) → suc j < length (walkOf l w .nodes) → length (listAt (walkOf l w .nodes) (suc j)) ≤ suc (length (listAt (walkOf l w .nodes) j))
-  pub short : (j : ℕ) → j < length (walkOf l w .nodes) → length (listAt (walkOf l w .nodes) j) ≤ l .gates
-  pub prints-differ : (i j : ℕ) → i < j → j < length (walkOf l w .nodes)
-      → printOf w (l .basis) (getD (walkOf l w .nodes) i root) ≡ printOf w (l .basis) (getD (walkOf l w .nodes) j root) → ⊥
 
 -- ---- the demand
 
 pub record Demand3 : Type 0 where
-  -- every input is decided, and a refusal leaves what it found
+  -- every input is decided, and a refusal leaves lent memory as it was (SPECIFICATION 9.4)
   pub decided : (t : Table) (a : Arrays) (q : Query) (out : List ℕ) → Decided t a q out
   pub build-refused : (l : Limits) (a b : Arrays) (r p : ℕ) → buildOf l a ≡ left (refusal r p) b → b ≡ a
-  -- (a) "Whatever the lent table holds, a gate list that it answers has a product equal to a power of omega times the matrix asked."; the list is
-  -- of the basis, valid, and at most G long
+  -- (a) whatever record and arrays are lent: the product of a list that is given is a power of omega times the matrix asked, and the list is
+  -- one of the basis at the width, of at most G gates (SPECIFICATION 8.3)
   pub right : (t : Table) (a : Arrays) (q : Query) (out l : List ℕ) → Gives t a q out l
       → PowerOf (q .width) (matrixOf q) (product (q .width) l) × ListOf (q .width) (t .limits .basis) l × (length l ≤ t .limits .gates)
-  -- a build that is not refused leaves a built table of its limits
+  -- a build that is not refused leaves a built table of its limits (SPECIFICATION 8.11)
   pub build-built : (l : Limits) (a b : Arrays) (t : Table) → buildOf l a ≡ left (table t) b → Built t b × (t .limits ≡ l)
-  -- (b) "Where a built table answers a list, every built table of that basis with no smaller limit gives that very list for the same matrix, or
-  -- refuses by 12."
+  -- (b) the list that a built table gives is given by each larger one too, or that one refuses by 12, since its gate limit wants a longer
+  -- lent list (SPECIFICATION 8.4)
   pub larger : (t t′ : Table) (a a′ : Arrays) → Built t a → Built t′ a′ → NoSmaller (t .limits) (t′ .limits) → (q : Query) (out out′ l : List ℕ)
       → Gives t a q out l → Gives t′ a′ q out′ l ⊎ Refuses t′ a′ q out′ 12
-  -- (c) "Suppose that a built table's gate limit is up to 13, and that no two lists of its basis at the matrix's width within that limit share a
-  -- fingerprint, unless one's product is a power of omega times the other's."
+  -- (c) up to 13 gates, where every step fits, and with no clash at the query's width (SPECIFICATION 8.5, 8.14)
   pub complete : (t : Table) (a : Arrays) → Built t a → t .limits .gates ≤ 13
       → (q : Query) → NoSharedPrint (q .width) (t .limits .basis) (t .limits .gates) → Complete t a q
-  -- the same, where every candidate of the walk that was skipped as known has a node present for it
-  pub complete-rightly : (t : Table) (a : Arrays) → Built t a → t .limits .gates ≤ 13
-      → (q : Query) → SkippedRightly (q .width) (t .limits .basis) (t .limits .gates) (t .limits .entries) → Complete t a q
-  -- (d) "A query need not be unitary; such a one gets none."; "Only caller-altered tables meet 13."; counts are at most E
+  -- (d) a query that gets a list is unitary, and one that is not gets none; a built table is never refused by 13 (SPECIFICATION 7.8)
   pub unitary : (t : Table) (a : Arrays) (q : Query) (out l : List ℕ) → Gives t a q out l → Unitary (q .width) (matrixOf q)
   pub not-unitary : (t : Table) (a : Arrays) (q : Query) (out : List ℕ) → NotRefused t a q out → (Unitary (q .width) (matrixOf q) → ⊥) → GivesNone t a q out
   pub never-13 : (t : Table) (a : Arrays) → Built t a → (q : Query) (out : List ℕ) → Refuses t a q out 13 → ⊥
-  pub counts : (t : Table) (a : Arrays) → Built t a → (w : ℕ) → 0 < w → w ≤ t .limits .qubits
-      → (0 < widthAt t w .count) × (widthAt t w .count ≤ t .limits .entries)
-  -- the nodes that a built table holds are in order
-  pub ordered : (t : Table) (a : Arrays) → Built t a → (w : ℕ) → 0 < w → w ≤ t .limits .qubits → Ordered (t .limits) w
-  -- the arrays hold the record's table exactly where a build of its limits in them returns the record and changes nothing
-  pub built-again : (t : Table) (a : Arrays) → Built t a ↔ (buildOf (t .limits) a ≡ left (table t) a)

@@ -1,4 +1,5 @@
--- Demand 3's statements speak of something: tables of X alone, whose every condition is met, and memory that no build left. Assumes nothing.
+-- Demand 3 is not vacuous: tables of X alone, which meet every condition of it, and memory that no build left, of which it says what it
+-- should (SPECIFICATION 8.14). Assumes nothing.
 use mathlib.Core.Path.{_≡_}
 use mathlib.Core.Bool.{false}
 use mathlib.Core.List.{List, [], _∷_}
@@ -6,11 +7,13 @@ use Prim.Native.Nat.{ℕ, _≤_, _<_}
 use lib.IntN.{pos}
 use lib.ListN.{length}
 use Rattle.circuit.specs.Codes.{mark}
-use Rattle.exact.specs.Matrix.{Equal, PowerOf}
+use Rattle.exact.specs.Matrix.{PowerOf}
+use Rattle.exact.proofs.Words.{Equal}
 use Rattle.exact.specs.Lists.{product}
 use Rattle.exact.specs.Unitary.{Unitary}
 use Rattle.exact.specs.Fingerprint.{fingerprint}
-use Rattle.walk.specs.AtWidth.{NoSharedPrint, SkippedRightly}
+use Rattle.walk.specs.AtWidth.{NoSharedPrint}
+use Rattle.walk.specs.Known.{SkippedRightly}
 use Rattle.tables.specs.Checks.{Limits, Arrays, arrays}
 use Rattle.tables.specs.Tables.{walkOf, recordOf, builtTo, table, left, buildOf, Query, query, matrixOf}
 use Rattle.tables.specs.Built.{Built}
@@ -18,7 +21,7 @@ use Rattle.tables.specs.Demand3.{Gives, GivesNone, Refuses, NotRefused, 
 
 -- ---- limits and arrays
 
--- "Q 1, B 2, G 8: .. E 2": basis 2 is X alone
+-- the smallest table with two nodes: basis 2 is X alone (SPECIFICATION 11.2)
 abbrev pub xLimits : Limits
 xLimits = record { qubits = 1; gates = 8; entries = 2; basis = 2 }
 
@@ -92,6 +95,8 @@ pub record Samples : Type 0 where
   pub no-t : (a : Arrays) → Places 2 a → (m : List ℕ) → Reaches (recordOf xLimits) askT m → length m ≤ 8 → ⊥
   -- (b): a larger table gives the same list where the lent list has G places, and refuses by 12 where it has fewer
   pub no-smaller : NoSmaller xLimits largerLimits
+  -- and any limits are no smaller than themselves
+  pub same-limits : (l : Limits) → NoSmaller l l
   pub larger-table : (a : Arrays) → Places 6 a → Built (recordOf largerLimits) (builtTo largerLimits 2 a)
   pub larger-x : (a : Arrays) → Places 6 a → (out : List ℕ) → 9 ≤ length out
       → Gives (recordOf largerLimits) (builtTo largerLimits 2 a) askX out (4096 ∷ [])

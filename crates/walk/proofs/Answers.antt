@@ -1,5 +1,5 @@
--- What a width answers: its product, for any nodes whatever; the same list for more nodes; the shortest list; and what "none" says.
--- Assumes nothing.
+-- What a width answers: a list with the product asked, for any nodes whatever; the same list for more nodes; the shortest list; and what none
+-- says. Assumes nothing.
 use mathlib.Core.Path.{_≡_, refl, sym, ap, _∙_, subst}
 use mathlib.Core.Logic.{⊎-elim, _↔_}
 use mathlib.Core.Bool.{Bool, true, false}
@@ -14,9 +14,9 @@ use lib.ListN.{length, getD}
 use Rattle.ints.proofs.Bools.{clash, and-right, and-both}
 use Rattle.exact.proofs.Values.{pick-ind}
 use Rattle.walk.specs.Walk.{Rules, Node, Build, root, listAt, prod}
-use Rattle.walk.specs.Answer.{lowest, stepsFit, recheck, answerBy, answersTo, answer}
-use Rattle.walk.specs.Grown.{Prefix, Grown, Layered}
-use Rattle.walk.specs.Words.{Laws, Over, Complete}
+use Rattle.walk.proofs.Nodewise.{lowest, stepsFit, recheck, answerBy, answersTo, answer}
+use Rattle.walk.proofs.Grown.{Prefix, Grown, Layered}
+use Rattle.walk.proofs.Laws.{Laws, Over, HasAll}
 use Rattle.walk.proofs.Sequences.{bool, lt-or, prefix-at, prefix-length}
 use Rattle.walk.proofs.Nodes.{over, fit, fresh, depths-rise}
 use Rattle.walk.proofs.Completeness.{prod-lowest}
@@ -116,9 +116,9 @@ module _ (R : Rules) where
           (λ (a : k ≤ i). omega arith) (lt-or i k) in
           hit-answer (answersTo R x) ns x (listAt ns k) (record { at = k; first = sym e; there = h; list = refl; right = passes b k h s })
 
-      -- Shortest, among lists of any length: a shorter list would have a node less deep, hence lower, that answers too; but the answering node is
-      -- the lowest
-      pub shortest : (b : Build) → Layered R b → Complete R Same (b .depth) (b .nodes) → (l : List ℕ) → answer R (b .nodes) x ≡ some l
+      -- Shortest, among lists of any length: a shorter list would have a node less deep, hence lower, that answers too; but the answering
+      -- node is the lowest
+      pub shortest : (b : Build) → Layered R b → HasAll R Same (b .depth) (b .nodes) → (l : List ℕ) → answer R (b .nodes) x ≡ some l
           → (m : List ℕ) → Over R m → Same (prod R m) x → length l ≤ length m
       shortest b i cp l e m o s =
           let ns : List Node = b .nodes in
@@ -133,8 +133,8 @@ module _ (R : Rules) where
           (λ (a : length l ≤ length m). a)
           (lt-or (length m) (length l))
 
-      -- "none" exactly when no list within the limit has the product
-      pub none-exactly : (G : ℕ) (ns : List Node) → Grown R ns → ((k : ℕ) → k < length ns → length (listAt ns k) ≤ G) → Complete R Same G ns
+      -- none exactly where no list of the basis within the gate limit has the product (SPECIFICATION 8.5)
+      pub none-exactly : (G : ℕ) (ns : List Node) → Grown R ns → ((k : ℕ) → k < length ns → length (listAt ns k) ≤ G) → HasAll R Same G ns
           → (answer R ns x ≡ none) ↔ ((m : List ℕ) → Over R m → length m ≤ G → Same (prod R m) x → ⊥)
       none-exactly G ns b h cp = (to, from)
         where

@@ -13,7 +13,7 @@ use lib.ListN.{length}
 use lib.Seq.{getD-append-seam}
 use Rattle.exact.proofs.Values.{pick-ind}
 use Rattle.walk.specs.Walk.{Rules, Node, State, any, root, listAt, prod, pruned, knows, candidate, skipped, child, try, tryAll, layer}
-use Rattle.walk.specs.Grown.{Prefix}
+use Rattle.walk.proofs.Grown.{Prefix}
 use Rattle.walk.proofs.Sequences.{or-false, or-cases, lt-or, any-true, any-at, length-snoc, prefix-refl, prefix-snoc, prefix-trans, prefix-at, prefix-length}
 
 -- t is what s has become: nodes were appended, and a saturated state is saturated still
@@ -103,7 +103,7 @@ module _ (R : Rules) where
     pub layer-later : (s : State) (k m : ℕ) → Later s (layer R most s k m)
     layer-later s k m = layer-keeps (λ j t. Later s t) k m (k + m) refl (λ j t g a b i p. later-trans p (try-later t j g)) (λ j t p. p) s (later-refl s)
 
-    -- ---- a saturated state stays as it is: "ends the width"
+    -- ---- a saturated state stays as it is (SPECIFICATION 6.8)
 
     pub try-saturated : (s : State) (k g : ℕ) → s .saturated ≡ true → try R most s k g ≡ s
     unfolding try

@@ -1,6 +1,6 @@
--- Breadth first with two skip rules misses nothing: once a depth is completed, every list of the basis within it has a node no deeper than the
--- list is long, whose product is a power of omega times the list's. It rests on the laws, on "every step fits" and on hypothesis K.
--- Assumes nothing.
+-- Layers with the two skip rules lose no product (SPECIFICATION 6.13): once a depth is completed, every list of the basis within it has a
+-- node no deeper than the list is long, whose product is a power of omega times the list's. It rests on the laws, on `AllFit` and on
+-- hypothesis K. Assumes nothing.
 use mathlib.Core.Path.{_≡_, refl, sym, ap, _∙_, subst}
 use mathlib.Core.Logic.{_⊎_, inl, inr, ⊎-elim}
 use mathlib.Core.Bool.{true, false, _&&_}
@@ -14,8 +14,9 @@ use lib.ListN.{length, getD}
 use Rattle.ints.proofs.Bools.{clash, both-true}
 use Rattle.exact.proofs.Values.{pick-ind}
 use Rattle.walk.specs.Walk.{Rules, Node, Build, any, root, listAt, prod, pruned, knows, candidate, isNil, begin, opened, ended, walked, deeper, depths, walk}
-use Rattle.walk.specs.Grown.{Prefix, Grown, Layered, Shape}
-use Rattle.walk.specs.Words.{Laws, Over, AllFit, Present, KnownIsPresent, Has, Complete}
+use Rattle.walk.proofs.Grown.{Prefix, Grown, Layered, Shape}
+use Rattle.walk.proofs.Laws.{Laws, Over, AllFit, Has, HasAll}
+use Rattle.walk.specs.Known.{Present, KnownIsPresent}
 use Rattle.walk.proofs.Sequences.{or-false, or-cases, bool, lt-or, any-true, prefix-at, prefix-length}
 use Rattle.walk.proofs.Candidates.{any-prefix, Dealt, layer-deals}
 use Rattle.walk.proofs.Nodes.{over, fresh}
@@ -69,11 +70,11 @@ module _ (R : Rules) (Same : R .Mat → R .Mat → Type 0) (W : Laws R Same) whe
 
   module _ (most : ℕ) (b : Build) (i : Layered R b) (f : b .saturated ≡ false) (af : AllFit R (suc (b .depth)))
       (uf : walked R most b .saturated ≡ false) (K : KnownIsPresent R Same (suc (b .depth)) (walked R most b .nodes))
-      (cp : Complete R Same (b .depth) (b .nodes)) where
+      (cp : HasAll R Same (b .depth) (b .nodes)) where
     after : List Node
     after = walked R most b .nodes
 
-    kept : Complete R Same (b .depth) after
+    kept : HasAll R Same (b .depth) after
     unfolding after
     kept l o h = has-prefix (walked-within R most b i f .prefix) l (cp l o h)
 
@@ -150,15 +151,15 @@ module _ (R : Rules) (Same : R .Mat → R .Mat → Type 0) (W : Laws R Same) whe
         tried g (n .0) m (n .1) (omega (arith, layered-deep R b i f (n .0) (n .1))) (λ h x. inner r h (omega arith)))
         (lt-or (length p) (b .depth)))
 
-    complete-walked : Complete R Same (suc (b .depth)) (walked R most b .nodes)
+    complete-walked : HasAll R Same (suc (b .depth)) (walked R most b .nodes)
     unfolding after
     complete-walked [] o h = kept [] o (omega arith)
     complete-walked (g ∷ l) o h = inner (W .bound) g (omega arith) (o .0) l (o .1) (omega arith)
 
   -- one depth keeps completeness, whether it comes to its end or not
   pub complete-deeper : (most : ℕ) (b : Build) → Layered R b → b .saturated ≡ false → AllFit R (suc (b .depth))
-      → KnownIsPresent R Same (deeper R most b .depth) (deeper R most b .nodes) → Complete R Same (b .depth) (b .nodes)
-      → Complete R Same (deeper R most b .depth) (deeper R most b .nodes)
+      → KnownIsPresent R Same (deeper R most b .depth) (deeper R most b .nodes) → HasAll R Same (b .depth) (b .nodes)
+      → HasAll R Same (deeper R most b .depth) (deeper R most b .nodes)
   complete-deeper most b i f af K cp =
       ⊎-elim
       (λ (e : deeper R most b .saturated ≡ true).
@@ -171,7 +172,7 @@ module _ (R : Rules) (Same : R .Mat → R .Mat → Type 0) (W : Laws R Same) whe
 
   -- ---- a width
 
-  pub begin-complete : Complete R Same 0 (root ∷ [])
+  pub begin-complete : HasAll R Same 0 (root ∷ [])
   begin-complete [] o h = (0, le-refl 1, le-refl 0, W .same-refl (R .one))
   begin-complete (g ∷ l) o h = absurd (omega arith)
 
@@ -186,10 +187,10 @@ module _ (R : Rules) (Same : R .Mat → R .Mat → Type 0) (W : Laws R Same) whe
 
   -- hypothesis K of a width makes it complete
   abbrev Enough : Build → Type 0
-  Enough b = Grown R (b .nodes) → KnownIsPresent R Same (b .depth) (b .nodes) → Complete R Same (b .depth) (b .nodes)
+  Enough b = Grown R (b .nodes) → KnownIsPresent R Same (b .depth) (b .nodes) → HasAll R Same (b .depth) (b .nodes)
 
   depths-complete : (G E m : ℕ) (b : Build) → AllFit R G → Layered R b → (b .saturated ≡ false → b .depth + m ≤ G)
-      → Complete R Same (b .depth) (b .nodes) → Enough (depths R E b m)
+      → HasAll R Same (b .depth) (b .nodes) → Enough (depths R E b m)
   unfolding depths
   depths-complete G E zero b af i q cp = λ gr K. cp
   depths-complete G E (suc m) b af i q cp =
@@ -202,7 +203,7 @@ module _ (R : Rules) (Same : R .Mat → R .Mat → Type 0) (W : Laws R Same) whe
       (present-before (d .depth) (depths R E d m .depth) (depths-prefix R E m d) gr (depth-rises E m d) K) cp) gr K)
 
   -- where the last depth added nothing, every list, however long, has its node
-  pub complete-closed : (b : Build) → Layered R b → b .last ≡ length (b .nodes) → Complete R Same (b .depth) (b .nodes)
+  pub complete-closed : (b : Build) → Layered R b → b .last ≡ length (b .nodes) → HasAll R Same (b .depth) (b .nodes)
       → (l : List ℕ) → Over R l → Has R Same (b .nodes) l
   complete-closed b i e cp [] o = cp [] o (omega arith)
   complete-closed b i e cp (g ∷ l) o =
@@ -217,7 +218,7 @@ module _ (R : Rules) (Same : R .Mat → R .Mat → Type 0) (W : Laws R Same) whe
 
   module _ (G E : ℕ) (af : AllFit R G) (K : KnownIsPresent R Same (walk R G E .depth) (walk R G E .nodes)) where
     -- every list of the basis within the completed depth has its node
-    pub complete : Complete R Same (walk R G E .depth) (walk R G E .nodes)
+    pub complete : HasAll R Same (walk R G E .depth) (walk R G E .nodes)
     unfolding walk
     complete = by (walk-shape R G E .layered .grown) K
       where
@@ -226,15 +227,15 @@ module _ (R : Rules) (Same : R .Mat → R .Mat → Type 0) (W : Laws R Same) whe
             pick-ind Enough (isNil (R .generators)) (λ e gr k. begin-complete)
             (λ e. depths-complete G E G begin af (begin-layered R) (λ z. omega arith) begin-complete)
 
-    -- at a width that is not saturated, every list of the basis within the limit has
-    pub complete-unsaturated : walk R G E .saturated ≡ false → Complete R Same G (walk R G E .nodes)
+    -- at a width that is not saturated, every list of the basis within the gate limit has
+    pub complete-unsaturated : walk R G E .saturated ≡ false → HasAll R Same G (walk R G E .nodes)
     complete-unsaturated f l o h = by (w .why f) l o h
       where
         w : Shape R G E (walk R G E)
         w = walk-shape R G E
 
         by : (walk R G E .depth ≡ G) ⊎ (walk R G E .last ≡ length (walk R G E .nodes)) ⊎ (isNil (R .generators) ≡ true)
-            → Complete R Same G (walk R G E .nodes)
+            → HasAll R Same G (walk R G E .nodes)
         by (inl e) l o h = complete l o (omega arith)
         by (inr (inl e)) l o h = complete-closed (walk R G E) (w .layered) e complete l o
         by (inr (inr e)) [] o h = complete [] o (omega arith)

@@ -1,5 +1,5 @@
 -- The walk at a width and a basis meets the laws, by the laws of exact matrices; within 13 gates every step fits; and lists, products and
--- fingerprints as the entries have them, oldest gate first, are those of the walk, newest first. Assumes nothing.
+-- fingerprints as callers have them, oldest gate first, are those of the walk, newest first. Assumes nothing.
 use mathlib.Core.Path.{_≡_, refl, sym, ap, _∙_, subst}
 use mathlib.Core.Bool.{true}
 use mathlib.Core.List.{List, [], _∷_, _++_, reverse, reverse-cons, reverse-reverse, List·Memᴰ}
@@ -7,7 +7,7 @@ use Prim.Native.Nat.{ℕ, _≤_, _<_}
 use native.Mathlib.Nat.{le-trans}
 use native.Mathlib.Omega.{arith}
 use borrow.Author.Tests.{eqb-true, eq-eqb}
-use lib.ListN.{length, length-reverse}
+use lib.ListN.{length, getD, length-reverse}
 use Rattle.ints.specs.Lists.{all}
 use Rattle.ints.proofs.Bools.{clash, and-left, and-right, and-both}
 use Rattle.cyclotomic.specs.Zomega.{limit}
@@ -27,10 +27,10 @@ use Rattle.exact.proofs.Phases.{power-of-test, test-of-power}
 use Rattle.exact.proofs.Prints.{fingerprint-power}
 use Rattle.exact.proofs.Keeps.{step-fits}
 use Rattle.exact.proofs.Bounds.{below-square, steps-within}
-use Rattle.walk.specs.Walk.{Node, listAt, prod}
-use Rattle.walk.specs.Grown.{Grown}
-use Rattle.walk.specs.Words.{Laws, Over, AllFit, NoClash}
-use Rattle.walk.specs.AtWidth.{samePrint, atWidth, ListOf, NoSharedPrint}
+use Rattle.walk.specs.Walk.{Node, root, listAt, prod}
+use Rattle.walk.proofs.Grown.{Grown}
+use Rattle.walk.proofs.Laws.{Laws, Over, AllFit, NoClash}
+use Rattle.walk.specs.AtWidth.{samePrint, printOf, atWidth, ListOf, NoSharedPrint}
 use Rattle.walk.proofs.Nodes.{fresh}
 
 module _ (n : ℕ) where
@@ -40,12 +40,24 @@ module _ (n : ℕ) where
   unfolding samePrint
   print-same x y e = eqb-true (fingerprint n x) (fingerprint n y) e
 
-  same-print : (x y : Exact) → fingerprint n x ≡ fingerprint n y → samePrint n x y ≡ true
+  pub same-print : (x y : Exact) → fingerprint n x ≡ fingerprint n y → samePrint n x y ≡ true
   unfolding samePrint
   same-print x y e = eq-eqb (fingerprint n x) (fingerprint n y) e
 
+-- the product of a list, oldest gate first, is the walk's of the same list, newest first; and so a node's fingerprint
+module _ (n basis : ℕ) where
+  product-at : (l : List ℕ) → product n (reverse l) ≡ prod (atWidth n basis) l
+  product-at [] = product-nil n
+  product-at (g ∷ l) = ap (product n) (reverse-cons g l) ∙ product-snoc n (reverse l) g ∙ ap (act-of g) (product-at l)
+    where
+      act-of : ℕ → Exact → Exact
+      act-of g = atWidth n basis .act g
+
+  pub print-is : (v : Node) → printOf n v ≡ fingerprint n (prod (atWidth n basis) (v .list))
+  print-is v = ap (fingerprint n) (product-at (v .list))
+
 module _ (n basis : ℕ) (small : n ≤ 5) where
-  -- ---- the generators are the codes that are valid at the width and of a kind in the basis
+  -- ---- the generators are the codes that are valid for the basis at the width (SPECIFICATION 2.8)
 
   generator-code : (g : ℕ) → List·Memᴰ g (generators n basis) → validFor n basis g ≡ true
   generator-code g m = lists n basis (omega arith) .sound g m
@@ -88,11 +100,7 @@ module _ (n basis : ℕ) (small : n ≤ 5) where
   -- ---- lists, oldest gate first
 
   pub product-is : (l : List ℕ) → product n (reverse l) ≡ prod (atWidth n basis) l
-  product-is [] = product-nil n
-  product-is (g ∷ l) = ap (product n) (reverse-cons g l) ∙ product-snoc n (reverse l) g ∙ ap (act-of g) (product-is l)
-    where
-      act-of : ℕ → Exact → Exact
-      act-of g = atWidth n basis .act g
+  product-is l = product-at n basis l
 
   pub product-of : (l : List ℕ) → product n l ≡ prod (atWidth n basis) (reverse l)
   product-of l = ap (product n) (sym (reverse-reverse l)) ∙ product-is (reverse l)
@@ -137,6 +145,7 @@ module _ (n basis : ℕ) (small : n ≤ 5) where
   -- ---- no two nodes have one fingerprint
 
   pub prints-distinct : {ns : List Node} → Grown (atWidth n basis) ns → (j k : ℕ) → j < k → k < length ns
-      → fingerprint n (prod (atWidth n basis) (listAt ns j)) ≡ fingerprint n (prod (atWidth n basis) (listAt ns k)) → ⊥
+      → printOf n (getD ns j root) ≡ printOf n (getD ns k root) → ⊥
   prints-distinct {ns} b j k l h e =
-      clash (same-print n (prod (atWidth n basis) (listAt ns j)) (prod (atWidth n basis) (listAt ns k)) e) (fresh (atWidth n basis) b k h j l)
+      clash (same-print n (prod (atWidth n basis) (listAt ns j)) (prod (atWidth n basis) (listAt ns k))
+      (sym (print-is n basis (getD ns j root)) ∙ e ∙ print-is n basis (getD ns k root))) (fresh (atWidth n basis) b k h j l)

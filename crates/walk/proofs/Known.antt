@@ -1,5 +1,5 @@
--- Where hypothesis K comes from: no two lists within the limit count as known by each other unless one's product is a power of omega times the
--- other's; or "known" asks for "equal up to phase" too, and then K holds with no condition. Assumes nothing.
+-- Where hypothesis K comes from: from `NoClash` (SPECIFICATION 8.14); or a candidate counts as known only by a node that is equal up to phase
+-- too, and then K holds with no condition. Assumes nothing.
 use mathlib.Core.Path.{_≡_}
 use mathlib.Core.Bool.{true, _&&_}
 use mathlib.Core.List.{List, _∷_}
@@ -8,9 +8,10 @@ use native.Mathlib.Omega.{arith}
 use lib.ListN.{length}
 use Rattle.ints.proofs.Bools.{and-right, and-both}
 use Rattle.walk.specs.Walk.{Rules, Node, root, listAt, prod, knows, candidate}
-use Rattle.walk.specs.Grown.{Grown}
-use Rattle.walk.specs.Words.{Laws, NoClash, KnownIsPresent}
-use Rattle.walk.specs.Modes.{exactly}
+use Rattle.walk.proofs.Grown.{Grown}
+use Rattle.walk.proofs.Laws.{Laws, NoClash}
+use Rattle.walk.specs.Known.{KnownIsPresent}
+use Rattle.walk.proofs.Modes.{exactly}
 use Rattle.walk.proofs.Sequences.{any-true}
 use Rattle.walk.proofs.Nodes.{over}
 
@@ -21,7 +22,7 @@ module _ (R : Rules) (Same : R .Mat → R .Mat → Type 0) where
       let r = any-true (knows R (candidate R ns k g)) root ns a in
       (r .0, r .1, nc (listAt ns (r .0)) (g ∷ listAt ns k) (over R b (r .0) (r .1)) (m, over R b k l) (h (r .0) (r .1)) (omega arith) (r .2))
 
--- ---- where "known" is exact, there is no condition
+-- ---- the exact mode needs no condition
 
 module _ (R : Rules) (Same : R .Mat → R .Mat → Type 0) (W : Laws R Same) where
   -- the exact mode meets the laws that its rules meet

@@ -1,5 +1,5 @@
 -- Depths: what holds while a depth is walked, and what one depth keeps of a width: its layers, its count, and that it is saturated only at
--- the limit. No law on what the walk is handed is used. Assumes nothing.
+-- the entry limit. No law on what the walk is handed is used. Assumes nothing.
 use mathlib.Core.Path.{_≡_, refl, sym, ap, _∙_}
 use mathlib.Core.Logic.{_⊎_, inl, inr, ⊎-elim}
 use mathlib.Core.Bool.{true, false}
@@ -13,7 +13,7 @@ use lib.ListN.{length}
 use Rattle.ints.proofs.Bools.{clash}
 use Rattle.exact.proofs.Values.{pick-ind}
 use Rattle.walk.specs.Walk.{Rules, Node, State, Build, root, listAt, child, try, opened, walked, settled, deeper, ended, depths, begin, isNil, walk}
-use Rattle.walk.specs.Grown.{Prefix, ParentsTo, Grown, alone, more, Layered, Shape}
+use Rattle.walk.proofs.Grown.{Prefix, ParentsTo, Grown, alone, more, Layered, Shape}
 use Rattle.walk.proofs.Sequences.{or-false, or-cases, bool, lt-or, length-snoc, all-snoc, prefix-refl, prefix-snoc, prefix-trans, prefix-at, prefix-length}
 use Rattle.walk.proofs.Candidates.{try-cases, layer-keeps}
 
@@ -23,7 +23,7 @@ settled-nodes b s = pick-ind (λ (c : Build). c .nodes ≡ s .nodes) (s .saturat
 module _ (R : Rules) where
   module _ (most : ℕ) where
     -- while depth d + 1 is walked, from the nodes ns on, at node k
-    pub record Within (ns : List Node) (d k : ℕ) (s : State) : Type 0 where
+    pub record WithinDepth (ns : List Node) (d k : ℕ) (s : State) : Type 0 where
       pub grown : Grown R (s .nodes)
       pub parents : ParentsTo k (s .nodes)
       pub prefix : Prefix ns (s .nodes)
@@ -32,13 +32,13 @@ module _ (R : Rules) where
       pub full : s .saturated ≡ true → most ≤ length (s .nodes)
 
     within-try : (ns : List Node) (d : ℕ) (s : State) (k g : ℕ) → k < length ns → length (listAt ns k) ≡ d → List·Memᴰ g (R .generators)
-        → Within ns d k s → Within ns d k (try R most s k g)
+        → WithinDepth ns d k s → WithinDepth ns d k (try R most s k g)
     within-try ns d s k g l e m i =
         let ms : List Node = s .nodes in
         let c : Node = child R ms k g in
         let q : k < length ms = omega (arith, prefix-length (i .prefix)) in
         let r : length (listAt ms k) ≡ d = ap (λ (z : Node). length (z .list)) (prefix-at (i .prefix) k root l) ∙ e in
-        try-cases R most (λ t. Within ns d k t) s k g i
+        try-cases R most (λ t. WithinDepth ns d k t) s k g i
         (λ f a h. record {
           grown = more k g (i .grown) q (i .parents) m a;
           parents = all-snoc ms c root (λ j n. 0 < j → n .parent ≤ k) (i .parents) (λ p. le-refl k);
@@ -50,10 +50,10 @@ module _ (R : Rules) where
         (λ h. record { grown = i .grown; parents = i .parents; prefix = i .prefix; new = i .new; count = i .count; full = λ z. h })
 
     -- after the depth, from a width that is not saturated
-    pub walked-within : (b : Build) → Layered R b → b .saturated ≡ false → Within (b .nodes) (b .depth) (length (b .nodes)) (walked R most b)
+    pub walked-within : (b : Build) → Layered R b → b .saturated ≡ false → WithinDepth (b .nodes) (b .depth) (length (b .nodes)) (walked R most b)
     walked-within b i f =
         let ns : List Node = b .nodes in
-        layer-keeps R most (λ k t. Within ns (b .depth) k t) (b .last) (length ns - b .last) (length ns) (omega (arith, i .start))
+        layer-keeps R most (λ k t. WithinDepth ns (b .depth) k t) (b .last) (length ns - b .last) (length ns) (omega (arith, i .start))
         (λ k t g a l m p. within-try ns (b .depth) t k g l (i .within f k l a) m p)
         (λ k t p. record {
           grown = p .grown;
@@ -99,7 +99,7 @@ module _ (R : Rules) where
       let t = walked R most b .saturated in
       pick-ind (λ (c : Build). c .saturated ≡ t) t (λ e. sym e) (λ e. sym e)
 
-  -- a depth walked to its end is completed, one that is cut off is not
+  -- the completed depth is one more where the depth came to its end, and stays where it was cut off (SPECIFICATION 6.9)
   pub deeper-depth : (most : ℕ) (b : Build)
       → (deeper R most b .saturated ≡ false → deeper R most b .depth ≡ suc (b .depth))
       × (deeper R most b .saturated ≡ true → deeper R most b .depth ≡ b .depth)
@@ -134,7 +134,7 @@ module _ (R : Rules) where
         deep = λ j l. omega (arith, walked-deep most b i f j l);
       })
 
-  -- the count stays within the limit, and the width is saturated only at the limit
+  -- the count stays within the entry limit, and the width is saturated only there
   pub deeper-count : (most : ℕ) (b : Build) → Layered R b → b .saturated ≡ false → length (b .nodes) ≤ most → length (deeper R most b .nodes) ≤ most
   deeper-count most b i f l = rw (deeper-nodes most b) (walked-within most b i f .count l)
 

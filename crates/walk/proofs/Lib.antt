@@ -1,3 +1,8 @@
+pub mod Grown
+pub mod Laws
+pub mod Nodewise
+pub mod Modes
+pub mod WidthDemand
 pub mod Sequences
 pub mod Candidates
 pub mod Nodes
@@ -7,7 +12,13 @@ pub mod Completeness
 pub mod Known
 pub mod Answers
 pub mod Exactly
+pub mod Clashes
 pub mod Demand3
 pub mod Samples
 pub mod NotEmpty
 pub mod Rechecks
+pub mod Lookups
+pub mod Chaining
+pub mod Rechecked
+pub mod Meaning
+pub mod Held

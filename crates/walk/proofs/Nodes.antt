@@ -8,10 +8,11 @@ use native.Mathlib.Nat.{le-refl}
 use native.Mathlib.Omega.{arith}
 use lib.ListN.{length, getD}
 use Rattle.ints.proofs.Bools.{and-both}
-use Rattle.walk.specs.Walk.{Rules, Node, root, listAt, parentAt, prod, pruned, knows, child}
-use Rattle.walk.specs.Words.{Over}
-use Rattle.walk.specs.Grown.{Prefix, Grown, alone, more, Link}
-use Rattle.walk.specs.Answer.{stepsFit}
+use Rattle.walk.specs.Walk.{Rules, Node, root, listAt, prod, pruned, knows, child}
+use Rattle.walk.proofs.Grown.{parentAt}
+use Rattle.walk.proofs.Laws.{Over}
+use Rattle.walk.proofs.Grown.{Prefix, Grown, alone, more, Link}
+use Rattle.walk.proofs.Nodewise.{stepsFit}
 use Rattle.walk.proofs.Sequences.{any-false, length-snoc, all-snoc, prefix-snoc, prefix-at}
 use Rattle.walk.proofs.Candidates.{skipped-not}
 

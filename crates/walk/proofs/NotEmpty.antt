@@ -19,9 +19,9 @@ use Rattle.exact.proofs.Coded.{proper, inverse-undoes}
 use Rattle.exact.proofs.Listed.{product-lowest}
 use Rattle.exact.proofs.Prints.{fingerprint-power}
 use Rattle.walk.specs.Walk.{Build, prod}
-use Rattle.walk.specs.Words.{Over}
-use Rattle.walk.specs.AtWidth.{actBy, atWidth, built, ListOf, NoSharedPrint}
-use Rattle.walk.specs.Demand3.{Answers}
+use Rattle.walk.proofs.Laws.{Over, actBy}
+use Rattle.walk.specs.AtWidth.{atWidth, built, ListOf, NoSharedPrint}
+use Rattle.walk.proofs.WidthDemand.{WidthComplete}
 use Rattle.walk.proofs.Exactly.{product-of, over-reverse, list-over}
 use Rattle.walk.proofs.Demand3.{demand}
 use Rattle.walk.proofs.Samples.{samples}
@@ -74,7 +74,7 @@ no-shared G l m a b p q e = by (class l a) (class m b)
     by (inr s) (inl t) = apart (sym (fingerprint-power 1 (product-lowest 1 m) low t) ∙ sym e ∙ fingerprint-power 1 (product-lowest 1 l) low-x s)
 
 -- every hypothesis is met
-pub holds : Answers 1 2 8 2
+pub holds : WidthComplete 1 2 8 2
 holds = demand 1 2 (omega arith) .complete 8 2 (omega arith) (no-shared 8)
 
 pub unsaturated : built 1 2 8 2 .saturated ≡ false

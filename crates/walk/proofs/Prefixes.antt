@@ -13,12 +13,12 @@ use Rattle.ints.specs.Lists.{pick}
 use Rattle.ints.proofs.Bools.{clash}
 use Rattle.exact.proofs.Values.{pick-ind}
 use Rattle.walk.specs.Walk.{Rules, State, Build, skipped, child, try, tryAll, layer, opened, walked, settled, deeper, ended, depths, begin, isNil, walk}
-use Rattle.walk.specs.Grown.{Prefix}
+use Rattle.walk.proofs.Grown.{Prefix}
 use Rattle.walk.proofs.Sequences.{prefix-refl, prefix-snoc, prefix-trans}
 use Rattle.walk.proofs.Candidates.{grownBy, filled, try-later, layer-later, try-saturated}
 use Rattle.walk.proofs.Layers.{settled-nodes, deeper-nodes, deeper-depth}
 
--- the walk with the smaller limit has come just as far, or is saturated and its nodes are the first of the other's
+-- the walk with the smaller entry limit has come just as far, or is saturated and its nodes are the first of the other's
 abbrev Ahead : State → State → Type 0
 Ahead s t = (s ≡ t) ⊎ ((s .saturated ≡ true) × Prefix (s .nodes) (t .nodes))
 

@@ -1,5 +1,5 @@
--- The recheck at a width is document 01's: every step of the list fits, and its product is equal up to phase to the matrix asked.
--- Assumes nothing.
+-- The walk's recheck at a width, of a list that is newest gate first: it passes exactly where every step fits and the product is equal up to
+-- phase to the matrix asked (SPECIFICATION 7.6). Assumes nothing.
 use mathlib.Core.Path.{_≡_, refl, sym, ap, _∙_}
 use mathlib.Core.Logic.{_↔_}
 use mathlib.Core.Bool.{Bool, true, false, _&&_}
@@ -13,7 +13,7 @@ use Rattle.exact.specs.Lists.{after, product}
 use Rattle.exact.specs.Fits.{stepFits, Steps, allFit, unfitAt, next, stepsFrom, steps}
 use Rattle.exact.specs.Phase.{upToPhase}
 use Rattle.walk.specs.Walk.{prod}
-use Rattle.walk.specs.Answer.{stepsFit, recheck}
+use Rattle.walk.proofs.Nodewise.{stepsFit, recheck}
 use Rattle.walk.specs.AtWidth.{atWidth}
 use Rattle.walk.proofs.Exactly.{product-is, product-of}
 
@@ -59,7 +59,7 @@ module _ (n : ℕ) where
         (λ i. fit-steps l i && stepFits n (gateOf n g) (sym (product-is n basis small l) i))
         ∙ sym (ok-snoc identity (reverse l) g) ∙ ap (λ (z : List ℕ). ok (stepsFrom n identity z)) (sym (reverse-cons g l))
 
-    -- of a list as the entries have it, oldest gate first
+    -- of a list as callers have it, oldest gate first
     pub recheck-exactly : (l : List ℕ) (x : Exact)
         → (recheck (atWidth n basis) (reverse l) x ≡ true) ↔ ((steps n l ≡ allFit) × (upToPhase n (product n l) x ≡ true))
     unfolding recheck

@@ -11,7 +11,7 @@ use lib.ListN.{length, getD, length-append, List·getD-append}
 use lib.Seq.{getD-append-seam}
 use Rattle.ints.proofs.Bools.{clash, or-right}
 use Rattle.walk.specs.Walk.{any}
-use Rattle.walk.specs.Grown.{Prefix}
+use Rattle.walk.proofs.Grown.{Prefix}
 
 -- ---- tests
 

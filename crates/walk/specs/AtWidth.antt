@@ -1,9 +1,8 @@
--- The walk of document 01 at a width and a basis: over exact matrices, where an entry is known, and answers, by its fingerprint. And the words
--- of demand 3, with lists as the entries have them, oldest gate first. Assumes nothing.
+-- The walk at a width and a basis: over exact matrices, where a candidate is known, and a query finds its node, by the fingerprint. And the
+-- words of demand 3 about lists, which are here oldest gate first, as callers have them. Assumes nothing.
 use mathlib.Core.Path.{_≡_}
 use mathlib.Core.Bool.{Bool, true}
 use mathlib.Core.List.{List, reverse}
-use mathlib.Core.Option.{Option, none, some}
 use Prim.Native.Nat.{ℕ, _≤_}
 use lib.Dec.{eqb}
 use lib.ListN.{length}
@@ -18,27 +17,30 @@ use Rattle.exact.specs.Fits.{stepFits}
 use Rattle.exact.specs.Phase.{upToPhase}
 use Rattle.exact.specs.Fingerprint.{fingerprint}
 use Rattle.walk.specs.Walk.{Rules, Node, Build, walk}
-use Rattle.walk.specs.Answer.{answerBy, answer}
-use Rattle.walk.specs.Words.{KnownIsPresent}
 
--- a gate by its code
-abbrev pub actBy : ℕ → ℕ → Exact → Exact
-actBy n g x = act n (gateOf n g) x
-
-abbrev pub fitsBy : ℕ → ℕ → Exact → Bool
-fitsBy n g x = stepFits n (gateOf n g) x
-
--- one fingerprint
+-- two matrices have one fingerprint
 unfoldable pub samePrint : ℕ → Exact → Exact → Bool
 samePrint n x y = eqb (fingerprint n x) (fingerprint n y)
+
+-- ---- what the arrays hold of a node
+
+-- the fingerprint of its list's product, oldest gate first (SPECIFICATION 8.8)
+abbrev pub printOf : ℕ → Node → ℕ
+printOf n v = fingerprint n (product n (reverse (v .list)))
+
+-- the number of its parent; for node 0 the mark
+abbrev pub parentOf : Node → ℕ
+parentOf v = v .parent
+
+-- ---- the walk
 
 -- what the walk is handed at width n with a basis
 abbrev pub atWidth : ℕ → ℕ → Rules
 atWidth n basis = record {
   Mat = Exact;
   one = identity;
-  act = actBy n;
-  fits = fitsBy n;
+  act = λ g x. act n (gateOf n g) x;
+  fits = λ g x. stepFits n (gateOf n g) x;
   known = samePrint n;
   answers = samePrint n;
   equal = upToPhase n;
@@ -47,36 +49,17 @@ atWidth n basis = record {
   generators = generators n basis;
 }
 
--- the width as a build with gate limit G and entry limit E leaves it
+-- the width as a build with gate limit G and entry limit E leaves it (SPECIFICATION 6.4 to 6.9)
 abbrev pub built : ℕ → ℕ → ℕ → ℕ → Build
 built n basis G E = walk (atWidth n basis) G E
 
--- "Its list is read by walking parents, oldest gate first."
-abbrev pub oldestFirst : Option (List ℕ) → Option (List ℕ)
-oldestFirst none = none
-oldestFirst (some l) = some (reverse l)
-
--- what nodes answer, whichever test finds the node
-abbrev pub answeredBy : ℕ → ℕ → (Node → Bool) → List Node → Exact → Option (List ℕ)
-answeredBy n basis test ns x = oldestFirst (answerBy (atWidth n basis) test ns x)
-
--- what the width of a build answers
-abbrev pub answered : ℕ → ℕ → ℕ → ℕ → Exact → Option (List ℕ)
-answered n basis G E x = oldestFirst (answer (atWidth n basis) (built n basis G E .nodes) x)
-
--- "A list of a basis at a width: any number of gates, none included, each code valid at that width and of a kind in B."
+-- a list of the basis at the width: all its codes, if it has any, are valid for the basis there (SPECIFICATION 8.6)
 abbrev pub ListOf : ℕ → ℕ → List ℕ → Type 0
 ListOf n basis l = all (validFor n basis) l ≡ true
 
--- "no two lists of its basis at the matrix's width within that limit share a fingerprint, unless one's product is a power of omega times the
--- other's": PowerOf n x y says that y is a power of omega times x
+-- no clash: where two lists of the basis at the width, each of at most G gates, have one fingerprint, the product of the second is a power of
+-- omega times that of the first (SPECIFICATION 8.14)
 abbrev pub NoSharedPrint : ℕ → ℕ → ℕ → Type 0
 NoSharedPrint n basis G =
     (l m : List ℕ) → ListOf n basis l → ListOf n basis m → length l ≤ G → length m ≤ G
     → fingerprint n (product n l) ≡ fingerprint n (product n m) → PowerOf n (product n l) (product n m)
-
--- what suffices, and can be looked up in a given table: each candidate of its completed depths that was skipped as known has a product that is
--- a power of omega times the product of a node present
-abbrev pub SkippedRightly : ℕ → ℕ → ℕ → ℕ → Type 0
-SkippedRightly n basis G E =
-    KnownIsPresent (atWidth n basis) (PowerOf n) (built n basis G E .depth) (built n basis G E .nodes)

@@ -1,8 +1,7 @@
 pub mod Walk
-pub mod Modes
-pub mod Answer
-pub mod Grown
-pub mod Words
 pub mod AtWidth
-pub mod Demand3
-pub mod Samples
+pub mod Lookup
+pub mod Chains
+pub mod Answers
+pub mod Meaning
+pub mod Known

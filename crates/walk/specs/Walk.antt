@@ -1,5 +1,10 @@
--- The walk of one width: node 0 is the empty list, and depth by depth each node of the last layer tries each generator. Steps on states:
--- one candidate, one node, one depth, a width. What the walk is handed, two rules among it, is a parameter. Assumes nothing.
+-- The walk of one width: node 0 is the empty list, and depth by depth each node of the last layer tries each generator (SPECIFICATION 6.4).
+-- Steps on states: one candidate, one node, one depth, a width. What the walk is handed is a parameter: its laws hold for other tests too.
+-- Why layers: each list of d gates is dealt with before any list of d + 1; so the first list found for a product is a shortest one, if no
+-- fingerprints clash. Why the two skip rules lose no product (SPECIFICATION 6.13): a list that ends in a gate and its inverse has the product of
+-- a list two gates shorter, with which an earlier depth has dealt; and last gates that share no qubit can be exchanged without changing the
+-- product. Of the two orders the one with rising codes is kept: it ends in the greater code, and codes are bounded, so that exchanging comes to
+-- an end. proofs/Completeness shows it. Assumes nothing.
 use mathlib.Core.Bool.{Bool, true, false, not, _||_, _&&_}
 use mathlib.Core.List.{List, [], _∷_, _++_}
 use Prim.Native.Nat.{ℕ, zero, suc, _-_}
@@ -8,10 +13,11 @@ use lib.ListN.{length, getD}
 use Rattle.ints.specs.Lists.{pick}
 use Rattle.circuit.specs.Codes.{mark}
 
--- What the walk is handed. Mat: exact matrices; act: a gate multiplies on the left; fits: the step fits.
--- known x y: a candidate with the matrix y counts as known by an entry with the matrix x (today: they have one fingerprint).
--- answers x y: the matrix y is answered by a node with the matrix x (today: they have one fingerprint).
--- equal: equal up to phase, the recheck's test. inverse and disjoint: the tests on a gate and the gate before it.
+-- What the walk is handed. Mat: exact matrices; one: the identity; act: the step by a gate; fits: that step fits (SPECIFICATION 3.3, 3.4).
+-- known x y: a candidate with the matrix y counts as known by a node with the matrix x; AtWidth asks for one fingerprint (SPECIFICATION 6.7).
+-- answers x y: a query with the matrix y finds a node with the matrix x; AtWidth asks for one fingerprint (SPECIFICATION 7.4).
+-- equal: equal up to phase, the recheck's test (SPECIFICATION 1.12).
+-- inverse, disjoint: the tests on a gate and the gate before it (SPECIFICATION 2.6, 2.7). generators: those of the width (SPECIFICATION 2.8).
 pub record Rules : Type 1 where
   pub Mat : Type 0
   pub one : Mat
@@ -24,7 +30,7 @@ pub record Rules : Type 1 where
   pub disjoint : ℕ → ℕ → Bool
   pub generators : List ℕ
 
--- A node: its parent's number, and its list of gates, the NEWEST first: so a node's list is its gate and its parent's list.
+-- A node: its parent's number, and its list of gates, the NEWEST first: so a node's list is its gate and its parent's list (SPECIFICATION 6.3).
 pub record Node : Type 0 where
   pub parent : ℕ
   pub list : List ℕ
@@ -35,32 +41,31 @@ pub record State : Type 0 where
   pub saturated : Bool
 
 -- between depths: the nodes so far, the number of the first node of the last layer, the completed depth, and whether the width is saturated.
--- The entry count is the number of nodes
+-- The count is the number of nodes (SPECIFICATION 6.8, 6.9)
 pub record Build : Type 0 where
   pub nodes : List Node
   pub last : ℕ
   pub depth : ℕ
   pub saturated : Bool
 
--- "Node 0 is the empty list."
+-- node 0: the empty list, with the mark as its parent (SPECIFICATION 6.3)
 abbrev pub root : Node
 root = record { parent = mark; list = [] }
 
--- the gate of a node: the newest of its list, and the root's mark
+-- the gate of a node: the newest of its list; node 0 has the mark (SPECIFICATION 2.10)
 abbrev pub gate : Node → ℕ
 gate n = getD (n .list) 0 mark
 
+-- the list of node k
 abbrev pub listAt : List Node → ℕ → List ℕ
 listAt ns k = (getD ns k root) .list
-
-abbrev pub parentAt : List Node → ℕ → ℕ
-parentAt ns k = (getD ns k root) .parent
 
 -- the test holds of one of them
 abbrev pub any : {A : Type 0} → (A → Bool) → List A → Bool
 any f [] = false
 any f (x ∷ xs) = f x || any f xs
 
+-- the list is empty
 abbrev pub isNil : List ℕ → Bool
 isNil [] = true
 isNil (x ∷ xs) = false
@@ -73,13 +78,13 @@ begin = record { nodes = root ∷ []; last = 0; depth = 0; saturated = false }
 abbrev pub opened : Build → State
 opened b = record { nodes = b .nodes; saturated = b .saturated }
 
--- "that depth is not completed"; "A depth walked to its end is completed"
+-- the width after a depth: one at which it became saturated does not count as completed, one that was walked to its end does (SPECIFICATION 6.9)
 abbrev pub settled : Build → State → Build
 settled b s =
     pick (s .saturated) (record { nodes = s .nodes; last = b .last; depth = b .depth; saturated = true })
     (record { nodes = s .nodes; last = length (b .nodes); depth = suc (b .depth); saturated = false })
 
--- the width ends: saturated, or its last depth added nothing: "one that added nothing is the last"
+-- the width ends: it is saturated, or its last depth added no node (SPECIFICATION 6.9)
 abbrev pub ended : Build → Bool
 ended b = b .saturated || eqb (b .last) (length (b .nodes))
 
@@ -89,12 +94,12 @@ module _ (R : Rules) where
   prod [] = R .one
   prod (g ∷ l) = R .act g (prod l)
 
-  -- "It is skipped if it inverts the node's last gate, or if it shares no qubit with it and has the lower code"
+  -- skipped by its last two gates, first h and then g: g undoes h, or they share no qubit and their codes fall (SPECIFICATION 6.5)
   abbrev pub pruned : ℕ → List ℕ → Bool
   pruned g [] = false
   pruned g (h ∷ l) = R .inverse g h || (R .disjoint g h && ltb g h)
 
-  -- a candidate with the matrix x counts as known by the node
+  -- a candidate with the matrix x counts as known by the node (SPECIFICATION 6.7)
   abbrev pub knows : R .Mat → Node → Bool
   knows x n = R .known (prod (n .list)) x
 
@@ -102,16 +107,16 @@ module _ (R : Rules) where
   abbrev pub candidate : List Node → ℕ → ℕ → R .Mat
   candidate ns k g = R .act g (prod (listAt ns k))
 
-  -- the candidate is skipped: by its last two gates; "A candidate whose matrix does not fit is skipped. It saturates nothing."; "A known
-  -- fingerprint is skipped."
+  -- the candidate is skipped: by its last two gates, because its step does not fit, or because it is known (SPECIFICATION 6.5 to 6.7)
   unfoldable pub skipped : List Node → ℕ → ℕ → Bool
   skipped ns k g = pruned g (listAt ns k) || (not (R .fits g (prod (listAt ns k))) || any (knows (candidate ns k g)) ns)
 
+  -- the node that the candidate becomes
   abbrev pub child : List Node → ℕ → ℕ → Node
   child ns k g = record { parent = k; list = g ∷ listAt ns k }
 
-  -- One candidate. "An unknown one at count E sets saturated and ends the width"; "Otherwise the node is appended." most is the most entries
-  -- that the width may come to have: its count and the room that is left; E where each width has its own limit
+  -- One candidate: where it is not skipped, it is appended if there is room, and otherwise makes the width saturated, after which nothing
+  -- changes (SPECIFICATION 6.8). most: the most nodes that the width may come to have, which is E where each width has its own entry limit
   unfoldable pub try : ℕ → State → ℕ → ℕ → State
   try most s k g =
       pick (s .saturated || skipped (s .nodes) k g) s
@@ -133,7 +138,7 @@ module _ (R : Rules) where
   abbrev pub walked : ℕ → Build → State
   walked most b = layer most (opened b) (b .last) (length (b .nodes) - b .last)
 
-  -- one depth: "each node of the last layer in order tries each generator"
+  -- one depth: all nodes of the last layer, in order, with all generators (SPECIFICATION 6.4)
   unfoldable pub deeper : ℕ → Build → Build
   deeper most b = settled b (walked most b)
 
@@ -144,6 +149,6 @@ module _ (R : Rules) where
       let r : Build = depths most (deeper most b) m in
       pick (ended b) b r
 
-  -- the walk of a width, "For depth 1 to G". "None at all: one entry, depth 0."
+  -- the walk of a width, at most G depths; without generators there is node 0 alone (SPECIFICATION 6.4, 6.9)
   unfoldable pub walk : ℕ → ℕ → Build
   walk G E = pick (isNil (R .generators)) begin (depths E begin G)

@@ -8,17 +8,17 @@ use lib.ListN.{length, getD, take, drop, set, length-set}
 use lib.Seq.{take-suc, take-all, drop-cons, set-at, length-take-le}
 
 -- i places are copied; the later ones hold what they held
-pub record Copied (from old new : List ℕ) (i : ℕ) : Type 0 where
+pub record CodesCopied (from old new : List ℕ) (i : ℕ) : Type 0 where
   pub within : i ≤ length from
   pub room : length from ≤ length old
   pub long : length new ≡ length old
   pub is : new ≡ take i from ++ drop i old
 
-pub copied-none : (from old : List ℕ) → length from ≤ length old → Copied from old old 0
+pub copied-none : (from old : List ℕ) → length from ≤ length old → CodesCopied from old old 0
 copied-none from old h = record { within = omega arith; room = h; long = refl; is = refl }
 
-module _ {from old new : List ℕ} {i : ℕ} (w : Copied from old new i) where
-  pub copied-more : i < length from → Copied from old (set new i (getD from i 0)) (i + 1)
+module _ {from old new : List ℕ} {i : ℕ} (w : CodesCopied from old new i) where
+  pub copied-more : i < length from → CodesCopied from old (set new i (getD from i 0)) (i + 1)
   copied-more h =
       let x : ℕ = getD from i 0 in
       let later : List ℕ = drop (suc i) old in

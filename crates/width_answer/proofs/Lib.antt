@@ -2,6 +2,5 @@ pub mod Rechecked
 pub mod Copies
 pub mod Noded
 pub mod Widths
-pub mod Meaning
 pub mod Told
 pub mod NodeTold

@@ -7,11 +7,12 @@ use native.Mathlib.Omega.{arith}
 use lib.ListN.{length, drop}
 use Rattle.ints.specs.Lists.{pick}
 use Rattle.exact.specs.Matrix.{Exact}
-use Rattle.synthesis_arena.specs.Chains.{Chain, good, bad}
-use Rattle.width_answer.specs.Answers.{rechecked, given, none, refused, Outcome, outcome, ofChain, toldAnswered}
+use Rattle.walk.specs.Chains.{Chain, good, bad}
+use Rattle.width_answer.specs.Answers.{toldAnswered}
+use Rattle.walk.specs.Answers.{rechecked, given, none, refused, Outcome, outcome, ofChain}
 use Rattle.width_answer.specs.declared.Answered.{Answered}
 use Rattle.width_answer.specs.declared.Answered.the-variants as a
-use Rattle.width_answer.proofs.Meaning.{kind-of, size}
+use Rattle.walk.proofs.Meaning.{kind-of, size}
 
 module _ (n : ℕ) (x : Exact) (chain : Chain) (out after : List ℕ) where
   -- the chain is good, its list passes the recheck and fills the first places

@@ -6,7 +6,8 @@ use mathlib.Core.Logic.{_↔_}
 use Prim.Native.Nat.{ℕ}
 use lib.IntN.{ℤ}
 use Rattle.ints.proofs.Bools.{clash, iff, both-true, and-both}
-use Rattle.exact.specs.Matrix.{Exact, Equal}
+use Rattle.exact.specs.Matrix.{Exact}
+use Rattle.exact.proofs.Words.{Equal}
 use Rattle.exact.specs.Lists.{product}
 use Rattle.exact.specs.Fits.{Steps, allFit, unfitAt, steps}
 use Rattle.exact.specs.Phase.{upToPhase}
@@ -16,28 +17,15 @@ use Rattle.exact.proofs.Phases.{up-trans, phased-test, phased-equal}
 use Rattle.exact.proofs.Values.{equal-sym}
 use Rattle.exact.specs.Places.{held}
 use Rattle.lists.specs.Walk.{HoldsProduct}
-use Rattle.width_answer.specs.Answers.{fitsAll, rechecked}
+use Rattle.walk.specs.Answers.{fitsAll, rechecked}
 
--- ---- the test sees equal matrices alike
+-- ---- the test says the same of equal matrices
 
 up-equal : (n : ℕ) {x y : Exact} → Equal n x y → (z : Exact) → upToPhase n x z ≡ upToPhase n y z
 up-equal n {x} {y} w z =
     iff (upToPhase n x z) (upToPhase n y z)
     (up-trans n y x z (phased-test n y x (phased-equal n (equal-sym n w))))
     (up-trans n x y z (phased-test n x y (phased-equal n w)))
-
--- ---- the recheck, by its two parts
-
-fits-all : (s : Steps) → fitsAll s ≡ true → s ≡ allFit
-fits-all allFit e = refl
-fits-all (unfitAt i) e = clash e refl
-
-pub rechecked-exactly : (n : ℕ) (l : List ℕ) (x : Exact) → (rechecked n l x ≡ true) ↔ ((steps n l ≡ allFit) × (upToPhase n (product n l) x ≡ true))
-unfolding rechecked
-rechecked-exactly n l x = (to, λ p. and-both (fitsAll (steps n l)) (upToPhase n (product n l) x) (ap fitsAll (p .0)) (p .1))
-  where
-    to : fitsAll (steps n l) && upToPhase n (product n l) x ≡ true → (steps n l ≡ allFit) × (upToPhase n (product n l) x ≡ true)
-    to e = let b = both-true (fitsAll (steps n l)) (upToPhase n (product n l) x) e in (fits-all (steps n l) (b .0), b .1)
 
 -- ---- the recheck, by the answer to the list
 

@@ -1,24 +1,25 @@
--- What a width answers, by what the lookup told. Assumes nothing.
+-- What a width answers, by what the look-up told. Assumes nothing.
 use mathlib.Core.Path.{_≡_, sym, ap, _∙_}
 use mathlib.Core.List.{List}
 use Prim.Native.Nat.{ℕ}
 use Rattle.exact.specs.Matrix.{Exact}
 use Rattle.exact.specs.Fingerprint.{fingerprint}
-use Rattle.synthesis_arena.specs.Lookup.{lowestFrom, toldFound}
-use Rattle.synthesis_arena.specs.Chains.{chainOf}
+use Rattle.synthesis_arena.specs.Lookup.{toldFound}
+use Rattle.walk.specs.Lookup.{lowestFrom}
+use Rattle.walk.specs.Chains.{chainOf}
 use Rattle.synthesis_arena.specs.declared.Found.{Found}
 use Rattle.synthesis_arena.specs.declared.Found.the-variants.{At, NotFound}
-use Rattle.width_answer.specs.Answers.{none, Outcome, outcome, ofChain, ofLookup, answerOf}
+use Rattle.walk.specs.Answers.{WidthLimits, Part, none, Outcome, outcome, ofChain, ofLookup, answerOf}
 
-module _ (fps parents codes : List ℕ) (count n basis limit : ℕ) (x : Exact) (out : List ℕ) {print : ℕ} (e : print ≡ fingerprint n x) {r : Found}
-    (told : toldFound r ≡ lowestFrom fps count 0 print) where
-  by-lookup : {s : Found} → r ≡ s → ofLookup parents codes n basis limit x out (toldFound s) ≡ answerOf fps parents codes count n basis limit x out
+module _ (limits : WidthLimits) (part : Part) (x : Exact) (out : List ℕ) {print : ℕ} (e : print ≡ fingerprint (limits .width) x) {r : Found}
+    (told : toldFound r ≡ lowestFrom (part .fingerprints) (part .count) 0 print) where
+  by-lookup : {s : Found} → r ≡ s → ofLookup limits part x out (toldFound s) ≡ answerOf limits part x out
   unfolding answerOf
-  by-lookup f = ap (ofLookup parents codes n basis limit x out) (sym (ap toldFound f) ∙ told ∙ ap (lowestFrom fps count 0) e)
+  by-lookup f = ap (ofLookup limits part x out) (sym (ap toldFound f) ∙ told ∙ ap (lowestFrom (part .fingerprints) (part .count) 0) e)
 
-  pub width-node : {node : ℕ} → r ≡ At node → {o : Outcome} → o ≡ ofChain n x out (chainOf n basis parents codes limit node)
-      → o ≡ answerOf fps parents codes count n basis limit x out
+  pub width-node : {node : ℕ} → r ≡ At node → {o : Outcome}
+      → o ≡ ofChain (limits .width) x out (chainOf (limits .width) (limits .basis) (part .parents) (part .codes) (limits .gates) node) → o ≡ answerOf limits part x out
   width-node f h = h ∙ by-lookup f
 
-  pub width-none : r ≡ NotFound → outcome none out ≡ answerOf fps parents codes count n basis limit x out
+  pub width-none : r ≡ NotFound → outcome none out ≡ answerOf limits part x out
   width-none f = by-lookup f

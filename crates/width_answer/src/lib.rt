@@ -1,35 +1,37 @@
-// What one width's part of a lent table answers to a matrix, whatever its three arrays hold. murm.rs of the original, `Murm::synthesize`,
-// below the entry: the checks up to 12 are passed.
+// What one width's part of a lent table answers to a matrix, whatever its three arrays hold (SPECIFICATION 7.4 to 7.7). murm.rs of the original,
+// `Murm::synthesize`, below the public entry: no row up to 12 has refused.
 ghost use mathlib.Core.Path.{_≡_};
 ghost use mathlib.Core.Bool.{true};
 ghost use mathlib.Core.List.{_++_};
-ghost use Prim.Native.Nat.{_*_, _^_, _≤_, _<_};
+ghost use Prim.Native.Nat.{_≤_, _<_};
 ghost use lib.ListN.{length, drop};
 ghost use Rattle.ints.specs.Lists.{all};
 ghost use Rattle.circuit.specs.Codes.{valid};
-ghost use Rattle.exact.specs.Fits.{AllSmall};
-ghost use Rattle.exact.specs.Places.{read, held};
-ghost use Rattle.synthesis_arena.specs.Chains.{chainOf};
-ghost use Rattle.width_answer.specs.Answers.{rechecked, outcome, ofChain, answerOf, toldAnswered};
+ghost use Rattle.exact.specs.Places.{held};
+ghost use Rattle.walk.specs.Chains.{chainOf};
+ghost use Rattle.width_answer.specs.Answers.{AskedPlaces, toldAnswered};
+ghost use Rattle.walk.specs.Answers.{partWith, rechecked, outcome, ofChain, answerOf};
+ghost use Rattle.synthesis_arena.specs.Limits.{toldLimits};
 use circuit::GateSet;
 use cyclotomic::Coefficient;
 use lists::Walked;
 use synthesis_arena::Found;
 use synthesis_arena::NodeCircuit;
+use synthesis_arena::WidthLimits;
 
-// What is answered: a list, by how many gates it has; none; or that the chain found is bad.
+// What is answered: a list, by how many gates it has; none; or that the chain found is bad (SPECIFICATION 7.5).
 pub enum Answered {
     List(usize),
     Nothing,
     BadChain,
 }
 
-// "The list's matrix is formed anew": whether every step fits, and the product is equal up to phase to the matrix asked.
+// The recheck: the product of the list is formed from the identity; whether every step fits, and it is equal up to phase to the matrix asked
+// (SPECIFICATION 7.6).
 pub fn recheck(codes: &[u32], n: usize, exponent: u16, query: &[Coefficient]) -> bool
     requires { ⌜ n ≤ 5 ⌝ }
     requires { ⌜ all (valid n) (now codes) ≡ true ⌝ }
-    requires { ⌜ 4 * (2 ^ n * 2 ^ n) ≤ length (now query) ⌝ }
-    requires { ⌜ AllSmall n (read n (now query)) ⌝ }
+    requires { ⌜ AskedPlaces n (now query) ⌝ }
     ensures { λ r. ⌜ r ≡ rechecked n (now (codes .entry)) (held n exponent (now (query .entry))) ⌝ }
 {
     let mut data = matrix::identity_data(n);
@@ -53,71 +55,61 @@ fn copy_codes(to: &mut [u32], from: &[u32])
 
 // What one node answers. Nothing is written to `out` unless its list is answered: the chain is read into a list of this function's own.
 pub fn answer_node(
-    parents: &[u32],
-    codes: &[u32],
-    width: u32,
-    basis: GateSet,
-    limit: usize,
+    limits: WidthLimits,
     node: usize,
     exponent: u16,
+    parents: &[u32],
+    codes: &[u32],
     query: &[Coefficient],
     out: &mut [u32],
 ) -> Answered
-    requires { ⌜ (width ≤ 5) × (limit ≤ 64) × (limit ≤ length (now out)) ⌝ }
+    requires { ⌜ (limits .width ≤ 5) × (limits .gates ≤ 64) × (limits .gates ≤ length (now out)) ⌝ }
     requires { ⌜ (node < length (now parents)) × (node < length (now codes)) ⌝ }
-    requires { ⌜ (4 * (2 ^ width * 2 ^ width) ≤ length (now query)) × AllSmall width (read width (now query)) ⌝ }
-    ensures { λ r. ⌜ outcome (toldAnswered r) (now (out .exit)) ≡ ofChain width (held width exponent (now (query .entry))) (now (out .entry)) (chainOf width (basis .0) (now (parents .entry)) (now (codes .entry)) limit node) ⌝ }
+    requires { ⌜ AskedPlaces (limits .width) (now query) ⌝ }
+    ensures { λ r. ⌜ outcome (toldAnswered r) (now (out .exit))
+        ≡ ofChain (limits .width) (held (limits .width) exponent (now (query .entry))) (now (out .entry))
+        (chainOf (limits .width) (limits .basis) (now (parents .entry)) (now (codes .entry)) (limits .gates) node) ⌝ }
 {
     let mut list: [u32; 64] = [0; 64];
     let NodeCircuit::Length(size) = synthesis_arena::circuit(
         parents,
         codes,
-        width,
-        basis,
-        limit,
+        limits.width,
+        GateSet(limits.basis),
+        limits.gates,
         node,
         &mut list,
     ) else {
         return Answered::BadChain;
     };
-    if !recheck(&list[0..size], width as usize, exponent, query) {
+    if !recheck(&list[0..size], limits.width as usize, exponent, query) {
         return Answered::Nothing;
     }
     copy_codes(out, &list[0..size]);
     Answered::List(size)
 }
 
-// What a width's part of a table answers: by the lowest node with the matrix's fingerprint.
+// What a width's part of a table answers: by the lowest node with the matrix's fingerprint (SPECIFICATION 7.4).
 pub fn answer_width(
+    limits: WidthLimits,
+    count: usize,
+    exponent: u16,
     fingerprints: &[u64],
     parents: &[u32],
     codes: &[u32],
-    count: usize,
-    width: u32,
-    basis: GateSet,
-    limit: usize,
-    exponent: u16,
     query: &[Coefficient],
     out: &mut [u32],
 ) -> Answered
-    requires { ⌜ (width ≤ 5) × (limit ≤ 64) × (limit ≤ length (now out)) ⌝ }
+    requires { ⌜ (limits .width ≤ 5) × (limits .gates ≤ 64) × (limits .gates ≤ length (now out)) ⌝ }
     requires { ⌜ (count ≤ length (now fingerprints)) × (count ≤ length (now parents)) × (count ≤ length (now codes)) ⌝ }
-    requires { ⌜ (4 * (2 ^ width * 2 ^ width) ≤ length (now query)) × AllSmall width (read width (now query)) ⌝ }
-    ensures { λ r. ⌜ outcome (toldAnswered r) (now (out .exit)) ≡ answerOf (now (fingerprints .entry)) (now (parents .entry)) (now (codes .entry)) count width (basis .0) limit (held width exponent (now (query .entry))) (now (out .entry)) ⌝ }
+    requires { ⌜ AskedPlaces (limits .width) (now query) ⌝ }
+    ensures { λ r. ⌜ outcome (toldAnswered r) (now (out .exit))
+        ≡ answerOf (toldLimits limits) (partWith (now (fingerprints .entry)) (now (parents .entry)) (now (codes .entry)) count)
+        (held (limits .width) exponent (now (query .entry))) (now (out .entry)) ⌝ }
 {
-    let print = prints::unitary_fingerprint(query, width as usize, exponent);
+    let print = prints::unitary_fingerprint(query, limits.width as usize, exponent);
     match synthesis_arena::node_for(fingerprints, count, 0, print) {
-        Found::At(node) => answer_node(
-            parents,
-            codes,
-            width,
-            basis,
-            limit,
-            node,
-            exponent,
-            query,
-            out,
-        ),
+        Found::At(node) => answer_node(limits, node, exponent, parents, codes, query, out),
         Found::NotFound => Answered::Nothing,
     }
 }

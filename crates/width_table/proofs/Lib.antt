@@ -1,5 +1,3 @@
-pub mod Columns
-pub mod Tries
-pub mod Copies
-pub mod Lists
-pub mod Loops
+pub mod LayerLoop
+pub mod DepthLoop
+pub mod Root

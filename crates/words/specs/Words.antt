@@ -6,15 +6,15 @@ use lib.IntN.{ℤ, pos, negsuc}
 abbrev pub words : ℕ
 words = 2 ^ 64
 
--- "products drop what passes 64 bits"
+-- the product modulo 2^64 (SPECIFICATION 5.2)
 unfoldable pub product : ℕ → ℕ → ℕ
 product a b = (a * b) % words
 
--- "rotated left": each bit k places up, round the word
+-- rotated left by k: each bit moves up k places, and those that pass bit 63 come in again at bit 0 (SPECIFICATION 5.2)
 unfoldable pub rotated : ℕ → ℕ → ℕ
 rotated k a = (a * 2 ^ (k % 64)) % words + a / 2 ^ (64 - k % 64)
 
--- "sign-extended to 64 bits": an integer's remainder by 2^64
+-- the word of a coefficient: its remainder by 2^64, which extends its sign (SPECIFICATION 5.1)
 unfoldable pub word : ℤ → ℕ
 word (pos n) = n % words
 word (negsuc n) = words - 1 - n % words

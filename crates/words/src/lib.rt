@@ -15,7 +15,7 @@ pub fn wrapping_mul(a: u64, b: u64) -> u64
     std::num::wrapping_add_u64(low * other_low, cross << 32)
 }
 
-// The bits moved up by as many places, round the word.
+// The bits moved up by as many places; those that pass bit 63 come in again at bit 0.
 pub fn rotate_left(a: u64, places: u32) -> u64
     ensures { λ r. ⌜ r ≡ rotated places a ⌝ }
 {

@@ -1,4 +1,4 @@
--- `sorted_count` meets its contract: the table SORTED has the number of sorted operands of each kind, which is computed over the whole table.
+-- `sorted_count` meets its contract: the table SORTED has for each kind how many operands rise, which is computed over the whole table.
 -- Assumes nothing.
 use native.Mathlib.Omega.{arith}
 use mathlib.Core.Path.{refl, sym, ap}

@@ -5,7 +5,7 @@ use native.Mathlib.Omega.{arith}
 use borrow.Author.Needs.{needs}
 use borrow.Author.Tests.{lt-ltb, le-ltb}
 use Rattle.places.proofs.Placed.{area-le}
-use Rattle.murm.proofs.Bytes.{byte-count}
+use Rattle.tables.proofs.Coefficients.{byte-count}
 use Rattle.circuits_answers.proofs.coefficient_count.Statement.{statement}
 use Rattle.circuits_answers.proofs.coefficient_count.Tie as tie
 

@@ -5,13 +5,13 @@ use borrow.Author.Needs.{needs}
 use Rattle.tables.specs.Checks.{arrays}
 use Rattle.tables.specs.Tables.{Width}
 use Rattle.murm_config.specs.Told.{toldMurm}
-use Rattle.murm.proofs.Parts.{Part}
+use Rattle.murm.proofs.Parts.{PartBounds}
 use Rattle.circuits_text.proofs.Placing.{put-as, then-put}
 use Rattle.circuits_output.proofs.Widths.{lies, width-as}
 use Rattle.circuits_output.proofs.put_width.Statement.{statement}
 use Rattle.circuits_output.proofs.put_width.Tie as tie
 
-sound : (c : tie.Start) → Part (toldMurm (c .args .table)) (arrays (c .args .parents .now) (c .args .parents .now) (c .args .codes .now)) (c .args .width)
+sound : (c : tie.Start) → PartBounds (toldMurm (c .args .table)) (arrays (c .args .parents .now) (c .args .parents .now) (c .args .codes .now)) (c .args .width)
 sound c =
     let r = c .pre .1 .0 in
     lies (toldMurm (c .args .table)) (c .args .parents .now) (c .args .codes .now) (c .args .width) (r .0) (r .1) (r .2) (c .pre .0 .0) (c .pre .0 .1)

@@ -1,8 +1,8 @@
--- `narrowed` meets its contract: each return follows the tests on the way to it, and past all four every coefficient is within the limit.
-use borrow.Author.Needs.{needs}
+-- `narrowed` meets its contract: each return follows the tests made before it, and after all four every coefficient is within the limit.
 use borrow.Author.Tests.{leb-true}
 use mathlib.Core.Path.{_≡_}
 use mathlib.Core.Bool.{true}
+use mir.Facts.{toZ-ofZ}
 use Rattle.ints.proofs.Machine.{said}
 use Rattle.cyclotomic.specs.Zomega.{near, within, fits}
 use Rattle.cyclotomic.specs.Told.{checked}
@@ -76,6 +76,7 @@ returns-5 c =
     let four = first .before in
     let three = four .before .before in
     let two = three .before .before in
+    let start = two .before .before .before .before in
     rw (
       a-in (two .before .before),
       b-in two,
@@ -85,20 +86,23 @@ returns-5 c =
       said near (second .narrow-coefficient2 .ok) (second .narrow-coefficient2 .ensures),
       said near (third .narrow-coefficient3 .ok) (third .narrow-coefficient3 .ensures),
       said near (c .narrow-coefficient4 .ok) (c .narrow-coefficient4 .ensures),
+      toZ-ofZ (start .fits .a),
+      toZ-ofZ (start .fits .b),
+      toZ-ofZ (start .fits .c),
+      toZ-ofZ (start .fits .d),
     )
-    (search needs)
 
 pub narrowed-spec : {M : Type 1} → statement M
 narrowed-spec =
     tie.close
     (tie.spec
-    (λ c κs. search needs)
+    (λ c κs. tt)
     returns
-    (λ c κs. search needs)
+    (λ c κs. tt)
     returns-2
-    (λ c κs. search needs)
+    (λ c κs. tt)
     returns-3
-    (λ c κs. search needs)
+    (λ c κs. tt)
     returns-4
     narrow-coefficient-requires
     narrow-coefficient-requires-2

@@ -1,4 +1,4 @@
--- `sizes_fit` meets its contract: the flag stays down exactly while every pair of places passed has sizes within the limit.
+-- `sizes_fit` meets its contract: `over` is false exactly while every pair of places passed has sizes whose sum is within the limit.
 use Prim.Native.Nat.{_+_, _-_, _≤_}
 use native.Mathlib.Omega.{arith}
 use borrow.Author.Needs.{needs}

@@ -4,12 +4,12 @@ use native.Mathlib.Nat.{mul-add}
 use native.Mathlib.Omega.{arith}
 use borrow.Author.Needs.{needs}
 use Rattle.places.proofs.Placed.{dim-le, place-fits}
-use Rattle.matrix.proofs.Filling.{Filled, filled-none, filled-more, filled-end}
+use Rattle.matrix.proofs.Filling.{PlacesFilled, filled-none, filled-more, filled-end}
 use Rattle.matrix.proofs.identity_data.Statement.{statement}
 use Rattle.matrix.proofs.identity_data.Tie as tie
 
 abbrev Inv-loop : tie.InvT-loop
-Inv-loop n data₀ d i₀ «data» i = Filled n «data» i
+Inv-loop n data₀ d i₀ «data» i = PlacesFilled n «data» i
 
 abbrev μ-loop : tie.MeasureT-loop
 μ-loop n data₀ d i₀ «data» i = d - i

@@ -8,7 +8,9 @@ use lib.ListN.{length, take, drop, length-drop}
 use lib.Seq.{length-take-le}
 use Rattle.exact.specs.Matrix.{Exact}
 use Rattle.exact.specs.Places.{held}
-use Rattle.width_answer.specs.Answers.{answerOf}
+use Rattle.walk.specs.Answers.{WidthLimits, answerOf}
+use Rattle.synthesis_arena.specs.Limits.{toldLimits}
+use Rattle.murm.specs.Entries.{partFrom}
 use Rattle.murm.proofs.ask_from.Statement.{statement}
 use Rattle.murm.proofs.ask_from.Tie as tie
 
@@ -16,24 +18,23 @@ use Rattle.murm.proofs.ask_from.Tie as tie
 room : (start entries count : ℕ) (xs : List ℕ) → start + entries ≤ length xs → count ≤ entries → count ≤ length (take (start + entries - start) (drop start xs))
 room start entries count xs h k = omega (arith, length-take-le (start + entries - start) (drop start xs) (omega (arith, length-drop start xs)))
 
-parts : (start entries count n basis limit : ℕ) (x : Exact) (f u c out : List ℕ)
-    → answerOf (take (start + entries - start) (drop start f)) (take (start + entries - start) (drop start u)) (take (start + entries - start) (drop start c)) count n basis limit x out
-    ≡ answerOf (take entries (drop start f)) (take entries (drop start u)) (take entries (drop start c)) count n basis limit x out
-parts start entries count n basis limit x f u c out =
+parts : (limits : WidthLimits) (start entries count : ℕ) (x : Exact) (f u c out : List ℕ)
+    → answerOf limits (partFrom start (start + entries - start) count f u c) x out ≡ answerOf limits (partFrom start entries count f u c) x out
+parts limits start entries count x f u c out =
     let e : start + entries - start ≡ entries = omega arith in
-    ap (λ (k : ℕ). answerOf (take k (drop start f)) (take k (drop start u)) (take k (drop start c)) count n basis limit x out) e
+    ap (λ (k : ℕ). answerOf limits (partFrom start k count f u c) x out) e
 
 answer-width-requires : tie.Need-answer-width-requires
 answer-width-requires c κs =
-    let s = c .before .before .before .before .before .before .before .before in
+    let s = c .before .before .before .before .before .before .before .before .before in
     let p = s .pre in
     let a = s .args in (
       p .0,
       (
         (
-          room (a .start) (a .entries) (a .count) (a .fingerprints .now) (p .1 .1 .0 .0) (p .1 .0 .2),
-          room (a .start) (a .entries) (a .count) (a .parents .now) (p .1 .1 .0 .1) (p .1 .0 .2),
-          room (a .start) (a .entries) (a .count) (a .codes .now) (p .1 .1 .0 .2) (p .1 .0 .2),
+          room (a .start) (a .limits .entries) (a .count) (a .fingerprints .now) (p .1 .1 .0 .0) (p .1 .0 .2),
+          room (a .start) (a .limits .entries) (a .count) (a .parents .now) (p .1 .1 .0 .1) (p .1 .0 .2),
+          room (a .start) (a .limits .entries) (a .count) (a .codes .now) (p .1 .1 .0 .2) (p .1 .0 .2),
         ),
         p .1 .1 .1,
       ),
@@ -41,9 +42,10 @@ answer-width-requires c κs =
 
 returns : tie.Need-returns
 returns c =
-    let a = c .before .before .before .before .before .before .before .before .before .before .before .args in
+    let a = c .before .before .before .before .before .before .before .before .before .before .before .before .args in
     c .before .before .answer-width .ensures
-    ∙ parts (a .start) (a .entries) (a .count) (a .width) (a .basis .0) (a .limit) (held (a .width) (a .exponent) (a .matrix .now)) (a .fingerprints .now) (a .parents .now) (a .codes .now) (a .out .now)
+    ∙ parts (toldLimits (a .limits)) (a .start) (a .limits .entries) (a .count) (held (a .limits .width) (a .exponent) (a .matrix .now)) (a .fingerprints .now)
+    (a .parents .now) (a .codes .now) (a .out .now)
 
 pub ask-from-spec : {M : Type 1} → statement M
 ask-from-spec =

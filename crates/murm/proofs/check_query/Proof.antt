@@ -11,7 +11,8 @@ use Rattle.places.proofs.Placed.{area-le}
 use Rattle.tables.specs.Checks.{byteCount, anyBelow}
 use Rattle.refusal.specs.Told.{byRow}
 use Rattle.murm.specs.Work.{InRange}
-use Rattle.murm.proofs.Bytes.{byte-count, bytes-small}
+use Rattle.tables.proofs.Coefficients.{byte-count}
+use Rattle.murm.proofs.Bytes.{bytes-small}
 use Rattle.murm.proofs.Answers.{query-6, query-9, query-10, query-11, query-allowed}
 use Rattle.murm.proofs.check_query.Statement.{statement}
 use Rattle.murm.proofs.check_query.Tie as tie
@@ -23,7 +24,7 @@ sized c = (omega (arith, c .before .if1 .left), ap (λ (k : ℕ). 4 * k) (c .are
 mul-size : tie.Need-mul-size
 mul-size c = record { fits = omega (arith, c .area .ensures, area-le (c .before .before .args .width) (sized c .0)) }
 
--- the bytes lent are as many as the matrix has
+-- the lent coefficients are as many as the matrix has
 exact : (c : tie.Else2) → let s = c .before .before .before .args in length (s .entries .now) ≡ byteCount (s .width)
 exact c = c .if2 .left ∙ sized (c .before) .1
 

@@ -9,10 +9,10 @@ use Rattle.places.proofs.Placed.{area-le}
 use Rattle.exact.specs.Answers.{refused}
 use Rattle.lists.proofs.Walking.{ended-at}
 use Rattle.tables.specs.Checks.{byteCount}
-use Rattle.murm.specs.Entries.{firstInvalid, outcome}
-use Rattle.murm.proofs.Bytes.{byte-count}
-use Rattle.murm.proofs.Checks.{all-valid}
-use Rattle.murm.proofs.Answers.{list-6, list-9, list-7, list-8, list-held}
+use Rattle.tables.specs.Lists.{firstInvalid, outcome}
+use Rattle.tables.proofs.Coefficients.{byte-count}
+use Rattle.tables.proofs.Lists.{all-valid, list-6, list-9, list-7, list-8}
+use Rattle.murm.proofs.Answers.{list-held}
 use Rattle.murm.proofs.library_circuit_matrix.Statement.{statement}
 use Rattle.murm.proofs.library_circuit_matrix.Tie as tie
 
@@ -31,7 +31,7 @@ returns-2 c =
     let s = c .before .before .before .before .args in
     list-9 (s .width) (s .codes .now) (s .out .now) (sized (c .before) .0) (λ q. c .if2 .taken (q ∙ sym (sized (c .before) .1)))
 
--- the bytes lent are as many as the matrix has
+-- the lent places are as many as the matrix has coefficients
 exact : (c : tie.Else2) → let s = c .before .before .before .before .args in length (s .out .now) ≡ byteCount (s .width)
 exact c = c .if2 .left ∙ sized (c .before) .1
 

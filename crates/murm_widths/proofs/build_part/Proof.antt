@@ -15,16 +15,13 @@ returns c =
     let k = r .columns in
     let l = limitsOf 0 (s .gates) (s .entries) (s .basis) in
     let a = s .v * s .entries in
-    let w = s .v + 1 in (
-      row-is (b .result) (walkOf l w) (k .count-is) (r .depth-is) (r .full-is),
-      (
-        prints-back l w a (s .entries) _ (k .count-is) (s .fingerprints .now) _ (k .prints),
-        (
-          parents-back l w a (s .entries) _ (k .count-is) (s .parents .now) _ (k .parents),
-          codes-back l w a (s .entries) _ (k .count-is) (s .codes .now) _ (k .gates),
-        ),
-      ),
-    )
+    let w = s .v + 1 in
+    record {
+      row = row-is (b .result) (walkOf l w) (k .count-is) (r .depth-is) (r .full-is);
+      prints = prints-back l w a (s .entries) _ (k .count-is) (s .fingerprints .now) _ (k .prints);
+      parents = parents-back l w a (s .entries) _ (k .count-is) (s .parents .now) _ (k .parents);
+      codes = codes-back l w a (s .entries) _ (k .count-is) (s .codes .now) _ (k .gates);
+    }
 
 pub build-part-spec : {M : Type 1} → statement M
 build-part-spec =

@@ -57,10 +57,10 @@ loop-again c =
     let v = u .v in
     let h : v < 5 = omega (arith, t .loop-test .taken, s .pre .0 .0) in (
       omega (arith, t .loop-test .taken),
-      c .with-width .ensures ∙ record-more l v (toldMurm (u .table)) (toldWidth (p .result)) h (u .inv .1) (p .ensures .0),
-      done-more _ _ v _ _ _ _ (prints-same l (v + 1)) (p .kept .1 .1 .1 .1 .0) (p .ensures .1 .0) (u .inv .2),
-      done-more _ _ v _ _ _ _ (parents-same l (v + 1)) (p .kept .1 .1 .1 .1 .1 .0) (p .ensures .1 .1 .0) (u .inv .3),
-      done-more _ _ v _ _ _ _ (codes-same l (v + 1)) (p .kept .1 .1 .1 .1 .1 .1 .0) (p .ensures .1 .1 .1) (u .inv .4),
+      c .with-width .ensures ∙ record-more l v (toldMurm (u .table)) (toldWidth (p .result)) h (u .inv .1) (p .ensures .row),
+      done-more _ _ v _ _ _ _ (prints-same l (v + 1)) (p .kept .1 .1 .1 .1 .0) (p .ensures .prints) (u .inv .2),
+      done-more _ _ v _ _ _ _ (parents-same l (v + 1)) (p .kept .1 .1 .1 .1 .1 .0) (p .ensures .parents) (u .inv .3),
+      done-more _ _ v _ _ _ _ (codes-same l (v + 1)) (p .kept .1 .1 .1 .1 .1 .1 .0) (p .ensures .codes) (u .inv .4),
     )
 
 returns : tie.Need-returns Inv-loop μ-loop

@@ -1,4 +1,4 @@
--- `unitary_fingerprint` meets its contract: width, exponent and the entries, turned by the phase on the way, are mixed in and folded.
+-- `unitary_fingerprint` meets its contract: width, exponent and the entries, each turned by the phase as it is read, are mixed in and folded.
 use borrow.Author.Needs.{needs}
 use lib.Dec.{lit<}
 use native.Mathlib.Omega.{arith}

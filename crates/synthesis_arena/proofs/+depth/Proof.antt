@@ -1,5 +1,5 @@
--- `depth` meets its contract. The measure is the node number, which falls because a parent lies below its node. Each refusal is a fault of
--- the walk, and a node's chain is its parent's, within one gate less, and its own gate. Assumes nothing.
+-- `depth` meets its contract. The measure is the node's number, which falls because a parent lies below its node. Each refusal is a fault on
+-- the way, and a node's chain is its parent's, within one gate less, and its own gate. Assumes nothing.
 use mathlib.Core.Path.{sym, _∙_}
 use Prim.Native.Nat.{ℕ, _<_}
 use native.Mathlib.Omega.{arith}
@@ -8,7 +8,7 @@ use borrow.Author.Tests.{not-true, not-false}
 use borrow.Fn.Kinds.{In}
 use borrow.Fn.PlainCycle.{Measures, is, falls, and}
 use Rattle.circuit.proofs.LibraryGate.is_valid_for.Reads as is-valid-for-reads
-use Rattle.synthesis_arena.proofs.Chaining.{depth-unmarked, depth-root, depth-spent, depth-not-below, depth-not-valid, depth-more, depth-bad, deep}
+use Rattle.synthesis_arena.proofs.Depths.{depth-unmarked, depth-root, depth-spent, depth-not-below, depth-not-valid, depth-more, depth-bad, deep}
 use Rattle.synthesis_arena.proofs.is_marked.Reads as is-marked-reads
 use Rattle.synthesis_arena.proofs.depth.Reads as depth
 use Rattle.synthesis_arena.proofs.depth.Kinds as depth-kinds

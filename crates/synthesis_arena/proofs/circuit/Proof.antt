@@ -1,10 +1,11 @@
--- `circuit` meets its contract: behind the place of the next gate stand the chain's last gates, and what is left of the chain is that of
+-- `circuit` meets its contract: after the place of the next gate stand the chain's last gates, and what is left of the chain is that of
 -- the node reached. The measure is how many gates are left. Assumes nothing.
 use mathlib.Core.Path.{_≡_}
 use Prim.Native.Nat.{ℕ, _-_}
 use native.Mathlib.Omega.{arith}
 use borrow.Author.Needs.{needs}
-use Rattle.synthesis_arena.specs.Chains.{chainOf, depthOf, toldDepth}
+use Rattle.synthesis_arena.specs.Chains.{depthOf, toldDepth}
+use Rattle.walk.specs.Chains.{chainOf}
 use Rattle.synthesis_arena.specs.declared.NodeDepth.{NodeDepth}
 use Rattle.synthesis_arena.specs.declared.NodeDepth.the-variants.{At}
 use Rattle.synthesis_arena.proofs.Writing.{Writing, writing-none, writing-more, writing-end, written-not}

@@ -1,7 +1,7 @@
 -- `is_marked` meets its contract: its two tests are the definition's two parts. Assumes nothing.
 use borrow.Author.Needs.{needs}
 use borrow.Author.Tests.{eq-eqb, ne-eqb}
-use Rattle.synthesis_arena.specs.Chains.{marked}
+use Rattle.walk.specs.Chains.{marked}
 use Rattle.synthesis_arena.proofs.is_marked.Statement.{statement}
 use Rattle.synthesis_arena.proofs.is_marked.Tie as tie
 

@@ -4,8 +4,8 @@ use mathlib.Core.Path.{_≡_, subst}
 use Prim.Native.Nat.{ℕ, _-_, _%_}
 use native.Mathlib.Omega.{arith}
 use borrow.Author.Needs.{needs}
-use Rattle.synthesis_arena.specs.Lookup.{lowestFrom}
-use Rattle.synthesis_arena.proofs.Lookups.{Passed, passed-none, passed-more}
+use Rattle.walk.specs.Lookup.{lowestFrom}
+use Rattle.walk.proofs.Lookups.{Passed, passed-none, passed-more}
 use Rattle.synthesis_arena.proofs.may_have.Statement.{statement}
 use Rattle.synthesis_arena.proofs.may_have.Tie as tie
 

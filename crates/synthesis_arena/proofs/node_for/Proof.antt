@@ -1,11 +1,11 @@
--- `node_for` meets its contract: the lookup from the node reached is the lookup from the start. The measure is how many nodes are left.
+-- `node_for` meets its contract: the look-up from the node reached is the look-up from the start. The measure is how many nodes are left.
 -- Assumes nothing.
 use mathlib.Core.Path.{_≡_, sym, _∙_}
 use Prim.Native.Nat.{_-_}
 use native.Mathlib.Omega.{arith}
 use borrow.Author.Needs.{needs}
-use Rattle.synthesis_arena.specs.Lookup.{lowestFrom}
-use Rattle.synthesis_arena.proofs.Lookups.{lookup-here, lookup-on, lookup-end}
+use Rattle.walk.specs.Lookup.{lowestFrom}
+use Rattle.walk.proofs.Lookups.{lookup-here, lookup-on, lookup-end}
 use Rattle.synthesis_arena.proofs.node_for.Statement.{statement}
 use Rattle.synthesis_arena.proofs.node_for.Tie as tie
 

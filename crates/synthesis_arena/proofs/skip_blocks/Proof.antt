@@ -1,10 +1,10 @@
--- `skip_blocks` meets its contract: the lookup from the place reached is the lookup from the start. The measure is how many nodes are left.
+-- `skip_blocks` meets its contract: the look-up from the place reached is the look-up from the start. The measure is how many nodes are left.
 -- Assumes nothing.
 use mathlib.Core.Path.{_≡_, refl, _∙_}
 use Prim.Native.Nat.{_-_, _≤_}
 use native.Mathlib.Omega.{arith}
 use borrow.Author.Needs.{needs}
-use Rattle.synthesis_arena.specs.Lookup.{lowestFrom}
+use Rattle.walk.specs.Lookup.{lowestFrom}
 use Rattle.synthesis_arena.proofs.skip_blocks.Statement.{statement}
 use Rattle.synthesis_arena.proofs.skip_blocks.Tie as tie
 

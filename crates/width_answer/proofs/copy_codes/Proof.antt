@@ -4,12 +4,12 @@ use Prim.Native.Nat.{_-_}
 use native.Mathlib.Omega.{arith}
 use lib.ListN.{length}
 use borrow.Author.Needs.{needs}
-use Rattle.width_answer.proofs.Copies.{Copied, copied-none, copied-more, copied-end}
+use Rattle.width_answer.proofs.Copies.{CodesCopied, copied-none, copied-more, copied-end}
 use Rattle.width_answer.proofs.copy_codes.Statement.{statement}
 use Rattle.width_answer.proofs.copy_codes.Tie as tie
 
 abbrev Inv-loop : tie.InvT-loop
-Inv-loop to₀ from i₀ to i = Copied from to₀ to i
+Inv-loop to₀ from i₀ to i = CodesCopied from to₀ to i
 
 abbrev μ-loop : tie.MeasureT-loop
 μ-loop to₀ from i₀ to i = length from - i

@@ -1,31 +1,29 @@
 -- `checked_add` meets its contract: what `plus` says of each coefficient, put into what `narrowed` says.
-use borrow.Author.Needs.{needs}
 use mathlib.Core.Path.{_∙_, ap}
 use Rattle.ints.proofs.Machine.{said}
 use Rattle.cyclotomic.specs.Zomega.{far, addω}
 use Rattle.cyclotomic.specs.Told.{checked}
-use Rattle.cyclotomic.proofs.Number.{each}
+use Rattle.cyclotomic.proofs.Number.{SizeKept, kept, each}
 use Rattle.cyclotomic.proofs.Cyclotomic.checked_add.Statement.{statement}
 use Rattle.cyclotomic.proofs.Cyclotomic.checked_add.Tie as tie
+
+self : (c : tie.Start) → SizeKept (c .args .self)
+self c = kept (c .good .0 .1 .1)
+
+rhs : (c : tie.Start) → SizeKept (c .args .rhs)
+rhs c = kept (c .good .1 .0 .1 .1)
 
 returns : tie.Need-returns
 unfolding addω
 returns c =
+    let s = c .before .before .before .before .before .before .before .before .before .before .before .before .before in
     c .narrowed .ensures
     ∙ ap checked
     (each
-    (let q = c .before .before .before .before .before .before .before .before .before .before .plus in said far (q .ok) (q .ensures) ∙ search needs)
-    (let q = c .before .before .before .before .before .before .before .plus2 in said far (q .ok) (q .ensures) ∙ search needs)
-    (let q = c .before .before .before .before .plus3 in said far (q .ok) (q .ensures) ∙ search needs)
-    (let q = c .before .plus4 in said far (q .ok) (q .ensures) ∙ search needs))
+    (let q = c .before .before .before .before .before .before .before .before .before .before .plus in said far (q .ok) (q .ensures) ∙ rw (self s .a-kept, rhs s .a-kept))
+    (let q = c .before .before .before .before .before .before .before .plus2 in said far (q .ok) (q .ensures) ∙ rw (self s .b-kept, rhs s .b-kept))
+    (let q = c .before .before .before .before .plus3 in said far (q .ok) (q .ensures) ∙ rw (self s .c-kept, rhs s .c-kept))
+    (let q = c .before .plus4 in said far (q .ok) (q .ensures) ∙ rw (self s .d-kept, rhs s .d-kept)))
 
 pub checked-add-spec : {M : Type 1} → statement M
-checked-add-spec =
-    tie.close
-    (tie.spec
-    (λ c κs. search needs)
-    (λ c κs. search needs)
-    (λ c κs. search needs)
-    (λ c κs. search needs)
-    (λ c κs. search needs)
-    returns)
+checked-add-spec = tie.close (tie.spec (λ c κs. tt) (λ c κs. tt) (λ c κs. tt) (λ c κs. tt) (λ c κs. tt) returns)

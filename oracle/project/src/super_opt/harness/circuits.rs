@@ -1,4 +1,4 @@
-//! Mode `circuits`: document 01's program, with the original's tables, matrices
+//! Mode `circuits`: the program of that name, with the original's tables, matrices
 //! and answers. Standard input holds runs: each is a line `run LENGTH`, so many
 //! bytes, which are the program's input, and a newline. Each is answered by a
 //! line `run LENGTH` and so many bytes, which are the program's output.

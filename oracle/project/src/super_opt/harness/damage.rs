@@ -318,7 +318,7 @@ fn planted(tally: &mut Tally) {
     for place in 4..10 {
         let mut table = Table::with_places(limits_of([1, 8, 10, 24]), 10);
         assert_eq!(table.build(), 0, "the limits are not refused");
-        assert_eq!(table.record[0], 4, "document 01's table has four nodes");
+        assert_eq!(table.record[0], 4, "the worked table has four nodes");
         table.fingerprints[place] = t.fingerprint();
         table.parents[place] = 0;
         table.codes[place] = T;

@@ -20,7 +20,7 @@ pub(super) struct List {
 }
 
 /// Answers each line by one line. What is no list, or has no newline after it,
-/// is refused by 14, as document 01 has it of a line of numbers.
+/// is refused by 14 (SPECIFICATION 10.2).
 pub(super) fn run(_: &[String], out: &mut dyn Write) -> io::Result<()> {
     let mut input = Vec::new();
     io::stdin().lock().read_to_end(&mut input)?;

@@ -1,5 +1,5 @@
-//! What a table answers, written from document 01 alone: nothing here is the
-//! original's or the port's. All arithmetic is on 64-bit integers.
+//! What a table answers, written from docs/SPECIFICATION.md alone: nothing here
+//! is the original's or the port's. All arithmetic is on 64-bit integers.
 
 use super::port::{Reply, Table};
 

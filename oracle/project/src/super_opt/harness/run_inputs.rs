@@ -1,4 +1,4 @@
-//! `inputs circuits`: the runs of document 01's program that port and original
+//! `inputs circuits`: the runs of the program `circuits` that port and original
 //! are compared on, for the mode `circuits`. `inputs circuits sample` is what
 //! the recording holds; `inputs circuits part N` are random runs, others for
 //! each N. The same runs come out each time.
@@ -18,7 +18,7 @@ use super::tables::Limits;
 /// The input of one run.
 type Run = Vec<u8>;
 
-/// Document 01's.
+/// SPECIFICATION 10.7.
 const WORKED: &str = "1 8 10 24\n1 1 8192\n1 1 20480\n";
 
 /// A first line with a small table, and a query that it answers.

@@ -1,4 +1,4 @@
-//! The queries of a run of document 01's program: lists as lines of numbers.
+//! The queries of a run of the program `circuits`: lists as lines of numbers.
 
 use super::codes::{code_of, valid_gates};
 use super::inputs::{TRAP, invalid_codes, list};

@@ -91,8 +91,9 @@ fn questions(limits: Limits, asked: Asked, random: Random) -> Vec<String> {
     }
 }
 
-/// Document 01's tables, and more that come to their limits exactly: X has two
-/// products at width 1 and four at width 2, S four, H and S 24.
+/// The tables of SPECIFICATION 10.7 and 11.2, and more that come to their
+/// limits exactly: X has two products at width 1 and four at width 2, S four,
+/// H and S 24.
 fn pencil() -> Vec<Limits> {
     let tables = [
         [1, 8, 1, 2],

@@ -1,5 +1,5 @@
-//! Tables of the original and its answers to matrices, as lines. Document 01's
-//! refusals 1 to 5 of a build and 6, 9, 10, 11 of a question are decided here;
+//! Tables of the original and its answers to matrices, as lines. The refusals
+//! 1 to 5 of a build and 6, 9, 10, 11 of a question are decided here;
 //! the original has none of 4, 5, 6, 9, 10, 11.
 
 use std::io::{self, Write};

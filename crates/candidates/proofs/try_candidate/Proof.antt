@@ -1,0 +1,63 @@
+-- `try_candidate` meets its contract: a candidate that meets a skip rule or does not fit is skipped, and any other goes to `append`. Assumes
+-- nothing.
+use mathlib.Core.Path.{sym, ap, _∙_}
+use borrow.Author.Needs.{needs}
+use Rattle.node_matrix.specs.Matrices.{toldCandidate}
+use Rattle.node_matrix.proofs.Prints.{print-given, print-refused, fits-alike, prints-alike}
+use Rattle.next_node.proofs.Tries.{pruned-is, skip-pruned, skip-unfit, keep}
+use Rattle.candidates.proofs.try_candidate.Statement.{statement}
+use Rattle.candidates.proofs.try_candidate.Tie as tie
+
+returns : tie.Need-returns
+returns c =
+    let s = c .before .before .before .before .before .before in (
+      λ h e. keep h _ (skip-pruned h _ (sym (pruned-is h _ _ (s .pre .1 .1 .1 .1 .there)) ∙ sym (c .before .is-pruned .ensures) ∙ c .if1 .taken)),
+      s .pre .1 .1 .1 .0,
+    )
+
+returns-2 : tie.Need-returns-2
+returns-2 c =
+    let a = c .before .before in
+    let i = a .before .before .before in
+    let s = i .before .before .before .before .before .before in (
+      λ h e.
+          let t = sym (ap toldCandidate (c .enum-told .given .1)) ∙ a .candidate-print .ensures .0 in
+          keep h _
+          (skip-unfit h _ (sym (pruned-is h _ _ (s .pre .1 .1 .1 .1 .there)) ∙ sym (i .before .is-pruned .ensures) ∙ i .if1 .left)
+          (sym (fits-alike _ _ e) ∙ print-refused _ _ _ t)),
+      a .candidate-print .ensures .1,
+    )
+
+returns-3 : tie.Need-returns-3
+returns-3 c =
+    let a = c .before .before .before .before .before .before in
+    let p = a .before .before .before .before .before in
+    let q = p .before .before in
+    let i = q .before .before .before in
+    let s = i .before .before .before .before .before .before in (
+      λ h e.
+          let t = sym (ap toldCandidate (p .print .given .1)) ∙ q .candidate-print .ensures .0 in
+          let g = print-given _ _ _ t in
+          a .append .ensures h (sym (pruned-is h _ _ (s .pre .1 .1 .1 .1 .there)) ∙ sym (i .before .is-pruned .ensures) ∙ i .if1 .left)
+          (sym (fits-alike _ _ e) ∙ g .0) (g .1 ∙ prints-alike _ _ e),
+      q .candidate-print .ensures .1,
+    )
+
+pub try-candidate-spec : {M : Type 1} → statement M
+try-candidate-spec =
+    tie.close
+    (tie.spec
+    (λ c κs. search needs)
+    (λ c. search needs)
+    returns
+    (λ c. search needs)
+    (λ c κs. search needs)
+    (λ c. search needs)
+    (λ c. search needs)
+    (λ c. search needs)
+    returns-2
+    (λ c κs. search needs)
+    (λ c. search needs)
+    (λ c. search needs)
+    (λ c. search needs)
+    returns-3)

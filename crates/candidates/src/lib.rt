@@ -1,0 +1,122 @@
+// The candidates of one node: each generator after it, in order (SPECIFICATION 6.4 to 6.8). The node's matrix is formed once.
+ghost use mathlib.Core.Path.{_≡_};
+ghost use mathlib.Core.Bool.{true};
+ghost use Prim.Native.Nat.{suc, _≤_, _<_};
+ghost use lib.ListN.{length};
+ghost use Rattle.circuit.specs.Codes.{valid};
+ghost use Rattle.generators.specs.Generators.{generators};
+ghost use Rattle.exact.specs.Places.{held};
+ghost use Rattle.places.specs.Places.{places};
+ghost use Rattle.matrix.specs.Step.{Ready};
+ghost use Rattle.next_node.specs.Arrays.{Room, Live};
+ghost use Rattle.candidates.specs.Tries.{CandidateTried, NodeTried};
+use cyclotomic::Coefficient;
+use matrix::UnitaryMatrix;
+use next_node::Tried;
+use node_matrix::Candidate;
+use synthesis_arena::WidthLimits;
+
+// One candidate: a generator after a node, whose matrix is handed over.
+fn try_candidate(
+    limits: WidthLimits,
+    count: usize,
+    node: usize,
+    gate: u32,
+    exponent: u16,
+    fingerprints: &mut [u64],
+    parents: &mut [u32],
+    codes: &mut [u32],
+    m: &[Coefficient],
+    scratch: &mut [Coefficient; 4096],
+) -> Tried
+    requires narrow { ⌜ (limits .width) ≤ 5 ⌝ }
+    requires valid { ⌜ valid (limits .width) gate ≡ true ⌝ }
+    requires ready { ⌜ Ready (limits .width) exponent (now m) ⌝ }
+    requires long { ⌜ length (now scratch) ≡ places ⌝ }
+    requires room { ⌜ Room limits count node (now fingerprints) (now parents) (now codes) ⌝ }
+    ensures tried { λ r. ⌜ CandidateTried limits count node gate (held (limits .width) exponent (now (m .entry)))
+        (now (fingerprints .entry)) (now (parents .entry)) (now (codes .entry))
+        (now (fingerprints .exit)) (now (parents .exit)) (now (codes .exit)) r ⌝ }
+    ensures long { λ _. ⌜ length (now (scratch .exit)) ≡ places ⌝ }
+{
+    if next_node::is_pruned(node, gate, codes) {
+        return Tried {
+            count,
+            saturated: false,
+        };
+    }
+    let Candidate::Print(print) = node_matrix::candidate_print(
+        limits.width as usize,
+        gate,
+        exponent,
+        m,
+        scratch,
+    ) else {
+        return Tried {
+            count,
+            saturated: false, // a candidate that does not fit
+        };
+    };
+    next_node::append(
+        limits,
+        count,
+        node,
+        gate,
+        print,
+        fingerprints,
+        parents,
+        codes,
+    )
+}
+
+// One node: each generator, in order.
+pub fn try_node(
+    limits: WidthLimits,
+    count: usize,
+    node: usize,
+    gates: &[u32],
+    fingerprints: &mut [u64],
+    parents: &mut [u32],
+    codes: &mut [u32],
+) -> Tried
+    requires bounds { ⌜ ((limits .width) ≤ 5) × (node < count) × ((limits .entries) ≤ 1000000) ⌝ }
+    requires generators { ⌜ now gates ≡ generators (limits .width) (limits .basis) ⌝ }
+    requires live { ⌜ Live limits (now fingerprints) (now parents) (now codes) count node (suc node) ⌝ }
+    ensures tried { λ r. ⌜ NodeTried limits count node
+        (now (fingerprints .entry)) (now (parents .entry)) (now (codes .entry))
+        (now (fingerprints .exit)) (now (parents .exit)) (now (codes .exit)) r ⌝ }
+{
+    let l = limits;
+    let one = UnitaryMatrix::identity(l.width as usize);
+    let mut data = one.data;
+    let k = node_matrix::form_node(l, node, parents, codes, &mut data);
+    let mut scratch = one.data;
+    let mut n = count;
+    let mut j = 0;
+    while j < gates.len() {
+        let t = try_candidate(
+            l,
+            n,
+            node,
+            gates[j],
+            k,
+            fingerprints,
+            parents,
+            codes,
+            &data,
+            &mut scratch,
+        );
+        n = t.count;
+        if t.saturated {
+            return Tried {
+                count: n,
+                saturated: true,
+            };
+        }
+        j += 1;
+    }
+    Tried {
+        count: n,
+        saturated: false,
+    }
+}

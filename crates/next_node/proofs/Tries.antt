@@ -1,0 +1,135 @@
+-- One candidate: what the arrays hold after it, in each of the code's cases. Assumes nothing.
+use mathlib.Core.Path.{_≡_, refl, sym, ap, _∙_, subst}
+use mathlib.Core.Logic.{⊎-elim}
+use mathlib.Core.Bool.{Bool, true, false, _||_, _&&_}
+use mathlib.Core.List.{List, [], _∷_, _++_}
+use Prim.Native.Nat.{ℕ, zero, suc, _+_, _≤_, _<_}
+use native.Mathlib.Omega.{arith}
+use borrow.Author.Tests.{lt-ltb, le-ltb, eq-eqb, eqb-true}
+use lib.Dec.{ltb}
+use lib.ListN.{length, getD, set}
+use Rattle.circuit.specs.Codes.{mark}
+use Rattle.circuit.specs.Pairs.{inverse, disjoint}
+use Rattle.exact.specs.Fingerprint.{fingerprint}
+use Rattle.walk.specs.Meaning.{LowestNode, Nowhere}
+use Rattle.walk.specs.Walk.{Node, State, any, root, gate, listAt, prod, pruned, knows, candidate, skipped, child, try}
+use Rattle.walk.proofs.Grown.{parentAt}
+use Rattle.walk.specs.AtWidth.{samePrint, printOf}
+use Rattle.walk.proofs.Laws.{fitsBy}
+use Rattle.walk.proofs.Grown.{Link}
+use Rattle.walk.proofs.Nodes.{first, link}
+use Rattle.walk.proofs.Candidates.{filled, grownBy}
+use Rattle.walk.proofs.Exactly.{print-is}
+use Rattle.walk.proofs.Sequences.{bool, any-true, any-at, length-snoc}
+use Rattle.synthesis_arena.specs.declared.WidthLimits.{WidthLimits}
+use Rattle.next_node.specs.Arrays.{rules, unsaturated, Column, Long, Room, Live, After}
+use Rattle.next_node.specs.Append.{prunedAt}
+use Rattle.next_node.proofs.Columns.{column-at, column-length, column-snoc}
+
+module _ {lim : WidthLimits} {f u c : List ℕ} {count k top : ℕ} (h : Live lim f u c count k top) where
+  pub live-count : count ≤ lim .entries
+  live-count = omega (arith, h .few, h .columns .count-is)
+
+  pub live-long : Long lim f u c
+  live-long =
+      let b : count ≤ lim .entries = live-count in
+      let q : count ≡ length (h .ns) = h .columns .count-is in record {
+        in-f = omega (arith, column-length (h .columns .prints) q (omega (arith, h .long .in-f)), h .long .in-f);
+        in-u = omega (arith, column-length (h .columns .parents) q (omega (arith, h .long .in-u)), h .long .in-u);
+        in-c = omega (arith, column-length (h .columns .gates) q (omega (arith, h .long .in-c)), h .long .in-c);
+      }
+
+  pub live-room : k < count → lim .entries ≤ 1000000 → Room lim count k f u c
+  live-room l b = record { few = live-count; there = l; most = b; long = live-long }
+
+  -- a node's gate and parent, by the arrays
+  pub gate-at : (j : ℕ) → j < count → getD c j 0 ≡ gate (getD (h .ns) j root)
+  gate-at j l = column-at (h .columns .gates) (h .columns .count-is) j (omega (arith, h .columns .count-is))
+
+  pub parent-at : (j : ℕ) → j < count → getD u j 0 ≡ parentAt (h .ns) j
+  parent-at j l = column-at (h .columns .parents) (h .columns .count-is) j (omega (arith, h .columns .count-is))
+
+  pub pruned-is : (g j : ℕ) → j < count → prunedAt c j g ≡ pruned (rules lim) g (listAt (h .ns) j)
+  pruned-is g zero l = sym (ap (λ (v : Node). pruned (rules lim) g (v .list)) (first (rules lim) (h .grown) .1))
+  pruned-is g (suc j) l =
+      let i : Link (rules lim) (h .ns) (suc j) (getD (h .ns) (suc j) root) = link (rules lim) (h .grown) (suc j) (omega (arith, h .columns .count-is)) (omega arith) in
+      let e : getD c (suc j) 0 ≡ i .code = gate-at (suc j) l ∙ ap (λ (z : List ℕ). getD z 0 mark) (i .is) in
+      ap (λ (z : ℕ). inverse g z || (disjoint g z && ltb g z)) e ∙ sym (ap (pruned (rules lim) g) (i .is))
+
+  module _ (g : ℕ) where
+    abbrev R-pruned : Bool
+    R-pruned = pruned (rules lim) g (listAt (h .ns) k)
+
+    abbrev R-fits : Bool
+    R-fits = fitsBy (lim .width) g (prod (rules lim) (listAt (h .ns) k))
+
+    pub skip-pruned : R-pruned ≡ true → skipped (rules lim) (h .ns) k g ≡ true
+    unfolding skipped
+    skip-pruned e = rw e
+
+    pub skip-unfit : R-pruned ≡ false → R-fits ≡ false → skipped (rules lim) (h .ns) k g ≡ true
+    unfolding skipped
+    skip-unfit e q = rw (e, q)
+
+    skip-by : R-pruned ≡ false → R-fits ≡ true → (b : Bool) → any (knows (rules lim) (candidate (rules lim) (h .ns) k g)) (h .ns) ≡ b
+        → skipped (rules lim) (h .ns) k g ≡ b
+    unfolding skipped
+    skip-by e q b t = rw (e, q) t
+
+    module _ (y : ℕ) (ey : y ≡ fingerprint (lim .width) (candidate (rules lim) (h .ns) k g)) where
+      known-at : (j : ℕ) → j < count → getD f j 0 ≡ y → knows (rules lim) (candidate (rules lim) (h .ns) k g) (getD (h .ns) j root) ≡ true
+      unfolding samePrint
+      known-at j l e =
+          eq-eqb _ _ (sym (column-at (h .columns .prints) (h .columns .count-is) j (omega (arith, h .columns .count-is)) ∙ print-is (lim .width) (lim .basis) (getD (h .ns) j root)) ∙ e ∙ ey)
+
+      at-known : (j : ℕ) → j < count → knows (rules lim) (candidate (rules lim) (h .ns) k g) (getD (h .ns) j root) ≡ true → getD f j 0 ≡ y
+      unfolding samePrint
+      at-known j l e =
+          column-at (h .columns .prints) (h .columns .count-is) j (omega (arith, h .columns .count-is)) ∙ print-is (lim .width) (lim .basis) (getD (h .ns) j root) ∙ eqb-true _ _ e ∙ sym ey
+
+      pub skip-found : R-pruned ≡ false → R-fits ≡ true → (j : ℕ) → LowestNode f count 0 y j → skipped (rules lim) (h .ns) k g ≡ true
+      skip-found e q j w =
+          skip-by e q true (any-at (knows (rules lim) (candidate (rules lim) (h .ns) k g)) root (h .ns) j
+          (omega (arith, w .below, h .columns .count-is)) (known-at j (w .below) (w .has)))
+
+      pub skip-not : R-pruned ≡ false → R-fits ≡ true → Nowhere f count 0 y → skipped (rules lim) (h .ns) k g ≡ false
+      skip-not e q w = skip-by e q false (⊎-elim (λ (t : found ≡ true). none t) (λ (t : found ≡ false). t) (bool found))
+        where
+          found : Bool
+          found = any (knows (rules lim) (candidate (rules lim) (h .ns) k g)) (h .ns)
+
+          none : found ≡ true → found ≡ false
+          none t =
+              let r = any-true (knows (rules lim) (candidate (rules lim) (h .ns) k g)) root (h .ns) t in
+              let l : r .0 < count = omega (arith, r .1, h .columns .count-is) in
+              absurd (w .none-has (r .0) (omega arith) l (at-known (r .0) l (r .2)))
+
+      pub grow : skipped (rules lim) (h .ns) k g ≡ false → count < lim .entries
+          → After lim (h .f0) (h .u0) (h .c0) (try (rules lim) (lim .entries) (unsaturated (h .ns)) k g) (set f count y) (set u count k) (set c count g) (count + 1) false
+      unfolding try
+      grow s l =
+          let q : count ≡ length (h .ns) = h .columns .count-is in
+          let m : Node = child (rules lim) (h .ns) k g in
+          let e : try (rules lim) (lim .entries) (unsaturated (h .ns)) k g ≡ grownBy (rules lim) (unsaturated (h .ns)) k g = rw (s, lt-ltb (length (h .ns)) (lim .entries) (omega arith)) in
+          subst (λ (z : State). After lim (h .f0) (h .u0) (h .c0) z (set f count y) (set u count k) (set c count g) (count + 1) false) (sym e)
+          (record {
+            columns = record {
+              count-is = omega (arith, length-snoc (h .ns) m);
+              prints = subst (λ (v : ℕ). Column (printOf (lim .width)) (h .f0) (h .ns ++ (m ∷ [])) (set f count v) (count + 1)) (print-is (lim .width) (lim .basis) m ∙ sym ey) (column-snoc (h .columns .prints) q (omega (arith, h .long .in-f)) m);
+              parents = column-snoc (h .columns .parents) q (omega (arith, h .long .in-u)) m;
+              gates = column-snoc (h .columns .gates) q (omega (arith, h .long .in-c)) m;
+            };
+            full-is = refl;
+          })
+
+    pub keep : skipped (rules lim) (h .ns) k g ≡ true → After lim (h .f0) (h .u0) (h .c0) (try (rules lim) (lim .entries) (unsaturated (h .ns)) k g) f u c count false
+    unfolding try
+    keep s =
+        let e : try (rules lim) (lim .entries) (unsaturated (h .ns)) k g ≡ unsaturated (h .ns) = rw s in
+        subst (λ (z : State). After lim (h .f0) (h .u0) (h .c0) z f u c count false) (sym e) (record { columns = h .columns; full-is = refl })
+
+    pub fill : skipped (rules lim) (h .ns) k g ≡ false → lim .entries ≤ count → After lim (h .f0) (h .u0) (h .c0) (try (rules lim) (lim .entries) (unsaturated (h .ns)) k g) f u c count true
+    unfolding try
+    fill s l =
+        let e : try (rules lim) (lim .entries) (unsaturated (h .ns)) k g ≡ filled (unsaturated (h .ns)) = rw (s, le-ltb (length (h .ns)) (lim .entries) (omega (arith, h .columns .count-is))) in
+        subst (λ (z : State). After lim (h .f0) (h .u0) (h .c0) z f u c count true) (sym e) (record { columns = h .columns; full-is = refl })

@@ -1,0 +1,86 @@
+// The nodes of a width, put into its arrays one by one: node 0, and a candidate, a generator after a node, where it is not skipped (SPECIFICATION 6.3,
+// 6.5, 6.7, 6.8). The order of the tests matters: a fingerprint is looked up before the count is held against the entry limit, so that a full width
+// is saturated only by a candidate that it lacks.
+ghost use mathlib.Core.Path.{_≡_};
+ghost use Prim.Native.Nat.{_<_};
+ghost use lib.ListN.{length};
+ghost use Rattle.next_node.specs.Arrays.{Room};
+ghost use Rattle.next_node.specs.Append.{RootPut, prunedAt, Appended};
+use circuit::LibraryGate;
+use synthesis_arena::Found;
+use synthesis_arena::MARK;
+use synthesis_arena::WidthLimits;
+
+// How many nodes there are now, and whether the width is saturated (SPECIFICATION 6.8).
+pub struct Tried {
+    pub count: usize,
+    pub saturated: bool,
+}
+
+// Node 0: the fingerprint of the identity, and the mark as its parent and code.
+pub fn put_root(print: u64, fingerprints: &mut [u64], parents: &mut [u32], codes: &mut [u32])
+    requires room { ⌜ (0 < length (now fingerprints)) × (0 < length (now parents)) × (0 < length (now codes)) ⌝ }
+    ensures put { λ _. ⌜ RootPut print
+        (now (fingerprints .entry)) (now (parents .entry)) (now (codes .entry))
+        (now (fingerprints .exit)) (now (parents .exit)) (now (codes .exit)) ⌝ }
+{
+    fingerprints[0] = print;
+    parents[0] = MARK;
+    codes[0] = MARK;
+}
+
+// Whether the gate is skipped after the node by the node's own gate: it inverts that gate, or shares no qubit with it and has the lower code.
+pub fn is_pruned(node: usize, gate: u32, codes: &[u32]) -> bool
+    requires there { ⌜ node < length (now codes) ⌝ }
+    ensures pruned { λ r. ⌜ r ≡ prunedAt (now (codes .entry)) node gate ⌝ }
+{
+    if node == 0 {
+        return false;
+    }
+    let last = codes[node];
+    if LibraryGate(gate).is_inverse_of(LibraryGate(last)) {
+        return true;
+    }
+    if !LibraryGate(gate).is_disjoint(LibraryGate(last)) {
+        return false;
+    }
+    gate < last
+}
+
+// A candidate that fits, by its fingerprint: a known one is skipped, an unknown one is appended, or saturates a width that is full.
+pub fn append(
+    limits: WidthLimits,
+    count: usize,
+    node: usize,
+    gate: u32,
+    print: u64,
+    fingerprints: &mut [u64],
+    parents: &mut [u32],
+    codes: &mut [u32],
+) -> Tried
+    requires room { ⌜ Room limits count node (now fingerprints) (now parents) (now codes) ⌝ }
+    ensures appended { λ r. ⌜ Appended limits count node gate print
+        (now (fingerprints .entry)) (now (parents .entry)) (now (codes .entry))
+        (now (fingerprints .exit)) (now (parents .exit)) (now (codes .exit)) r ⌝ }
+{
+    let entries = limits.entries;
+    let Found::NotFound = synthesis_arena::node_for(fingerprints, count, 0, print) else {
+        return Tried {
+            count,
+            saturated: false, // known, also at count E
+        };
+    };
+    if count == entries {
+        return Tried {
+            count,
+            saturated: true,
+        };
+    }
+    fingerprints[count] = print;
+    parents[count] = node as u32;
+    codes[count] = gate;
+    Tried {
+        count: count + 1,
+        saturated: false,
+    }
+}

@@ -1,0 +1,48 @@
+-- The matrix of a node, read from the arrays, and the fingerprint of the matrix after one gate more. Assumes nothing.
+use mathlib.Core.Path.{_≡_}
+use mathlib.Core.List.{List}
+use Prim.Native.Nat.{ℕ, _<_}
+use lib.IntN.{ℤ, pos}
+use lib.ListN.{length, getD}
+use Rattle.ints.specs.Lists.{pick}
+use Rattle.cyclotomic.specs.Told.{doesNotFit}
+use Rattle.exact.specs.Matrix.{Exact}
+use Rattle.exact.specs.Rows.{act, gateOf}
+use Rattle.exact.specs.Lists.{product}
+use Rattle.exact.specs.Fits.{stepFits, allFit, steps}
+use Rattle.exact.specs.Fingerprint.{fingerprint}
+use Rattle.exact.specs.Answers.{Answer, given, refused}
+use Rattle.matrix.specs.Step.{Holds}
+use Rattle.walk.specs.Chains.{good, chainOf}
+use Rattle.synthesis_arena.specs.declared.WidthLimits.{WidthLimits}
+use Rattle.node_matrix.specs.declared.Candidate.{Candidate}
+use Rattle.node_matrix.specs.declared.Candidate.the-variants.{Print, DoesNotFit}
+
+-- ---- a node's matrix
+
+-- the chain of a node is good, and each step of its list fits
+pub record Readable (lim : WidthLimits) (u c : List ℕ) (node : ℕ) : Type 0 where
+  pub list : List ℕ
+  pub chain : chainOf (lim .width) (lim .basis) u c 64 node ≡ good list
+  pub all-fit : steps (lim .width) list ≡ allFit
+  pub in-u : node < length u
+  pub in-c : node < length c
+
+-- the places hold the product of the node's list, with the exponent k
+abbrev pub Formed : WidthLimits → List ℕ → List ℕ → ℕ → ℕ → List ℤ → Type 0
+Formed lim u c node k m = (h : Readable lim u c node) → Holds (lim .width) k m (product (lim .width) (h .list))
+
+-- ---- a candidate's fingerprint
+
+-- the first i places are another list's, and the length is as it was
+pub record Copied (from old new : List ℤ) (i : ℕ) : Type 0 where
+  pub long : length new ≡ length old
+  pub first : (j : ℕ) → j < i → getD new j (pos 0) ≡ getD from j (pos 0)
+
+-- the fingerprint of the matrix x after the gate g, or that it does not fit
+unfoldable pub printAfter : ℕ → ℕ → Exact → Answer
+printAfter n g x = pick (stepFits n (gateOf n g) x) (given (fingerprint n (act n (gateOf n g) x))) (refused doesNotFit 0)
+
+abbrev pub toldCandidate : Candidate → Answer
+toldCandidate (Print f) = given f
+toldCandidate DoesNotFit = refused doesNotFit 0

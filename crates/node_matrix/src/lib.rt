@@ -1,0 +1,92 @@
+// The matrix of a node and the fingerprints of its candidates. A node keeps no matrix: its matrix is formed once from its list of gates, and
+// each generator is applied to a copy of its places.
+ghost use mathlib.Core.Path.{_≡_};
+ghost use mathlib.Core.Bool.{true};
+ghost use Prim.Native.Nat.{_*_, _^_, _≤_};
+ghost use lib.ListN.{length};
+ghost use Rattle.circuit.specs.Codes.{valid};
+ghost use Rattle.exact.specs.Matrix.{identity};
+ghost use Rattle.exact.specs.Places.{held};
+ghost use Rattle.places.specs.Places.{places};
+ghost use Rattle.matrix.specs.Step.{Holds, Ready};
+ghost use Rattle.node_matrix.specs.Matrices.{Readable, Formed, Copied, printAfter, toldCandidate};
+use circuit::GateSet;
+use circuit::LibraryGate;
+use cyclotomic::Coefficient;
+use lists::Walked;
+use matrix::Applied;
+use synthesis_arena::NodeCircuit;
+use synthesis_arena::WidthLimits;
+
+// The fingerprint of a candidate, or that it does not fit.
+pub enum Candidate {
+    Print(u64),
+    DoesNotFit,
+}
+
+// The matrix of a node, formed from its list in places that hold the identity. Returns the exponent. The two other arms are never taken.
+pub fn form_node(
+    limits: WidthLimits,
+    node: usize,
+    parents: &[u32],
+    codes: &[u32],
+    m: &mut [Coefficient; 4096],
+) -> u16
+    requires narrow { ⌜ (limits .width) ≤ 5 ⌝ }
+    requires identity { ⌜ Holds (limits .width) 0 (now m) identity ⌝ }
+    requires readable { ⌜ Readable limits (now parents) (now codes) node ⌝ }
+    ensures formed { λ r. ⌜ Formed limits (now (parents .entry)) (now (codes .entry)) node r (now (m .exit)) ⌝ }
+{
+    let mut list: [u32; 64] = [0; 64];
+    let NodeCircuit::Length(size) = synthesis_arena::circuit(
+        parents,
+        codes,
+        limits.width,
+        GateSet(limits.basis),
+        64,
+        node,
+        &mut list,
+    ) else {
+        return 0;
+    };
+    match lists::apply_gates(m, limits.width as usize, &list[0..size]) {
+        Walked::Fits(k) => k,
+        Walked::UnfitAt(_) => 0,
+    }
+}
+
+// The places of a matrix of width n are copied to the first places of another slice.
+fn copy_matrix(n: usize, from: &[Coefficient], to: &mut [Coefficient])
+    requires narrow { ⌜ n ≤ 5 ⌝ }
+    requires room { ⌜ (4 * (2 ^ n * 2 ^ n) ≤ length (now from)) × (4 * (2 ^ n * 2 ^ n) ≤ length (now to)) ⌝ }
+    ensures copied { λ _. ⌜ Copied (now (from .entry)) (now (to .entry)) (now (to .exit)) (4 * (2 ^ n * 2 ^ n)) ⌝ }
+{
+    let size = 4 * places::area(n);
+    let mut i = 0;
+    while i < size {
+        to[i] = from[i];
+        i += 1;
+    }
+}
+
+// The fingerprint of a matrix after a gate, or that the step does not fit. The gate is applied to a copy in `scratch`.
+pub fn candidate_print(
+    n: usize,
+    gate: u32,
+    exponent: u16,
+    m: &[Coefficient],
+    scratch: &mut [Coefficient; 4096],
+) -> Candidate
+    requires narrow { ⌜ n ≤ 5 ⌝ }
+    requires valid { ⌜ valid n gate ≡ true ⌝ }
+    requires ready { ⌜ Ready n exponent (now m) ⌝ }
+    requires long { ⌜ length (now scratch) ≡ places ⌝ }
+    ensures print { λ r. ⌜ toldCandidate r ≡ printAfter n gate (held n exponent (now (m .entry))) ⌝ }
+    ensures long { λ _. ⌜ length (now (scratch .exit)) ≡ places ⌝ }
+{
+    copy_matrix(n, m, scratch);
+    let Applied::Done(k) = matrix::apply_gate_left(scratch, n, LibraryGate(gate), exponent) else {
+        return Candidate::DoesNotFit;
+    };
+    Candidate::Print(prints::unitary_fingerprint(scratch, n, k))
+}

@@ -1,0 +1,114 @@
+-- Which input is refused, exactly: the statements of specs/Exactly. Assumes nothing.
+use mathlib.Core.Path.{_≡_, refl, sym, ap, _∙_, subst}
+use mathlib.Core.Logic.{_↔_, _⊎_, inl, inr}
+use mathlib.Core.List.{List, [], _∷_}
+use Prim.Native.Nat.{ℕ, zero, suc}
+use native.Mathlib.Omega.{arith}
+use Rattle.walk.specs.Answers.{Reply, given, none, refused, Outcome, outcome}
+use Rattle.walk.proofs.Meaning.{kind-of}
+use Rattle.tables.specs.Checks.{firstRow, Limits, Arrays}
+use Rattle.tables.specs.Tables.{Table, BuildReply, table, refusal, Left, left, recordOf, builtTo, buildRows, buildOf, Query, synthesized}
+use Rattle.tables.specs.Exactly.{Cause, cause, First, NoCause, buildCauses, BadChain, answerCauses, Exactly}
+use Rattle.tables.proofs.FromBuild.{build-refusal, build-fills}
+use Rattle.tables.proofs.Replies.{ReplyCase, not-a-width, part-asked, by-row, row-refuses, width-asked, cases, asked-means}
+use Rattle.tables.proofs.OfBuilt.{a-width}
+use Rattle.tables.proofs.Demand3.{has-width}
+use Rattle.tables.proofs.Causes.{first-to, first-from, none-to, none-from, first-more, first-later, first-split}
+use Rattle.tables.proofs.ListExactly.{list, formed}
+use Rattle.tables.proofs.InWords.{build-in-words, rowCauses, answer-in-words}
+
+-- ---- a build
+
+abbrev buildNumber : BuildReply → ℕ
+buildNumber (table t) = 0
+buildNumber (refusal r p) = suc r
+
+abbrev buildPosition : BuildReply → ℕ
+buildPosition (table t) = 0
+buildPosition (refusal r p) = p
+
+module _ (l : Limits) (a : Arrays) where
+  build : (b : Arrays) (r p : ℕ) → (buildOf l a ≡ left (refusal r p) b) ↔ (First r p (buildCauses l a) × (b ≡ a))
+  build b r p = (λ n. to n (firstRow (buildRows l a)) refl, from)
+    where
+      to : buildOf l a ≡ left (refusal r p) b → (s : ℕ) → firstRow (buildRows l a) ≡ s → First r p (buildCauses l a) × (b ≡ a)
+      to n zero f = absurd (omega (arith, ap (λ (z : Left). buildNumber (z .reply)) (sym (build-fills l a f) ∙ n)))
+      to n (suc s) f =
+          let z = sym (build-refusal l a (suc s) (omega arith) f) ∙ n in
+          let x : suc s ≡ r = omega (arith, ap (λ (y : Left). buildNumber (y .reply)) z) in
+          let y : 0 ≡ p = ap (λ (y : Left). buildPosition (y .reply)) z in (
+            subst (λ (j : ℕ). First r j (buildCauses l a)) y
+                (subst (λ (j : ℕ). First j 0 (buildCauses l a)) x (first-to (build-in-words l a) (suc s) (omega arith) f)),
+            sym (ap (λ (y : Left). y .arrays) z),
+          )
+
+      from : First r p (buildCauses l a) × (b ≡ a) → buildOf l a ≡ left (refusal r p) b
+      from (f, z) =
+          let (x, h, y) = first-from (build-in-words l a) r p f in
+          build-refusal l a r h x ∙ (λ k. left (refusal r (sym y k)) (sym z k))
+
+  built : (buildOf l a ≡ left (table (recordOf l)) (builtTo l (l .qubits) a)) ↔ NoCause (buildCauses l a)
+  built = (λ n. to n (firstRow (buildRows l a)) refl, λ n. build-fills l a (none-from (build-in-words l a) n))
+    where
+      to : buildOf l a ≡ left (table (recordOf l)) (builtTo l (l .qubits) a) → (s : ℕ) → firstRow (buildRows l a) ≡ s → NoCause (buildCauses l a)
+      to n zero f = none-to (build-in-words l a) f
+      to n (suc s) f = absurd (omega (arith, ap (λ (z : Left). buildNumber (z .reply)) (sym (build-refusal l a (suc s) (omega arith) f) ∙ n)))
+
+-- ---- an answer
+
+abbrev first : Reply → ℕ
+first (given m) = 0
+first none = 0
+first (refused r p) = r
+
+abbrev second : Reply → ℕ
+second (given m) = 0
+second none = 0
+second (refused r p) = p
+
+module _ (t : Table) (a : Arrays) (q : Query) (out : List ℕ) where
+  -- the last row: the chain found
+  abbrev chain : Cause
+  chain = cause 13 (BadChain t a q)
+
+  answer : (after : List ℕ) (r p : ℕ) → (synthesized t a q out ≡ outcome (refused r p) after) ↔ (First r p (answerCauses t a q out) × (after ≡ out))
+  answer after r p = (λ n. to n (cases t a q out), λ x. from (first-split (rowCauses t a q out) (chain ∷ []) r p (x .0)) (x .1))
+    where
+      -- a refusal of the number s without a position, which this is
+      told : (s : ℕ) → First s 0 (answerCauses t a q out) → s ≡ r → 0 ≡ p → First r p (answerCauses t a q out)
+      told s f x y = subst (λ (j : ℕ). First r j (answerCauses t a q out)) y (subst (λ (j : ℕ). First j 0 (answerCauses t a q out)) x f)
+
+      to : synthesized t a q out ≡ outcome (refused r p) after → ReplyCase t a q out → First r p (answerCauses t a q out) × (after ≡ out)
+      to n (not-a-width f w m) = absurd (omega (arith, kind-of (sym m ∙ n)))
+      to n (part-asked f w m) =
+          let (x, y, z, u) = asked-means t a q out .is-refused r p after .0 (sym m ∙ n) in
+          let v = a-width t q w in (
+            told 13 (first-later (rowCauses t a q out) (chain ∷ []) 13 0 (none-to (answer-in-words t a q out) f)
+                (inl (refl, (record { some = v .0; has = v .1; fault = x }, refl)))) (sym y) (sym z),
+            u,
+          )
+      to n (by-row s h f m) =
+          let z = sym m ∙ n in (
+            told s (first-more (rowCauses t a q out) (chain ∷ []) s 0 (first-to (answer-in-words t a q out) s h f))
+                (ap (λ (o : Outcome). first (o .reply)) z) (ap (λ (o : Outcome). second (o .reply)) z),
+            sym (ap (λ (o : Outcome). o .list) z),
+          )
+
+      from : First r p (rowCauses t a q out) ⊎ (NoCause (rowCauses t a q out) × First r p (chain ∷ [])) → after ≡ out
+          → synthesized t a q out ≡ outcome (refused r p) after
+      from (inl f) z =
+          let (x, h, y) = first-from (answer-in-words t a q out) r p f in
+          row-refuses t a q out r h x ∙ (λ k. outcome (refused r (sym y k)) (sym z k))
+      from (inr (n, inl (x, (c, y)))) z =
+          width-asked t a q out (none-from (answer-in-words t a q out) n) (has-width t q (c .some) (c .has))
+          ∙ asked-means t a q out .is-refused r p after .1 (c .fault, sym x, y, z)
+      from (inr (n, inr (m, f))) z = absurd f
+
+pub exactly : Exactly
+exactly = record {
+  build = build;
+  built = built;
+  answer = answer;
+  list = list;
+  formed = formed;
+}

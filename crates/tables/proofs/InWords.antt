@@ -1,0 +1,137 @@
+-- The rows of a build and of an answer, each test against its words. Assumes nothing.
+use mathlib.Core.Path.{_≡_, refl, ap, _∙_, sym}
+use mathlib.Core.Logic.{_⊎_, inl, inr}
+use mathlib.Core.Bool.{true, _||_, Bool, not}
+use mathlib.Core.List.{List, [], _∷_, _++_}
+use Prim.Native.Nat.{ℕ, zero, suc, _<_, _+_, _≤_}
+use native.Mathlib.Omega.{arith}
+use native.Mathlib.Decide.{ℕ-discrete}
+use borrow.Author.Tests.{ne-eqb}
+use lib.IntN.{ℤ, pos, negsuc}
+use lib.ListN.{length, getD}
+use lib.Dec.{eqb}
+use Rattle.ints.proofs.Bools.{clash, or-right}
+use Rattle.ints.specs.Lists.{range}
+use Rattle.cyclotomic.specs.Zomega.{limit, eqZ}
+use Rattle.cyclotomic.proofs.Answers.{eqZ-true, eqZ-self}
+use Rattle.circuit.specs.Sets.{supported, subset}
+use Rattle.exact.specs.Matrix.{allDivisible}
+use Rattle.exact.specs.Places.{read}
+use Rattle.walk.proofs.Sequences.{or-cases}
+use Rattle.walk.specs.Walk.{any}
+use Rattle.tables.specs.Checks.{Limits, limitRows, Arrays, placesOf, roomRow, byteCount, anyBelow, queryRows, firstRow}
+use Rattle.tables.specs.Tables.{buildRows, Query, Table, widthAt, allWidths, badCount, recordRow, answerRows}
+use Rattle.tables.specs.Exactly.{limitCauses, Short, buildCauses, Below, queryCauses, Cause, cause, BadRecord, bad-limits, bad-count}
+use Rattle.tables.proofs.Causes.{Decides, is-eq, is-lt, is-true, is-false, is-not, is-or, is-and, InWords, done, more, words-append, first-to, first-from, none-to}
+
+-- ---- a build
+
+pub limits-in-words : (l : Limits) → InWords (limitRows l) (limitCauses l)
+limits-in-words l =
+    more 1 (omega arith) (is-or (is-eq (l .qubits) 0) (is-lt 5 (l .qubits)))
+    (more 2 (omega arith) (is-eq (l .entries) 0)
+    (more 3 (omega arith) (is-or (is-eq (l .basis) 0) (is-false (subset (l .basis) supported)))
+    (more 4 (omega arith) (is-or (is-lt 64 (l .gates)) (is-lt 1000000 (l .entries))) done)))
+
+pub is-short : (l : Limits) (a : Arrays) → Decides (Short l a) (roomRow l a .holds)
+is-short l a =
+    is-or (is-lt (length (a .prints)) (placesOf l)) (is-or (is-lt (length (a .parents)) (placesOf l)) (is-lt (length (a .codes)) (placesOf l)))
+
+pub build-in-words : (l : Limits) (a : Arrays) → InWords (buildRows l a) (buildCauses l a)
+build-in-words l a = words-append (limits-in-words l) (more 5 (omega arith) (is-short l a) done)
+
+-- ---- a query
+
+below-one : (x : ℤ) (l : List ℤ) → Decides (Below l) (anyBelow l) → Decides (Below (x ∷ l)) (eqZ x (negsuc limit) || anyBelow l)
+below-one x l rest = record { to = λ e. to (or-cases (eqZ x (negsuc limit)) (anyBelow l) e); from = λ w. from (w .place) (w .inside) (w .is) }
+  where
+    to : (eqZ x (negsuc limit) ≡ true) ⊎ (anyBelow l ≡ true) → Below (x ∷ l)
+    to (inl e) = record { place = 0; inside = omega arith; is = eqZ-true x (negsuc limit) e }
+    to (inr e) = let w = rest .to e in record { place = suc (w .place); inside = omega (arith, w .inside); is = w .is }
+
+    from : (p : ℕ) → p < suc (length l) → getD (x ∷ l) p (pos 0) ≡ negsuc limit → (eqZ x (negsuc limit) || anyBelow l) ≡ true
+    from zero h e = let z = ap (λ (y : ℤ). eqZ y (negsuc limit)) e ∙ eqZ-self (negsuc limit) in rw z
+    from (suc p) h e = or-right (eqZ x (negsuc limit)) (anyBelow l) (rest .from (record { place = p; inside = omega arith; is = e }))
+
+is-below : (bytes : List ℤ) → Decides (Below bytes) (anyBelow bytes)
+unfolding anyBelow
+is-below [] = record { to = λ e. clash e refl; from = λ w. absurd (omega (arith, w .inside)) }
+is-below (x ∷ l) = below-one x l (is-below l)
+
+pub query-in-words : (q : Query) → InWords (queryRows (q .width) (q .exponent) (q .bytes)) (queryCauses q)
+query-in-words q =
+    more 6 (omega arith) (is-lt 5 (q .width))
+    (more 9 (omega arith) (is-not (is-eq (length (q .bytes)) (byteCount (q .width))))
+    (more 10 (omega arith) (is-below (q .bytes))
+    (more 11 (omega arith) (is-and (is-lt 0 (q .exponent)) (is-true (allDivisible (q .width) (read (q .width) (q .bytes))))) done)))
+
+-- ---- the record of a lent table
+
+-- a test of one of m numbers from i on
+any-from : (f : ℕ → Bool) (m i : ℕ) → any f (range i m) ≡ true → (k : ℕ) × (i ≤ k) × (f k ≡ true)
+unfolding range
+any-from f zero i e = clash e refl
+any-from f (suc m) i e = by (or-cases (f i) (any f (range (suc i) m)) e) (λ h. any-from f m (suc i) h)
+  where
+    by : (f i ≡ true) ⊎ (any f (range (suc i) m) ≡ true) → (any f (range (suc i) m) ≡ true → (k : ℕ) × (suc i ≤ k) × (f k ≡ true))
+        → (k : ℕ) × (i ≤ k) × (f k ≡ true)
+    by (inl h) g = (i, omega arith, h)
+    by (inr h) g = let r = g h in (r .0, omega (arith, r .1), r .2)
+
+pub any-to : (f : ℕ → Bool) (m i k : ℕ) → i ≤ k → k < i + m → f k ≡ true → any f (range i m) ≡ true
+unfolding range
+any-to f zero i k p q e = absurd (omega arith)
+any-to f (suc m) i k p q e = by (ℕ-discrete k i) (λ h. any-to f m (suc i) k h (omega arith) e)
+  where
+    by : Dec (k ≡ i) → (suc i ≤ k → any f (range (suc i) m) ≡ true) → (f i || any f (range (suc i) m)) ≡ true
+    by (yes h) g = let z = ap f (sym h) ∙ e in rw z
+    by (no h) g = or-right (f i) (any f (range (suc i) m)) (g (omega arith))
+
+module _ (t : Table) where
+  -- the count of a width
+  is-bad-count : (w : ℕ) → Decides ((t .limits .qubits < w → ⊥) × ((widthAt t w .count ≡ 0) ⊎ (t .limits .entries < widthAt t w .count))) (badCount t w)
+  is-bad-count w = is-and (is-not (is-lt (t .limits .qubits) w)) (is-or (is-eq (widthAt t w .count) 0) (is-lt (t .limits .entries) (widthAt t w .count)))
+
+  -- the limits
+  abbrev first-limit : ℕ
+  first-limit = firstRow (limitRows (t .limits))
+
+  is-record : Decides (BadRecord t) (recordRow t .holds)
+  unfolding range
+  is-record = record { to = λ e. to (or-cases (not (eqb first-limit 0)) (any (badCount t) allWidths) e); from = from }
+    where
+      some : (r : ℕ) → first-limit ≡ r → not (eqb r 0) ≡ true → BadRecord t
+      some zero e h = clash h refl
+      some (suc r) e h = bad-limits (suc r) 0 (first-to (limits-in-words (t .limits)) (suc r) (omega arith) e)
+
+      to : (not (eqb first-limit 0) ≡ true) ⊎ (any (badCount t) (range 1 5) ≡ true) → BadRecord t
+      to (inl e) = some first-limit refl e
+      to (inr e) =
+          let (w, p, h) = any-from (badCount t) 5 1 e in
+          let (q, c) = is-bad-count w .to h in
+          bad-count w (omega arith) (omega arith) c
+
+      from : BadRecord t → (not (eqb first-limit 0) || any (badCount t) (range 1 5)) ≡ true
+      from (bad-limits r p f) =
+          let (e, h, z) = first-from (limits-in-words (t .limits)) r p f in
+          let x = ne-eqb first-limit 0 (omega (arith, e, h)) in
+          rw x
+      from (bad-count w p h c) = by first-limit refl
+        where
+          by : (r : ℕ) → first-limit ≡ r → (not (eqb r 0) || any (badCount t) (range 1 5)) ≡ true
+          by zero e =
+              let wide : 5 < t .limits .qubits → ⊥ = λ z. none-to (limits-in-words (t .limits)) e .0 0 (inr z, refl) in
+              any-to (badCount t) 5 1 w (omega arith) (omega arith) (is-bad-count w .from ((λ q. omega arith), c))
+          by (suc r) e = let x = ne-eqb (suc r) 0 (omega arith) in rw x
+
+-- ---- an answer, up to row 12
+
+abbrev pub rowCauses : Table → Arrays → Query → List ℕ → List Cause
+rowCauses t a q out =
+    cause 13 (BadRecord t) ∷ cause 5 (Short (t .limits) a) ∷ (queryCauses q ++ (cause 12 (length out < t .limits .gates) ∷ []))
+
+pub answer-in-words : (t : Table) (a : Arrays) (q : Query) (out : List ℕ) → InWords (answerRows t a q out) (rowCauses t a q out)
+answer-in-words t a q out =
+    more 13 (omega arith) (is-record t)
+    (more 5 (omega arith) (is-short (t .limits) a)
+    (words-append (query-in-words q) (more 12 (omega arith) (is-lt (length out) (t .limits .gates)) done)))

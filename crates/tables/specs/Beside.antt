@@ -1,0 +1,43 @@
+-- What holds of built tables beside demand 3: the demand from a weaker condition, the order of the nodes, and built tables as what a build
+-- leaves unchanged. No demand rests on it. Assumes nothing.
+use mathlib.Core.Path.{_≡_}
+use mathlib.Core.Logic.{_↔_}
+use Prim.Native.Nat.{ℕ, suc, _≤_, _<_}
+use lib.ListN.{length, getD}
+use Rattle.walk.specs.Walk.{root, listAt}
+use Rattle.walk.proofs.Grown.{parentAt}
+use Rattle.walk.specs.AtWidth.{printOf}
+use Rattle.walk.specs.Known.{SkippedRightly}
+use Rattle.tables.specs.Checks.{Limits, Arrays}
+use Rattle.tables.specs.Tables.{Table, walkOf, table, left, buildOf, widthAt, Query}
+use Rattle.tables.specs.Built.{Built}
+use Rattle.tables.specs.Demand3.{Complete}
+
+-- ---- the nodes of a width, in their order
+
+-- a parent lies below its node, and parents never fall; the depth of a node is one more than its parent's, depths never fall and rise by at most
+-- one, and none is above G; no two nodes have one fingerprint (SPECIFICATION 6.14)
+pub record Ordered (l : Limits) (w : ℕ) : Type 0 where
+  pub below : (j : ℕ) → 0 < j → j < length (walkOf l w .nodes) → parentAt (walkOf l w .nodes) j < j
+  pub parents-rise : (i j : ℕ) → 0 < i → i ≤ j → j < length (walkOf l w .nodes) → parentAt (walkOf l w .nodes) i ≤ parentAt (walkOf l w .nodes) j
+  pub one-deeper : (j : ℕ) → 0 < j → j < length (walkOf l w .nodes)
+      → length (listAt (walkOf l w .nodes) j) ≡ suc (length (listAt (walkOf l w .nodes) (parentAt (walkOf l w .nodes) j)))
+  pub depths-rise : (i j : ℕ) → i ≤ j → j < length (walkOf l w .nodes) → length (listAt (walkOf l w .nodes) i) ≤ length (listAt (walkOf l w .nodes) j)
+  pub depths-step : (j : ℕ) → suc j < length (walkOf l w .nodes) → length (listAt (walkOf l w .nodes) (suc j)) ≤ suc (length (listAt (walkOf l w .nodes) j))
+  pub short : (j : ℕ) → j < length (walkOf l w .nodes) → length (listAt (walkOf l w .nodes) j) ≤ l .gates
+  pub prints-differ : (i j : ℕ) → i < j → j < length (walkOf l w .nodes)
+      → printOf w (getD (walkOf l w .nodes) i root) ≡ printOf w (getD (walkOf l w .nodes) j root) → ⊥
+
+-- ---- beside the demand
+
+pub record Beside : Type 0 where
+  -- demand 3's (c) from hypothesis K: every candidate of the walk that was skipped as known has a node present for it (SPECIFICATION 8.14)
+  pub complete-rightly : (t : Table) (a : Arrays) → Built t a → t .limits .gates ≤ 13
+      → (q : Query) → SkippedRightly (q .width) (t .limits .basis) (t .limits .gates) (t .limits .entries) → Complete t a q
+  -- counts are at least 1 and at most E (SPECIFICATION 6.14)
+  pub counts : (t : Table) (a : Arrays) → Built t a → (w : ℕ) → 0 < w → w ≤ t .limits .qubits
+      → (0 < widthAt t w .count) × (widthAt t w .count ≤ t .limits .entries)
+  -- the nodes that a built table holds are in order
+  pub ordered : (t : Table) (a : Arrays) → Built t a → (w : ℕ) → 0 < w → w ≤ t .limits .qubits → Ordered (t .limits) w
+  -- a table is built exactly where a build of its limits in its arrays returns its record and changes no place (SPECIFICATION 8.11)
+  pub built-again : (t : Table) (a : Arrays) → Built t a ↔ (buildOf (t .limits) a ≡ left (table t) a)

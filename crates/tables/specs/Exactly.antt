@@ -1,0 +1,136 @@
+-- Which input is refused, by which number and at which position, exactly (SPECIFICATION 9.1 to 9.3): the rows of each public entry in words,
+-- in their order; a build, an answer and a list are refused by a row exactly where it holds and none before it does. The rows are told again
+-- here, as what is so and not as a test, so that the tests of Checks, Tables and Lists are checked against them. Assumes nothing.
+use mathlib.Core.Path.{_≡_}
+use mathlib.Core.Logic.{_↔_, _⊎_}
+use mathlib.Core.Bool.{true, false}
+use mathlib.Core.List.{List, [], _∷_, _++_}
+use Prim.Native.Nat.{ℕ, _≤_, _<_}
+use lib.IntN.{ℤ, pos, negsuc}
+use lib.ListN.{length, getD}
+use Rattle.cyclotomic.specs.Zomega.{limit}
+use Rattle.circuit.specs.Sets.{supported, subset}
+use Rattle.circuit.specs.Codes.{valid}
+use Rattle.exact.specs.Matrix.{allDivisible}
+use Rattle.exact.specs.Lists.{product}
+use Rattle.exact.specs.Fits.{FirstPast}
+use Rattle.exact.specs.Answers as e
+use Rattle.exact.specs.Places.{read}
+use Rattle.walk.specs.Answers.{refused, outcome}
+use Rattle.walk.specs.Meaning.{BadFound}
+use Rattle.tables.specs.Checks.{Limits, Arrays, placesOf, byteCount}
+use Rattle.tables.specs.Tables.{Table, widthAt, recordOf, builtTo, table, refusal, left, buildOf, Query, matrixOf, limitsAt, partAt, synthesized}
+use Rattle.tables.specs.Lists as lists
+use Rattle.tables.specs.Lists.{coefficients, listed}
+
+-- ---- rows in words
+
+-- a row: what is so where it refuses at a position, and its number
+pub record Cause : Type 1 where
+  pub number : ℕ
+  pub at : ℕ → Type 0
+
+-- a row that tells no position: it is 0
+abbrev pub cause : ℕ → Type 0 → Cause
+cause r C = record { number = r; at = λ p. C × (p ≡ 0) }
+
+-- a row that tells the position p of which C p is so
+abbrev pub causeAt : ℕ → (ℕ → Type 0) → Cause
+causeAt r C = record { number = r; at = C }
+
+-- the row does not hold, at any position
+abbrev pub Past : Cause → Type 0
+Past x = (p : ℕ) → x .at p → ⊥
+
+-- a row numbered r holds at the position p, and no row before it holds (SPECIFICATION 9.2)
+abbrev pub First : ℕ → ℕ → List Cause → Type 0
+First r p [] = ⊥
+First r p (x ∷ xs) = ((x .number ≡ r) × x .at p) ⊎ (Past x × First r p xs)
+
+-- no row holds
+abbrev pub NoCause : List Cause → Type 0
+NoCause [] = Unit {0}
+NoCause (x ∷ xs) = Past x × NoCause xs
+
+-- ---- a build
+
+module _ (l : Limits) where
+  -- rows 1 to 4
+  abbrev pub limitCauses : List Cause
+  limitCauses =
+      cause 1 ((l .qubits ≡ 0) ⊎ (5 < l .qubits))
+      ∷ cause 2 (l .entries ≡ 0)
+      ∷ cause 3 ((l .basis ≡ 0) ⊎ (subset (l .basis) supported ≡ false))
+      ∷ cause 4 ((64 < l .gates) ⊎ (1000000 < l .entries)) ∷ []
+
+  -- an array has fewer than Q × E places
+  abbrev pub Short : Arrays → Type 0
+  Short a = (length (a .prints) < placesOf l) ⊎ (length (a .parents) < placesOf l) ⊎ (length (a .codes) < placesOf l)
+
+  -- rows 1 to 5, in the order of a build
+  abbrev pub buildCauses : Arrays → List Cause
+  buildCauses a = limitCauses ++ (cause 5 (Short a) ∷ [])
+
+-- ---- an answer
+
+-- a bad record: its limits are refused, or the count of a width up to Q is 0 or above E (SPECIFICATION 9.3)
+pub data BadRecord (t : Table) : Type 0 where
+  bad-limits : (r p : ℕ) → First r p (limitCauses (t .limits)) → BadRecord t
+  bad-count : (w : ℕ) → 0 < w → w ≤ t .limits .qubits → (widthAt t w .count ≡ 0) ⊎ (t .limits .entries < widthAt t w .count) → BadRecord t
+
+-- one of the coefficients is -128, one below the limit's negative
+pub record Below (bytes : List ℤ) : Type 0 where
+  pub place : ℕ
+  pub inside : place < length bytes
+  pub is : getD bytes place (pos 0) ≡ negsuc limit
+
+-- rows 6, 9, 10, 11
+abbrev pub queryCauses : Query → List Cause
+queryCauses q =
+    cause 6 (5 < q .width)
+    ∷ cause 9 (length (q .bytes) ≡ byteCount (q .width) → ⊥)
+    ∷ cause 10 (Below (q .bytes))
+    ∷ cause 11 ((0 < q .exponent) × (allDivisible (q .width) (read (q .width) (q .bytes)) ≡ true)) ∷ []
+
+-- the table has the width, and the way from the node found in its part meets a fault (SPECIFICATION 7.5)
+pub record BadChain (t : Table) (a : Arrays) (q : Query) : Type 0 where
+  pub some : 0 < q .width
+  pub has : q .width ≤ t .limits .qubits
+  pub fault : BadFound (limitsAt (t .limits) (q .width)) (partAt t a (q .width)) (matrixOf q)
+
+-- 13 of the record, 5, 6, 9, 10, 11, 12, 13 of the chain found: the order of an answer
+abbrev pub answerCauses : Table → Arrays → Query → List ℕ → List Cause
+answerCauses t a q out =
+    cause 13 (BadRecord t)
+    ∷ cause 5 (Short (t .limits) a)
+    ∷ (queryCauses q ++ (cause 12 (length out < t .limits .gates) ∷ cause 13 (BadChain t a q) ∷ []))
+
+-- ---- a list
+
+-- code p is the first that is not valid at the width
+pub record FirstNotValid (n : ℕ) (codes : List ℕ) (p : ℕ) : Type 0 where
+  pub inside : p < length codes
+  pub before : (j : ℕ) → j < p → valid n (getD codes j 0) ≡ true
+  pub not-valid : valid n (getD codes p 0) ≡ false
+
+-- rows 6, 9, 7, 8: the order of a list
+abbrev pub listCauses : ℕ → List ℕ → List ℤ → List Cause
+listCauses n codes bytes =
+    cause 6 (5 < n)
+    ∷ cause 9 (length bytes ≡ byteCount n → ⊥)
+    ∷ causeAt 7 (FirstNotValid n codes)
+    ∷ causeAt 8 (FirstPast n codes) ∷ []
+
+-- ---- exactly
+
+-- a refusal is told exactly where its row is the first that holds, at that position, and leaves lent memory as it was; and where no row holds,
+-- the build or the list does what was asked
+pub record Exactly : Type 0 where
+  pub build : (l : Limits) (a b : Arrays) (r p : ℕ) → (buildOf l a ≡ left (refusal r p) b) ↔ (First r p (buildCauses l a) × (b ≡ a))
+  pub built : (l : Limits) (a : Arrays) → (buildOf l a ≡ left (table (recordOf l)) (builtTo l (l .qubits) a)) ↔ NoCause (buildCauses l a)
+  pub answer : (t : Table) (a : Arrays) (q : Query) (out after : List ℕ) (r p : ℕ)
+      → (synthesized t a q out ≡ outcome (refused r p) after) ↔ (First r p (answerCauses t a q out) × (after ≡ out))
+  pub list : (n : ℕ) (codes : List ℕ) (bytes after : List ℤ) (r p : ℕ)
+      → (listed n codes bytes ≡ lists.outcome (e.refused r p) after) ↔ (First r p (listCauses n codes bytes) × (after ≡ bytes))
+  pub formed : (n : ℕ) (codes : List ℕ) (bytes : List ℤ)
+      → (listed n codes bytes ≡ lists.outcome (e.given (product n codes .k)) (coefficients n (product n codes))) ↔ NoCause (listCauses n codes bytes)

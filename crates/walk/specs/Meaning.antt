@@ -1,0 +1,118 @@
+-- What look-ups, chains and answers come to, said of nodes, of the way along the parents and of lists: a second form of the definitions of
+-- Lookup, Chains and Answers, shown to be equivalent, so that these can be checked by reading it. Assumes nothing.
+use mathlib.Core.Path.{_≡_}
+use mathlib.Core.Bool.{true, false}
+use mathlib.Core.List.{List, _++_}
+use mathlib.Core.Logic.{_↔_}
+use Prim.Native.Nat.{ℕ, zero, suc, _-_, _≤_, _<_}
+use lib.ListN.{length, getD, drop}
+use Rattle.ints.specs.Lists.{all}
+use Rattle.circuit.specs.Codes.{validFor}
+use Rattle.exact.specs.Matrix.{Exact, PowerOf}
+use Rattle.exact.specs.Lists.{product}
+use Rattle.exact.specs.Fits.{allFit, unfitAt, steps}
+use Rattle.exact.specs.Phase.{upToPhase}
+use Rattle.exact.specs.Unitary.{Unitary}
+use Rattle.exact.specs.Fingerprint.{fingerprint}
+use Rattle.walk.specs.Lookup.{found, lowestFrom}
+use Rattle.walk.specs.Lookup as lookup
+use Rattle.walk.specs.Chains.{good, bad, marked, chainOf}
+use Rattle.walk.specs.Answers.{WidthLimits, Part, given, none, refused, outcome, answerOf}
+
+-- ---- the look-up
+
+-- a node has the fingerprint, is below the count and not below the start, and none before it has (SPECIFICATION 7.4)
+pub record LowestNode (fingerprints : List ℕ) (count from fingerprint node : ℕ) : Type 0 where
+  pub has : getD fingerprints node 0 ≡ fingerprint
+  pub below : node < count
+  pub not-before : from ≤ node
+  pub none-before : (m : ℕ) → from ≤ m → m < node → getD fingerprints m 0 ≡ fingerprint → ⊥
+
+-- none has it
+pub record Nowhere (fingerprints : List ℕ) (count from fingerprint : ℕ) : Type 0 where
+  pub none-has : (m : ℕ) → from ≤ m → m < count → getD fingerprints m 0 ≡ fingerprint → ⊥
+
+-- the definition, said of nodes
+pub record LooksUp (fingerprints : List ℕ) (count from fingerprint : ℕ) : Type 0 where
+  pub is-found : (node : ℕ) → (lowestFrom fingerprints count from fingerprint ≡ found node) ↔ LowestNode fingerprints count from fingerprint node
+  pub is-none : (lowestFrom fingerprints count from fingerprint ≡ lookup.none) ↔ Nowhere fingerprints count from fingerprint
+
+-- ---- the chain
+
+-- the way from a node along the parents, which ends at node 0, comes to the node m after i gates
+abbrev pub Trail : List ℕ → ℕ → ℕ → ℕ → Type 0
+Trail parents node zero m = node ≡ m
+Trail parents node (suc i) m = (0 < node) × Trail parents (getD parents node 0) i m
+
+-- the way meets a fault: one case for each reason of SPECIFICATION 7.5; limit is the gate limit
+pub data Fault (n basis limit : ℕ) (parents codes : List ℕ) (node : ℕ) : Type 0 where
+  not-below : (i m : ℕ) → Trail parents node i m → 0 < m → m ≤ getD parents m 0 → Fault n basis limit parents codes node
+  not-valid : (i m : ℕ) → Trail parents node i m → 0 < m → validFor n basis (getD codes m 0) ≡ false → Fault n basis limit parents codes node
+  too-many : (i m : ℕ) → Trail parents node i m → limit < i → Fault n basis limit parents codes node
+  unmarked : (i : ℕ) → Trail parents node i 0 → marked parents codes ≡ false → Fault n basis limit parents codes node
+
+-- the list of a way that meets none: the gate passed i-th, counted from 0, is the i-th from the list's end
+pub record Gates (n basis limit : ℕ) (parents codes : List ℕ) (node : ℕ) (l : List ℕ) : Type 0 where
+  pub valid : all (validFor n basis) l ≡ true
+  pub short : length l ≤ limit
+  pub ends : Trail parents node (length l) 0
+  pub marks : marked parents codes ≡ true
+  pub falls : (i m : ℕ) → Trail parents node i m → 0 < m → getD parents m 0 < m
+  pub gate : (i m : ℕ) → i < length l → Trail parents node i m → getD l (length l - suc i) 0 ≡ getD codes m 0
+
+-- the definition, said of the way along the parents
+pub record Chained (n basis limit : ℕ) (parents codes : List ℕ) (node : ℕ) : Type 0 where
+  pub is-bad : (chainOf n basis parents codes limit node ≡ bad) ↔ Fault n basis limit parents codes node
+  pub is-good : (l : List ℕ) → (chainOf n basis parents codes limit node ≡ good l) ↔ Gates n basis limit parents codes node l
+
+-- ---- the answer
+
+module _ (limits : WidthLimits) (part : Part) (x : Exact) where
+  -- the lowest node with the fingerprint of x; that there is none; the list of the way from a node, or that the way meets a fault
+  abbrev pub FoundNode : ℕ → Type 0
+  FoundNode node = LowestNode (part .fingerprints) (part .count) 0 (fingerprint (limits .width) x) node
+
+  abbrev pub NotFoundAny : Type 0
+  NotFoundAny = Nowhere (part .fingerprints) (part .count) 0 (fingerprint (limits .width) x)
+
+  abbrev pub GatesOf : ℕ → List ℕ → Type 0
+  GatesOf node l = Gates (limits .width) (limits .basis) (limits .gates) (part .parents) (part .codes) node l
+
+  abbrev pub FaultOf : ℕ → Type 0
+  FaultOf node = Fault (limits .width) (limits .basis) (limits .gates) (part .parents) (part .codes) node
+
+  -- the way from the node found gives the list, every step fits, and the product is equal up to phase to x (SPECIFICATION 7.6)
+  pub record AnsweredBy (l : List ℕ) : Type 0 where
+    pub node : ℕ
+    pub lowest : FoundNode node
+    pub gates : GatesOf node l
+    pub fits : steps (limits .width) l ≡ allFit
+    pub equal : upToPhase (limits .width) (product (limits .width) l) x ≡ true
+
+  -- no node has the fingerprint, or the list of the lowest that has does not fit or is not equal up to phase
+  pub data NoList : Type 0 where
+    not-found : NotFoundAny → NoList
+    does-not-fit : (node i : ℕ) (l : List ℕ) → FoundNode node → GatesOf node l → steps (limits .width) l ≡ unfitAt i → NoList
+    not-equal : (node : ℕ) (l : List ℕ) → FoundNode node → GatesOf node l → upToPhase (limits .width) (product (limits .width) l) x ≡ false → NoList
+
+  -- the way from the lowest node with the fingerprint meets a fault
+  pub record BadFound : Type 0 where
+    pub node : ℕ
+    pub lowest : FoundNode node
+    pub fault : FaultOf node
+
+  -- the definition, said by these: what is answered, and what the lent list then holds
+  pub record Means (out : List ℕ) : Type 0 where
+    pub is-list : (m : ℕ) (after : List ℕ)
+        → (answerOf limits part x out ≡ outcome (given m) after) ↔ ((l : List ℕ) × AnsweredBy l × (m ≡ length l) × (after ≡ l ++ drop m out))
+    pub is-none : (after : List ℕ) → (answerOf limits part x out ≡ outcome none after) ↔ (NoList × (after ≡ out))
+    pub is-refused : (a i : ℕ) (after : List ℕ)
+        → (answerOf limits part x out ≡ outcome (refused a i) after) ↔ (BadFound × (a ≡ 13) × (i ≡ 0) × (after ≡ out))
+
+-- what then holds of the list and of the matrix asked, whatever the arrays hold: the product is a power of omega times the matrix, the list is
+-- one of the basis at the width and within the gate limit, and the matrix is unitary, so that any other gets none (SPECIFICATION 7.8, 8.3)
+pub record Right (n basis limit : ℕ) (x : Exact) (l : List ℕ) : Type 0 where
+  pub power : PowerOf n x (product n l)
+  pub valid : all (validFor n basis) l ≡ true
+  pub short : length l ≤ limit
+  pub unitary : Unitary n x

@@ -1,0 +1,92 @@
+-- The loop over the last layer's nodes, up to hi: the arrays hold some nodes, from which the nodes that are left to be tried give what all give.
+-- Assumes nothing.
+use mathlib.Core.Path.{_≡_, refl, sym, ap, _∙_, subst}
+use mathlib.Core.Bool.{Bool, true, false}
+use mathlib.Core.List.{List}
+use Prim.Native.Nat.{ℕ, suc, _+_, _-_, _≤_, _<_}
+use native.Mathlib.Numerals.{add-one}
+use native.Mathlib.Omega.{arith}
+use lib.ListN.{length}
+use Rattle.generators.specs.Generators.{generators}
+use Rattle.walk.specs.Walk.{Rules, Node, State, tryAll, layer}
+use Rattle.walk.proofs.Candidates.{layer-saturated}
+use Rattle.synthesis_arena.specs.declared.WidthLimits.{WidthLimits}
+use Rattle.next_node.specs.Arrays.{rules, unsaturated, Columns, Long, Live, After}
+use Rattle.candidates.proofs.Keeping.{Kept, kept-node, unfilled}
+
+module _ (lim : WidthLimits) (hi d : ℕ) (f0 u0 c0 : List ℕ) (goal : State) where
+  abbrev R : Rules
+  R = rules lim
+
+  abbrev E : ℕ
+  E = lim .entries
+
+  abbrev gens : List ℕ
+  gens = generators (lim .width) (lim .basis)
+
+  pub record LayerRun (k : ℕ) (f u c : List ℕ) (count : ℕ) : Type 0 where
+    pub ns : List Node
+    pub columns : Columns lim f0 u0 c0 ns f u c count
+    pub kept : Kept R E d hi k ns
+    pub rest : layer R E (unsaturated ns) k (hi - k) ≡ goal
+
+  module _ {k : ℕ} {f u c : List ℕ} {count : ℕ} (r : LayerRun k f u c count) where
+    pub layer-run-lt : k < hi → k < count
+    layer-run-lt l = omega (arith, r .kept .size, r .columns .count-is)
+
+    abbrev pub layer-run-live : k < hi → d ≤ 64 → Long lim f0 u0 c0 → Live lim f u c count k (suc k)
+    layer-run-live l deep long = record {
+      f0 = f0;
+      u0 = u0;
+      c0 = c0;
+      ns = r .ns;
+      d = d;
+      columns = r .columns;
+      grown = r .kept .grown;
+      low = r .kept .low;
+      few = r .kept .few;
+      flat = λ j q. r .kept .flat j (omega arith);
+      short = r .kept .short;
+      deep = deep;
+      long = long;
+    }
+
+    layer-run-cons : k < hi → layer R E (tryAll R E (unsaturated (r .ns)) k gens) (suc k) (hi - suc k) ≡ goal
+    unfolding layer
+    layer-run-cons l = let z : suc (hi - suc k) ≡ hi - k = omega arith in ap (layer R E (unsaturated (r .ns)) k) z ∙ r .rest
+
+    module _ (l : k < hi) {f′ u′ c′ : List ℕ} {count′ : ℕ} {b : Bool} (a : After lim f0 u0 c0 (tryAll R E (unsaturated (r .ns)) k gens) f′ u′ c′ count′ b) where
+      abbrev tried : State
+      tried = tryAll R E (unsaturated (r .ns)) k gens
+
+      pub layer-run-next : b ≡ false → LayerRun (k + 1) f′ u′ c′ count′
+      layer-run-next q =
+          let i : Kept R E d hi (suc k) (tried .nodes) = kept-node R E d hi (unsaturated (r .ns)) k l (r .kept) in
+          record {
+            ns = tried .nodes;
+            columns = a .columns;
+            kept = subst (λ (z : ℕ). Kept R E d hi z (tried .nodes)) (sym (add-one k)) i;
+            rest = ap (λ (z : ℕ). layer R E (unsaturated (tried .nodes)) z (hi - z)) (add-one k)
+                ∙ ap (λ (t : State). layer R E t (suc k) (hi - suc k)) (sym (unfilled tried b (a .full-is) q)) ∙ layer-run-cons l;
+          }
+
+      pub layer-run-full : b ≡ true → After lim f0 u0 c0 goal f′ u′ c′ count′ true
+      layer-run-full q =
+          let e : tried ≡ goal = sym (layer-saturated R E tried (suc k) (hi - suc k) (sym (a .full-is) ∙ q)) ∙ layer-run-cons l in
+          subst (λ (t : State). After lim f0 u0 c0 t f′ u′ c′ count′ true) e (record { columns = a .columns; full-is = sym q ∙ a .full-is })
+
+    pub layer-run-end : hi ≤ k → After lim f0 u0 c0 goal f u c count false
+    unfolding layer
+    layer-run-end l =
+        let z : 0 ≡ hi - k = omega arith in
+        let e : unsaturated (r .ns) ≡ goal = ap (layer R E (unsaturated (r .ns)) k) z ∙ r .rest in
+        subst (λ (t : State). After lim f0 u0 c0 t f u c count false) e (record { columns = r .columns; full-is = refl })
+
+pub layer-run-start : {lim : WidthLimits} {lo : ℕ} {f u c : List ℕ} {count : ℕ} (h : Live lim f u c count lo count)
+    → LayerRun lim count (h .d) (h .f0) (h .u0) (h .c0) (layer (rules lim) (lim .entries) (unsaturated (h .ns)) lo (count - lo)) lo f u c count
+layer-run-start h = record {
+  ns = h .ns;
+  columns = h .columns;
+  kept = record { grown = h .grown; low = h .low; few = h .few; size = omega (arith, h .columns .count-is); flat = h .flat; short = h .short };
+  rest = refl;
+}

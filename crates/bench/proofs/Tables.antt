@@ -1,5 +1,6 @@
 -- What the entries for tables come to as numbers: a record that is too short, and else the library's answer. Assumes nothing.
 use mathlib.Core.Path.{_≡_, sym, ap, _∙_}
+use mathlib.Core.Bool.{true, false}
 use mathlib.Core.List.{List}
 use Prim.Native.Nat.{ℕ, _+_, _≤_, _<_}
 use borrow.Author.Tests.{lt-ltb, le-ltb}
@@ -17,7 +18,19 @@ use Rattle.murm.specs.declared.Building.{Building}
 use Rattle.murm.specs.declared.Building.the-variants as b
 use Rattle.murm.specs.declared.Synthesized.{Synthesized}
 use Rattle.murm.specs.declared.Synthesized.the-variants as s
-use Rattle.bench.specs.Tables.{tableOf, numbersOf, buildNumber, recorded, builtAs, builtBy, benchBuilt, replyNumber, answered, answeredBy, benchAnswered}
+use Rattle.bench.specs.Tables.{limitsIn, tooFew, tableOf, numbersOf, buildNumber, recorded, builtAs, builtBy, benchBuilt, replyNumber, answered, answeredBy, benchAnswered}
+
+-- ---- too few numbers
+
+module _ (l numbers : List ℕ) where
+  pub few-limits : length l < 4 → tooFew l numbers ≡ true
+  few-limits h = rw (lt-ltb (length l) 4 h)
+
+  pub few-numbers : 4 ≤ length l → length numbers < 15 → tooFew l numbers ≡ true
+  few-numbers g h = rw (le-ltb (length l) 4 g, lt-ltb (length numbers) 15 h)
+
+  pub enough : 4 ≤ length l → 15 ≤ length numbers → tooFew l numbers ≡ false
+  enough g h = rw (le-ltb (length l) 4 g, le-ltb (length numbers) 15 h)
 
 -- ---- a build
 
@@ -35,15 +48,15 @@ refused-told old r e h = (
   ap (λ (x : Building). recorded (toldBuilding x) old) (sym e),
 )
 
-pub short-built : (l : Limits) (a : Arrays) (numbers : List ℕ) → length numbers < 15 → builtAs 99 a numbers ≡ benchBuilt l a numbers
+pub short-built : (l : List ℕ) (a : Arrays) (numbers : List ℕ) → tooFew l numbers ≡ true → builtAs 99 a numbers ≡ benchBuilt l a numbers
 unfolding benchBuilt
-short-built l a numbers h = rw (lt-ltb (length numbers) 15 h)
+short-built l a numbers h = rw h
 
-pub long-built : (l : Limits) (a : Arrays) (numbers : List ℕ) (t : BuildReply) {l′ : Limits} {a′ : Arrays} {r : ℕ} {new : List ℕ} → 15 ≤ length numbers
-    → l′ ≡ l → left t a′ ≡ buildOf l′ a → r ≡ buildNumber t → new ≡ recorded t numbers → builtAs r a′ new ≡ benchBuilt l a numbers
+pub long-built : (l : List ℕ) (a : Arrays) (numbers : List ℕ) (t : BuildReply) {l′ : Limits} {a′ : Arrays} {r : ℕ} {new : List ℕ} → tooFew l numbers ≡ false
+    → l′ ≡ limitsIn l → left t a′ ≡ buildOf l′ a → r ≡ buildNumber t → new ≡ recorded t numbers → builtAs r a′ new ≡ benchBuilt l a numbers
 unfolding benchBuilt
 long-built l a numbers t {a′} {new} h hl e hr hn =
-    rw (le-ltb (length numbers) 15 h)
+    rw h
     (ap (λ (z : ℕ). builtAs z a′ new) hr
     ∙ (ap (builtAs (buildNumber t) a′) hn ∙ ap (λ (o : Left). builtBy o numbers) (e ∙ ap (λ (z : Limits). buildOf z a) hl)))
 
@@ -52,16 +65,16 @@ long-built l a numbers t {a′} {new} h hl e hr hn =
 pub refused-reply : (r : Refusal) {t : Synthesized} {n : ℕ} → t ≡ s.Refused r → n ≡ numberOf r → 2000 + n ≡ replyNumber (toldSynthesized t)
 refused-reply r e h = ap (λ (k : ℕ). 2000 + k) h ∙ ap (λ (x : Synthesized). replyNumber (toldSynthesized x)) (sym e)
 
-pub short-answered : (l : Limits) (numbers : List ℕ) (a : Arrays) (q : Query) (out : List ℕ) → length numbers < 15
+pub short-answered : (l numbers : List ℕ) (a : Arrays) (q : Query) (out : List ℕ) → tooFew l numbers ≡ true
     → answered 2099 out ≡ benchAnswered l numbers a q out
 unfolding benchAnswered
-short-answered l numbers a q out h = rw (lt-ltb (length numbers) 15 h)
+short-answered l numbers a q out h = rw h
 
-pub long-answered : (l : Limits) (numbers : List ℕ) (a : Arrays) (q : Query) (out : List ℕ) (t : Reply) {l′ : Limits} {m : Table} {r : ℕ} {new : List ℕ}
-    → 15 ≤ length numbers → l′ ≡ l → m ≡ tableOf l′ numbers → outcome t new ≡ synthesized m a q out → r ≡ replyNumber t
+pub long-answered : (l numbers : List ℕ) (a : Arrays) (q : Query) (out : List ℕ) (t : Reply) {l′ : Limits} {m : Table} {r : ℕ} {new : List ℕ}
+    → tooFew l numbers ≡ false → l′ ≡ limitsIn l → m ≡ tableOf l′ numbers → outcome t new ≡ synthesized m a q out → r ≡ replyNumber t
     → answered r new ≡ benchAnswered l numbers a q out
 unfolding benchAnswered
 long-answered l numbers a q out t {new} h hl hm e hr =
-    rw (le-ltb (length numbers) 15 h)
+    rw h
     (ap (λ (z : ℕ). answered z new) hr
     ∙ ap answeredBy (e ∙ ap (λ (z : Table). synthesized z a q out) (hm ∙ ap (λ (z : Limits). tableOf z numbers) hl)))

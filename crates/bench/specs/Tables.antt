@@ -1,14 +1,20 @@
 -- A table's limits and record as numbers, and what a build and an answer come to as numbers. Assumes nothing.
-use mathlib.Core.Bool.{not}
+use mathlib.Core.Bool.{Bool, not, _||_}
 use mathlib.Core.List.{List, [], _∷_, _++_}
+use mathlib.Core.Path.{_≡_}
 use Prim.Native.Nat.{ℕ, _+_}
 use lib.Dec.{eqb, ltb}
 use lib.ListN.{length, getD}
 use Rattle.ints.specs.Lists.{pick, over}
 use Rattle.walk.specs.Answers.{Reply, Outcome, given, none, refused}
-use Rattle.tables.specs.Checks.{Limits, Arrays}
+use Rattle.tables.specs.Checks.{Limits, limitsOf, Arrays}
 use Rattle.tables.specs.Tables.{Width, Table, BuildReply, table, refusal, Left, buildOf, Query, synthesized}
 use Rattle.circuits_text.specs.Writing.{digitOf}
+
+-- ---- the limits as four numbers
+
+abbrev pub limitsIn : List ℕ → Limits
+limitsIn l = limitsOf (getD l 0 0) (getD l 1 0) (getD l 2 0) (getD l 3 0)
 
 -- ---- a record as 15 numbers: count, depth and saturated (1 or 0) of each width from 1 to 5
 
@@ -56,9 +62,13 @@ builtAs r a numbers = record { number = r; arrays = a; numbers = numbers }
 abbrev pub builtBy : Left → List ℕ → BuiltNumbers
 builtBy o numbers = builtAs (buildNumber (o .reply)) (o .arrays) (recorded (o .reply) numbers)
 
--- 99 for a record of less than 15 places
-unfoldable pub benchBuilt : Limits → Arrays → List ℕ → BuiltNumbers
-benchBuilt l a numbers = pick (ltb (length numbers) 15) (builtAs 99 a numbers) (builtBy (buildOf l a) numbers)
+-- less than four limits, or a record of less than 15 places
+abbrev pub tooFew : List ℕ → List ℕ → Bool
+tooFew limits numbers = ltb (length limits) 4 || ltb (length numbers) 15
+
+-- are told by 99
+unfoldable pub benchBuilt : List ℕ → Arrays → List ℕ → BuiltNumbers
+benchBuilt limits a numbers = pick (tooFew limits numbers) (builtAs 99 a numbers) (builtBy (buildOf (limitsIn limits) a) numbers)
 
 -- ---- an answer
 
@@ -79,7 +89,12 @@ answered r out = record { number = r; list = out }
 abbrev pub answeredBy : Outcome → AnsweredNumbers
 answeredBy o = answered (replyNumber (o .reply)) (o .list)
 
--- 2099 for a record of less than 15 places
-unfoldable pub benchAnswered : Limits → List ℕ → Arrays → Query → List ℕ → AnsweredNumbers
-benchAnswered l numbers a q out =
-    pick (ltb (length numbers) 15) (answered 2099 out) (answeredBy (synthesized (tableOf l numbers) a q out))
+-- too few numbers are told by 2099
+unfoldable pub benchAnswered : List ℕ → List ℕ → Arrays → Query → List ℕ → AnsweredNumbers
+benchAnswered limits numbers a q out =
+    pick (tooFew limits numbers) (answered 2099 out) (answeredBy (synthesized (tableOf (limitsIn limits) numbers) a q out))
+
+-- a table given by its limits and its record answered a query: the number told, and the lent list before and after
+pub record AnsweredBy (limits numbers : List ℕ) (a : Arrays) (q : Query) (old now : List ℕ) (told : ℕ) : Type 0 where
+  pub number : told ≡ benchAnswered limits numbers a q old .number
+  pub list : now ≡ benchAnswered limits numbers a q old .list

@@ -9,12 +9,12 @@ ghost use Rattle.exact.proofs.Words.{AllSmall};
 ghost use Rattle.exact.specs.Fingerprint.{fingerprint};
 ghost use Rattle.exact.specs.Places.{read, held};
 ghost use Rattle.tables.specs.Tables.{query};
-ghost use Rattle.tables.specs.Checks.{limitsOf, arrays};
+ghost use Rattle.circuits_answers.specs.Lent.{lent, left};
 ghost use Rattle.murm_config.specs.Told.{toldConfig, toldWidth, toldMurm};
 ghost use Rattle.tables.specs.Lists.{listed};
 ghost use Rattle.murm.specs.Entries.{fingerprinted, toldBuilding, toldSynthesized};
 ghost use Rattle.bench.specs.Numbers.{orElse};
-ghost use Rattle.bench.specs.Tables.{widthIn, tableOf, widthNumbers, numbersOf, buildNumber, recorded, builtAs, benchBuilt, replyNumber, answered, benchAnswered};
+ghost use Rattle.bench.specs.Tables.{limitsIn, widthIn, tableOf, widthNumbers, numbersOf, buildNumber, recorded, builtAs, benchBuilt, replyNumber, AnsweredBy};
 use circuit::GateSet;
 use cyclotomic::Coefficient;
 use murm::Building;
@@ -59,15 +59,16 @@ pub extern "C" fn bench_fingerprint(m: &[Coefficient], n: usize, k: u16) -> u64
     prints::unitary_fingerprint(m, n, k)
 }
 
-// Q, G, E and B.
-fn config_of(q: u32, g: u32, e: u32, b: u32) -> MurmConfig
-    ensures { λ r. ⌜ toldConfig r ≡ limitsOf q g e b ⌝ }
+// Q, G, E and B, in this order.
+fn config_of(limits: &[u32]) -> MurmConfig
+    requires { ⌜ 4 ≤ length (now limits) ⌝ }
+    ensures { λ r. ⌜ toldConfig r ≡ limitsIn (now (limits .entry)) ⌝ }
 {
     MurmConfig {
-        max_qubits: q,
-        max_gates: g,
-        max_entries_per_qubit: e,
-        basis: GateSet(b),
+        max_qubits: limits[0],
+        max_gates: limits[1],
+        max_entries_per_qubit: limits[2],
+        basis: GateSet(limits[3]),
     }
 }
 
@@ -141,25 +142,24 @@ fn built(building: Building, numbers: &mut [u64]) -> u64
     }
 }
 
-// The entry for tables. 99 for a record of less than 15 places.
+// The entry for tables. 99 for less than four limits, or a record of less than 15 places.
 #[no_mangle]
 pub extern "C" fn bench_build(
-    q: u32,
-    g: u32,
-    e: u32,
-    b: u32,
+    limits: &[u32],
     fingerprints: &mut [u64],
     parents: &mut [u32],
     codes: &mut [u32],
     numbers: &mut [u64],
 ) -> u64
-    ensures { λ r. ⌜ builtAs r (arrays (now (fingerprints .exit)) (now (parents .exit)) (now (codes .exit))) (now (numbers .exit))
-        ≡ benchBuilt (limitsOf q g e b) (arrays (now (fingerprints .entry)) (now (parents .entry)) (now (codes .entry))) (now (numbers .entry)) ⌝ }
+    ensures { λ r. ⌜ builtAs r (left fingerprints parents codes) (now (numbers .exit)) ≡ benchBuilt (now (limits .entry)) (lent fingerprints parents codes) (now (numbers .entry)) ⌝ }
 {
+    if limits.len() < 4 {
+        return 99;
+    }
     if numbers.len() < 15 {
         return 99;
     }
-    let building = murm::build(config_of(q, g, e, b), fingerprints, parents, codes);
+    let building = murm::build(config_of(limits), fingerprints, parents, codes);
     built(building, numbers)
 }
 
@@ -174,30 +174,28 @@ fn reply(told: Synthesized) -> u64
     }
 }
 
-// The entry for answers, with the list in the first places of `out`. 2099 for a record of less than 15 places.
+// The entry for answers, with the list in the first places of `out`. 2099 for less than four limits, or a record of less than 15 places.
 #[no_mangle]
 pub extern "C" fn bench_synthesize(
-    q: u32,
-    g: u32,
-    e: u32,
-    b: u32,
+    limits: &[u32],
     numbers: &[u64],
+    width: u32,
+    exponent: u16,
     fingerprints: &[u64],
     parents: &[u32],
     codes: &[u32],
-    width: u32,
-    exponent: u16,
     matrix: &[Coefficient],
     out: &mut [u32],
 ) -> u64
-    ensures { λ r. ⌜ answered r (now (out .exit))
-        ≡ benchAnswered (limitsOf q g e b) (now (numbers .entry)) (arrays (now (fingerprints .entry)) (now (parents .entry)) (now (codes .entry)))
-        (query width exponent (now (matrix .entry))) (now (out .entry)) ⌝ }
+    ensures { λ r. ⌜ AnsweredBy (now (limits .entry)) (now (numbers .entry)) (lent fingerprints parents codes) (query width exponent (now (matrix .entry))) (now (out .entry)) (now (out .exit)) r ⌝ }
 {
+    if limits.len() < 4 {
+        return 2099;
+    }
     if numbers.len() < 15 {
         return 2099;
     }
-    let table = murm_of(config_of(q, g, e, b), numbers);
+    let table = murm_of(config_of(limits), numbers);
     let told = murm::synthesize(
         table,
         fingerprints,

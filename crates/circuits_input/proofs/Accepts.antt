@@ -10,7 +10,7 @@ use lib.Dec.{eqb, leb, ltb}
 use lib.ListN.{length, getD, drop}
 use Rattle.ints.specs.Lists.{pick, elem}
 use Rattle.ints.proofs.Bools.{clash, both-true, neither}
-use Rattle.tables.specs.Checks.{Limits, limitsOf}
+use Rattle.tables.specs.Checks.{limitsOf}
 use Rattle.circuits_text.specs.Reading.{newline, words, allNumbers, numbers}
 use Rattle.circuits_text.specs.Allowed.{AllowedLine}
 use Rattle.circuits_text.proofs.Accepts.{accepts, accepted, line-unbroken}

@@ -3,7 +3,7 @@ use mathlib.Core.Path.{_≡_, refl, sym, ap, _∙_, subst}
 use mathlib.Core.Bool.{Bool, true, false}
 use mathlib.Core.Logic.{_⊎_, ⊎-elim}
 use mathlib.Core.List.{List, [], _∷_, _++_, map, append-assoc, append-nil}
-use Prim.Native.Nat.{ℕ, zero, suc, _+_, _-_, _*_, _≤_, _<_}
+use Prim.Native.Nat.{ℕ, _+_, _-_, _*_, _≤_, _<_}
 use native.Mathlib.Omega.{arith}
 use borrow.Author.Tests.{le-ltb, ltb-true, ltb-false, eq-eqb}
 use lib.Dec.{ltb}
@@ -31,7 +31,7 @@ use Rattle.walk.specs.AtWidth.{atWidth, ListOf, parentOf}
 use Rattle.walk.proofs.Held.{map-at}
 use Rattle.walk.proofs.Prefixes.{completed-unsaturated}
 use Rattle.tables.specs.Checks.{Limits, Arrays, byteCount, queryRows}
-use Rattle.tables.specs.Tables.{Table, Width, walkOf, widthAt, widthOf, parentsOf, codesOf, partOf, table, Query, query, listRow, synthesized}
+use Rattle.tables.specs.Tables.{Table, Width, walkOf, widthAt, widthOf, parentsOf, codesOf, partOf, Query, query, listRow, synthesized}
 use Rattle.tables.specs.Built.{Built}
 use Rattle.tables.specs.Demand3 as d
 use Rattle.tables.specs.Demand3.{Gives, Refuses, NotRefused, NoSmaller, Complete, Decided}
@@ -51,7 +51,7 @@ use Rattle.circuits_text.specs.Writing.{decimal}
 use Rattle.circuits_text.specs.Allowed.{AllowedLine, alone, spaced}
 use Rattle.circuits_text.proofs.Accepts.{decimal-spelled}
 use Rattle.circuits_lines.specs.Lines.{tableLine, nodeLine, nodeLines, spacedCodes, answerLine}
-use Rattle.circuits_input.specs.Input.{Read, ended, Wanted, AskedList}
+use Rattle.circuits_input.specs.Input.{Read, ended, AskedList}
 use Rattle.circuits_input.specs.Allowed.{QueryLine}
 use Rattle.circuits_input.proofs.Accepts.{query-asks}
 use Rattle.circuits_answers.specs.Replies.{lentCount, lentCoefficients, formedReply, listReply, askedReply, lineReply}

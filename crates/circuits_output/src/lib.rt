@@ -1,14 +1,11 @@
 // The output of the program `circuits`, made in a lent array of bytes: the table of line one, then a line for each later line (SPECIFICATION 10.5,
 // 10.6, 10.10).
-ghost use mathlib.Core.Bool.{false};
 ghost use mathlib.Core.Path.{_≡_};
 ghost use Prim.Native.Nat.{_+_, _*_, _<_, _≤_};
 ghost use lib.ListN.{length};
-ghost use Rattle.tables.specs.Checks.{placesOf};
-ghost use Rattle.tables.specs.Tables.{recordRow};
 ghost use Rattle.tables.specs.Tables as t;
 ghost use Rattle.murm.specs.Entries.{toldBuilding, toldSynthesized};
-ghost use Rattle.murm_config.specs.Told.{toldConfig, toldMurm};
+ghost use Rattle.murm_config.specs.Told.{toldMurm};
 ghost use Rattle.circuits_text.specs.Writing.{Put};
 ghost use Rattle.circuits_input.specs.Input.{ended, linesOf};
 ghost use Rattle.circuits_answers.specs.Lent.{lent, left};

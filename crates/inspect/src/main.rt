@@ -255,19 +255,6 @@ fn put_table(
     }
 }
 
-// What follows the word `table` and its space: Q G E B.
-fn build_line(
-    rest: &[u8],
-    fingerprints: &mut [u64],
-    parents: &mut [u32],
-    codes: &mut [u32],
-) -> Building {
-    match circuits_input::read_line_one(rest) {
-        LineOne::Limits(config) => murm::build(config, fingerprints, parents, codes),
-        LineOne::Refused(r) => Building::Refused(r),
-    }
-}
-
 // ---- a matrix
 
 // A coefficient, or anything else.
@@ -525,7 +512,7 @@ fn begin(input: &[u8], at: usize, end: usize) -> Begun
     Begun { word, rest: s + 1 }
 }
 
-// The table after a line: a `table` line builds one.
+// The table after a line: what follows the word `table` and its space, Q G E B, builds one.
 fn table_after(
     word: First,
     last: Building,
@@ -534,9 +521,12 @@ fn table_after(
     codes: &mut [u32],
     rest: &[u8],
 ) -> Building {
-    match word {
-        First::Table => build_line(rest, fingerprints, parents, codes),
-        _ => last,
+    let First::Table = word else {
+        return last;
+    };
+    match circuits_input::read_line_one(rest) {
+        LineOne::Limits(config) => murm::build(config, fingerprints, parents, codes),
+        LineOne::Refused(r) => Building::Refused(r),
     }
 }
 

@@ -8,7 +8,7 @@ use lib.ListN.{length, take}
 use lib.Seq.{length-take-le}
 use Rattle.circuits_text.specs.Reading.{toldLine}
 use Rattle.circuits_text.proofs.Split.{line-fits}
-use Rattle.circuits_input.specs.Input.{isQuery, questionBy, questionOf}
+use Rattle.circuits_input.specs.Input.{questionBy, questionOf}
 use Rattle.circuits_input.proofs.LineReads.{read-numbers, read-broken, no-query, long-query, two-numbers, query-is}
 use Rattle.circuits_input.proofs.read_query.Statement.{statement}
 use Rattle.circuits_input.proofs.read_query.Tie as tie

@@ -14,10 +14,8 @@ unsafe extern "C" {
     fn bench_query(width: u32, exponent: u16, entries: *const i8, places: usize) -> u64;
     fn bench_fingerprint(entries: *const i8, places: usize, width: usize, exponent: u16) -> u64;
     fn bench_build(
-        qubits: u32,
-        gates: u32,
-        entries: u32,
-        basis: u32,
+        limits: *const u32,
+        limit_places: usize,
         fingerprints: *mut u64,
         fingerprint_places: usize,
         parents: *mut u32,
@@ -28,20 +26,18 @@ unsafe extern "C" {
         record_places: usize,
     ) -> u64;
     fn bench_synthesize(
-        qubits: u32,
-        gates: u32,
-        entries: u32,
-        basis: u32,
+        limits: *const u32,
+        limit_places: usize,
         record: *const u64,
         record_places: usize,
+        width: u32,
+        exponent: u16,
         fingerprints: *const u64,
         fingerprint_places: usize,
         parents: *const u32,
         parent_places: usize,
         codes: *const u32,
         code_places: usize,
-        width: u32,
-        exponent: u16,
         matrix: *const i8,
         matrix_places: usize,
         out: *mut u32,
@@ -98,14 +94,19 @@ impl Table {
         }
     }
 
+    /// Q, G, E and B.
+    fn limits(&self) -> [u32; 4] {
+        let l = &self.limits;
+        [l.qubits, l.gates, l.entries, l.basis]
+    }
+
     /// 0, or the number of the refusal.
     pub(super) fn build(&mut self) -> u64 {
+        let limits = self.limits();
         unsafe {
             bench_build(
-                self.limits.qubits,
-                self.limits.gates,
-                self.limits.entries,
-                self.limits.basis,
+                limits.as_ptr(),
+                limits.len(),
                 self.fingerprints.as_mut_ptr(),
                 self.fingerprints.len(),
                 self.parents.as_mut_ptr(),
@@ -126,22 +127,21 @@ impl Table {
         matrix: &[i8],
         out: &mut [u32],
     ) -> u64 {
+        let limits = self.limits();
         unsafe {
             bench_synthesize(
-                self.limits.qubits,
-                self.limits.gates,
-                self.limits.entries,
-                self.limits.basis,
+                limits.as_ptr(),
+                limits.len(),
                 self.record.as_ptr(),
                 self.record.len(),
+                width,
+                exponent,
                 self.fingerprints.as_ptr(),
                 self.fingerprints.len(),
                 self.parents.as_ptr(),
                 self.parents.len(),
                 self.codes.as_ptr(),
                 self.codes.len(),
-                width,
-                exponent,
                 matrix.as_ptr(),
                 matrix.len(),
                 out.as_mut_ptr(),

@@ -187,7 +187,8 @@ pub extern "C" fn bench_synthesize(
     matrix: &[Coefficient],
     out: &mut [u32],
 ) -> u64
-    ensures { λ r. ⌜ AnsweredBy (now (limits .entry)) (now (numbers .entry)) (lent fingerprints parents codes) (query width exponent (now (matrix .entry))) (now (out .entry)) (now (out .exit)) r ⌝ }
+    ensures { λ r. ⌜ AnsweredBy (now (limits .entry)) (now (numbers .entry)) (lent fingerprints parents codes)
+        (query width exponent (now (matrix .entry))) (now (out .entry)) (now (out .exit)) r ⌝ }
 {
     if limits.len() < 4 {
         return 2099;

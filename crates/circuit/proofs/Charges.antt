@@ -5,7 +5,7 @@ use Prim.Native.Nat.{ℕ, suc, _+_, _≤_, _<_}
 use native.Mathlib.Omega.{arith}
 use lib.ListN.{length, getD, drop}
 use lib.Seq.{drop-cons}
-use Rattle.circuit.specs.Kinds.{Kind, H, X, Z, S, Sdg, T, Tdg, Cx, Cz, Ccx, Ccz, Other}
+use Rattle.circuit.specs.Kinds.{Kind, H, X, Z, S, Sdg, T, Tdg, Cx, Cz, Ccx, Ccz, Y, Sx, Swap, Cy, Ch, Cswap, Other}
 use Rattle.circuit.specs.Codes.{kindOf}
 use Rattle.circuit.specs.Charge.{kindCharge, charge}
 
@@ -22,6 +22,12 @@ kind-most Cx = omega arith
 kind-most Cz = omega arith
 kind-most Ccx = omega arith
 kind-most Ccz = omega arith
+kind-most Y = omega arith
+kind-most Sx = omega arith
+kind-most Swap = omega arith
+kind-most Cy = omega arith
+kind-most Ch = omega arith
+kind-most Cswap = omega arith
 kind-most Other = omega arith
 
 -- no more than one for each gate

@@ -5,7 +5,7 @@ use Prim.Native.Nat.{ℕ, _+_, _*_, _/_, _%_}
 use lib.Dec.{eqb, ltb}
 use lib.ListN.{take, drop}
 use Rattle.ints.specs.Lists.{all, distinct}
-use Rattle.circuit.specs.Kinds.{Kind, kindAt, arity, sorted, isKind}
+use Rattle.circuit.specs.Kinds.{Kind, kindAt, arity, sorted, isKind, ofTables}
 use Rattle.circuit.specs.Sets.{member}
 
 abbrev pub codeOf : ℕ → ℕ → ℕ → ℕ → ℕ
@@ -52,7 +52,7 @@ valid n g =
 
 -- valid for a basis at width n: valid there, and the kind is in the basis (SPECIFICATION 2.5)
 unfoldable pub validFor : ℕ → ℕ → ℕ → Bool
-validFor n basis g = member basis (kindNumber g) && valid n g
+validFor n basis g = member basis (kindNumber g) && (ofTables (kindOf g) && valid n g)
 
 -- the mark: node 0 of a table has it in the place of a parent and of a code (SPECIFICATION 2.10)
 abbrev pub mark : ℕ

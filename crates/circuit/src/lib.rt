@@ -4,13 +4,14 @@
 ghost use mathlib.Core.Path.{_≡_};
 ghost use Prim.Native.Nat.{_^_, _<_, _≤_};
 ghost use lib.Dec.{eqb};
-ghost use Rattle.circuit.specs.Kinds.{kindAt, number, arity, sorted, isKind, dual};
+ghost use Rattle.circuit.specs.Kinds.{kindAt, number, arity, sorted, isKind, ofTables, dual};
 ghost use Rattle.circuit.specs.Sets.{supported, base, member, subset};
 ghost use Rattle.circuit.specs.Codes.{kindNumber, first, second, third, placed, ordered, valid, validFor};
 ghost use Rattle.circuit.specs.Pairs.{inverse, qubits, disjoint, maskOf};
 ghost use Rattle.circuit.specs.Charge.{kindCharge, charge};
 
-// How many kinds the tables below have: H 0, X 1, Z 2, S 3, Sdg 4, T 5, Tdg 6, (Rz 7, not taken), Cx 8, Cz 9, Ccx 10, Ccz 11.
+// How many kinds the tables below have: H 0, X 1, Z 2, S 3, Sdg 4, T 5, Tdg 6, (Rz 7, not taken), Cx 8, Cz 9, Ccx 10, Ccz 11. These may be in a
+// library's table. Lists have also Y 15, Sx 16, Swap 19, Cy 20, Ch 25, Cswap 26.
 const KINDS: u32 = 12;
 
 // The number of operands of each kind, 0 for what is none of the eleven.
@@ -25,12 +26,28 @@ const DUAL: [u32; 12] = [0, 1, 2, 4, 3, 6, 5, 7, 8, 9, 10, 11];
 // The T charge of each kind.
 const CHARGE: [usize; 12] = [0, 0, 0, 0, 0, 1, 1, 0, 0, 0, 0, 0];
 
+// How many operands a kind from 12 on has; 0 for what is none of the six.
+fn more_operands(kind: u32) -> u32
+    requires { ⌜ 12 ≤ kind ⌝ }
+    ensures { λ r. ⌜ r ≡ arity (kindAt kind) ⌝ }
+{
+    match kind {
+        15 => 1,
+        16 => 1,
+        19 => 2,
+        20 => 2,
+        25 => 2,
+        26 => 3,
+        _ => 0,
+    }
+}
+
 // How many operands a kind has; 0 for what is none of the eleven.
 fn operand_count(kind: u32) -> u32
     ensures { λ r. ⌜ r ≡ arity (kindAt kind) ⌝ }
 {
     if kind >= KINDS {
-        return 0;
+        return more_operands(kind);
     }
     ARITY[kind as usize]
 }
@@ -49,6 +66,16 @@ fn is_kind(kind: u32) -> bool
     ensures { λ r. ⌜ r ≡ isKind (kindAt kind) ⌝ }
 {
     operand_count(kind) != 0
+}
+
+// Whether a table may have the kind.
+fn is_table_kind(kind: u32) -> bool
+    ensures { λ r. ⌜ r ≡ ofTables (kindAt kind) ⌝ }
+{
+    if kind >= KINDS {
+        return false;
+    }
+    is_kind(kind)
 }
 
 // The kind that undoes a kind; 7 for what is none of the eleven.
@@ -270,7 +297,11 @@ impl LibraryGate {
     pub fn is_valid_for(self, width: u32, basis: GateSet) -> bool
         ensures { λ r. ⌜ r ≡ validFor width (basis .0) (self .0) ⌝ }
     {
-        if !basis.contains(self.kind()) {
+        let kind = self.kind();
+        if !basis.contains(kind) {
+            return false;
+        }
+        if !is_table_kind(kind) {
             return false;
         }
         self.is_valid(width)
@@ -281,7 +312,7 @@ impl LibraryGate {
         ensures { λ r. ⌜ r ≡ inverse (self .0) (other .0) ⌝ }
     {
         let kind = other.kind();
-        if !is_kind(kind) {
+        if !is_table_kind(kind) {
             return false;
         }
         if self.kind() != dual_kind(kind) {

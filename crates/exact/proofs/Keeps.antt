@@ -14,13 +14,13 @@ use Rattle.cyclotomic.proofs.Division.{divisible-turn}
 use Rattle.cyclotomic.proofs.Squares.{small-turn}
 use Rattle.cyclotomic.proofs.Answers.{small-fits, fits-small}
 use Rattle.exact.specs.Matrix.{Exact, allEntries, allDivisible, Lowest}
-use Rattle.exact.proofs.Words.{Equal, Proper, exchanges, AllSmall}
-use Rattle.exact.specs.Rows.{ones, Gate, phase, exchange, had, column, raise, raw, act}
-use Rattle.exact.specs.Fits.{mostK, stepFits}
+use Rattle.exact.proofs.Words.{Equal, Proper, Plain, exchanges, AllSmall}
+use Rattle.exact.specs.Rows.{ones, Gate, phase, exchange, had, then, column, raise, raw, act}
+use Rattle.exact.specs.Fits.{mostK, rawWithin, within, stepFits}
 use Rattle.exact.proofs.Flips.{moved, moved-lt}
-use Rattle.exact.proofs.Values.{pick-ind, entries-to, entries-from, divisible-to, divisible-from, sqrt2s-cancel, equal-same, lower-stays}
-use Rattle.exact.proofs.Linear.{column-cong, raw-back}
-use Rattle.exact.proofs.Acts.{act-equal}
+use Rattle.exact.proofs.Values.{pick-ind, entries-to, entries-from, divisible-to, divisible-from, sqrt2s-cancel, equal-same, lower-stays, lower-unique, same-sym}
+use Rattle.exact.proofs.Linear.{column-cong, raw-back, raw-same}
+use Rattle.exact.proofs.Acts.{act-equal, act-value}
 
 -- a test that implies one that fails
 fails-too : (s t : Bool) → (t ≡ true → s ≡ true) → s ≡ false → t ≡ false
@@ -87,32 +87,50 @@ module _ (n : ℕ) where
   exchange-small ks k x pr w = record { small = exchange-every Small ks k x pr (w .small) }
 
   -- ---- what fits: a step whose coefficients are within the limit, at an exponent of at most 65535
-  pub step-fits : (g : Gate) (x : Exact) → AllSmall n (raw g x .e) → raw g x .k ≤ mostK → stepFits n g x ≡ true
+  pub plain-fits : (g : Gate) → Plain g → (x : Exact) → stepFits n g x ≡ (leb (raw g x .k) mostK && rawWithin n g x)
   unfolding stepFits
-  step-fits g x w h =
-      and-both (leb (raw g x .k) mostK) (allEntries n (λ r c. fits (raw g x .e r c))) (le-leb (raw g x .k) mostK h)
+  plain-fits (phase ks p) t x = refl
+  plain-fits (exchange ks k) t x = refl
+  plain-fits (had ks k) t x = refl
+  plain-fits (then g h) t x = absurd t
+
+  pub plain-within : (g : Gate) → Plain g → (x : Exact) → within n g x ≡ rawWithin n g x
+  plain-within (phase ks p) t x = refl
+  plain-within (exchange ks k) t x = refl
+  plain-within (had ks k) t x = refl
+  plain-within (then g h) t x = absurd t
+
+  pub step-fits : (g : Gate) → Plain g → (x : Exact) → AllSmall n (raw g x .e) → raw g x .k ≤ mostK → stepFits n g x ≡ true
+  step-fits g t x w h =
+      plain-fits g t x
+      ∙ and-both (leb (raw g x .k) mostK) (rawWithin n g x) (le-leb (raw g x .k) mostK h)
       (entries-from n (λ r c. fits (raw g x .e r c)) (λ r c i j. small-fits (raw g x .e r c) (w .small r c i j)))
 
-  pub fits-step : (g : Gate) (x : Exact) → stepFits n g x ≡ true → AllSmall n (raw g x .e)
-  unfolding stepFits
-  fits-step g x h =
-      let t = both-true (leb (raw g x .k) mostK) (allEntries n (λ r c. fits (raw g x .e r c))) h in
-      record { small = λ r c p q. fits-small (raw g x .e r c) (entries-to n (λ r c. fits (raw g x .e r c)) (t .1) r c p q) }
+  pub within-small : (g : Gate) (x : Exact) → rawWithin n g x ≡ true → AllSmall n (raw g x .e)
+  within-small g x h = record { small = λ r c p q. fits-small (raw g x .e r c) (entries-to n (λ r c. fits (raw g x .e r c)) h r c p q) }
+
+  pub fits-step : (g : Gate) → Plain g → (x : Exact) → stepFits n g x ≡ true → AllSmall n (raw g x .e)
+  fits-step g t x h = within-small g x (both-true (leb (raw g x .k) mostK) (rawWithin n g x) (sym (plain-fits g t x) ∙ h) .1)
 
   pub phase-step-fits : (ks : List ℕ) (p : ℕ) (x : Exact) → AllSmall n (x .e) → x .k ≤ mostK → stepFits n (phase ks p) x ≡ true
-  phase-step-fits ks p x w h = step-fits (phase ks p) x (phase-small ks p x w) h
+  phase-step-fits ks p x w h = step-fits (phase ks p) tt x (phase-small ks p x w) h
 
   pub exchange-step-fits : (ks : List ℕ) (k : ℕ) (x : Exact) → Proper n (exchange ks k) → AllSmall n (x .e) → x .k ≤ mostK → stepFits n (exchange ks k) x ≡ true
-  exchange-step-fits ks k x pr w h = step-fits (exchange ks k) x (exchange-small ks k x pr w) h
+  exchange-step-fits ks k x pr w h = step-fits (exchange ks k) tt x (exchange-small ks k x pr w) h
 
-  -- of H the coefficients decide, and at the largest exponent it does not fit
-  pub had-step : (t : ℕ) (x : Exact) → x .k < mostK → stepFits n (had t) x ≡ allEntries n (λ r c. fits (raw (had t) x .e r c))
+  -- of H and Ch the coefficients decide, and at the largest exponent it does not fit
+  pub had-step : (ks : List ℕ) (t : ℕ) (x : Exact) → x .k < mostK → stepFits n (had ks t) x ≡ allEntries n (λ r c. fits (raw (had ks t) x .e r c))
   unfolding stepFits
-  had-step t x h = rw (le-leb (raw (had t) x .k) mostK h)
+  had-step ks t x h = rw (le-leb (raw (had ks t) x .k) mostK h)
 
-  pub had-step-k : (t : ℕ) (x : Exact) → mostK ≤ x .k → stepFits n (had t) x ≡ false
+  pub had-step-k : (ks : List ℕ) (t : ℕ) (x : Exact) → mostK ≤ x .k → stepFits n (had ks t) x ≡ false
   unfolding stepFits
-  had-step-k t x h = rw (lt-leb (raw (had t) x .k) mostK (omega arith))
+  had-step-k ks t x h = rw (lt-leb (raw (had ks t) x .k) mostK (omega arith))
+
+  -- ---- one after the other: lowering between them does not matter
+  pub act-then : (g h : Gate) (x : Exact) → Proper n h → Equal n (act n h (act n g x)) (act n (then g h) x)
+  unfolding column
+  act-then g h x pr = lower-unique n (same-sym n (raw-same n h pr (act-value n g x)))
 
   -- ---- equal matrices
   entries-same : (f g : ℕ → ℕ → Bool) → ((r c : ℕ) → r < 2 ^ n → c < 2 ^ n → f r c ≡ g r c) → allEntries n f ≡ allEntries n g
@@ -121,16 +139,24 @@ module _ (n : ℕ) where
       (λ h. entries-from n g (λ r c i j. sym (e r c i j) ∙ entries-to n f h r c i j))
       (λ h. entries-from n f (λ r c i j. e r c i j ∙ entries-to n g h r c i j))
 
-  pub step-equal : (g : Gate) {x y : Exact} → Equal n x y → Proper n g → stepFits n g x ≡ stepFits n g y
-  unfolding stepFits
-  step-equal g {x} {y} s pr =
-      λ i. leb (raise g (s .exponent i)) mostK && entries-same (λ r c. fits (raw g x .e r c)) (λ r c. fits (raw g y .e r c)) same i
+  pub act-equal' : (g : Gate) {x y : Exact} → Equal n x y → Proper n g → Equal n (act n g x) (act n g y)
+  act-equal' g s pr = act-equal n g pr (equal-same n s)
+
+  plain-equal : (g : Gate) → Plain g → {x y : Exact} → Equal n x y → Proper n g → stepFits n g x ≡ stepFits n g y
+  plain-equal g t {x} {y} s pr =
+      plain-fits g t x
+      ∙ (λ i. leb (raise g (s .exponent i)) mostK && entries-same (λ r c. fits (raw g x .e r c)) (λ r c. fits (raw g y .e r c)) same i)
+      ∙ sym (plain-fits g t y)
     where
       same : (r c : ℕ) → r < 2 ^ n → c < 2 ^ n → fits (raw g x .e r c) ≡ fits (raw g y .e r c)
       same r c i j = ap fits (column-cong n g (λ t. x .e t c) (λ t. y .e t c) pr (λ t q. s .entries t c q j) r i)
 
-  pub act-equal' : (g : Gate) {x y : Exact} → Equal n x y → Proper n g → Equal n (act n g x) (act n g y)
-  act-equal' g s pr = act-equal n g pr (equal-same n s)
+  pub step-equal : (g : Gate) {x y : Exact} → Equal n x y → Proper n g → stepFits n g x ≡ stepFits n g y
+  unfolding stepFits
+  step-equal (phase ks p) s pr = plain-equal (phase ks p) tt s pr
+  step-equal (exchange ks k) s pr = plain-equal (exchange ks k) tt s pr
+  step-equal (had ks k) s pr = plain-equal (had ks k) tt s pr
+  step-equal (then g h) s pr = λ i. step-equal g s (pr .0) i && step-equal h (act-equal' g s (pr .0)) (pr .1) i
 
   pub equal-lowest : {x y : Exact} → Equal n x y → Lowest n x → Lowest n y
   equal-lowest {x} {y} s l = record {

@@ -3,7 +3,6 @@ use mathlib.Core.Path.{_≡_}
 use mathlib.Core.List.{List}
 use Prim.Native.Nat.{ℕ}
 use lib.IntN.{ℤ}
-use lib.ListN.{take}
 use Rattle.cyclotomic.specs.Told.{doesNotFit}
 use Rattle.exact.specs.Lists.{product}
 use Rattle.exact.specs.Answers.{Answer, given, refused, listAnswer}
@@ -20,10 +19,10 @@ abbrev pub toldWalked : Walked → Answer
 toldWalked (Fits k) = given k
 toldWalked (UnfitAt i) = refused doesNotFit i
 
--- what is left in the places: the list's exact product where every step fits; otherwise the product of the gates before the first that does not
+-- what is left in the places: the list's exact product where every step fits; otherwise nothing is said (an Sx may be made in part)
 abbrev pub End : ℕ → List ℕ → List ℤ → Walked → Type 0
 End n codes l (Fits k) = HoldsProduct n codes l
-End n codes l (UnfitAt i) = HoldsProduct n (take i codes) l
+End n codes l (UnfitAt i) = Unit {0}
 
 -- with the answer that the definition gives
 pub record Ended (n : ℕ) (codes : List ℕ) (l : List ℤ) (r : Walked) : Type 0 where

@@ -28,12 +28,12 @@ fn line_end() {
     io::write_all(STDOUT_FILENO, b"\n");
 }
 
-// `codes N` and every code that is valid at width N; the library is asked about all numbers below 65536.
+// `codes N` and every code of a table's kinds that is valid at width N; the library is asked about all numbers below 49152.
 fn codes_line(width: u32) {
     io::write_all(STDOUT_FILENO, b"codes");
     spaced(width);
     let mut code: u32 = 0;
-    while code < 65536 {
+    while code < 49152 {
         if LibraryGate(code).is_valid(width) {
             spaced(code);
         }

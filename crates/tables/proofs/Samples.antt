@@ -17,7 +17,7 @@ use Rattle.cyclotomic.specs.Zomega.{Zω, zeroω, oneω, addω, mulω, isZero, t
 use Rattle.words.specs.Words
 use Rattle.words.specs.Words.{rotated, word}
 use Rattle.circuit.specs.Sets.{subset}
-use Rattle.circuit.specs.Kinds.{kindAt, number, arity, sorted, isKind, dual}
+use Rattle.circuit.specs.Kinds.{kindAt, number, arity, sorted, isKind, dual, ofTables}
 use Rattle.circuit.specs.Codes.{placed, rises, valid, validFor}
 use Rattle.circuit.specs.Pairs.{inverse, qubits, disjoint}
 use Rattle.generators.specs.Generators.{kept, generators}
@@ -105,7 +105,7 @@ record Computed : Type 0 where
   x-of : ListOf 1 2 (4096 ∷ [])
 
 computed : Computed
-unfolding synthesized recordOf firstRow subset anyBelow answerOf lowestFrom chainOf marked rechecked steps answerBy recheck upToPhase eqω product walk depths deeper layer tryAll try skipped samePrint fingerprint mix fold Words.product rotated word pivot phaseOf leastUpTo less turn zeroω oneω isZero gateOf column flip lower stepFits fits valid validFor placed rises all elem distinct range each kept generators kindAt arity sorted isKind number dual inverse qubits disjoint bit entry
+unfolding ofTables synthesized recordOf firstRow subset anyBelow answerOf lowestFrom chainOf marked rechecked steps answerBy recheck upToPhase eqω product walk depths deeper layer tryAll try skipped samePrint fingerprint mix fold Words.product rotated word pivot phaseOf leastUpTo less turn zeroω oneω isZero gateOf column flip lower stepFits fits valid validFor placed rises all elem distinct range each kept generators kindAt arity sorted isKind number dual inverse qubits disjoint bit entry
 computed = record {
   x-limits = refl;
   larger-limits = refl;

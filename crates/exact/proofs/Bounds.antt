@@ -16,16 +16,16 @@ use Rattle.ints.proofs.Int.{up}
 use Rattle.cyclotomic.specs.Zomega.{Zω, limit, mulω, overSqrt2, squares, fits, Small, WithinBound}
 use Rattle.cyclotomic.proofs.Squares.{small-of-squares, small-over}
 use Rattle.exact.specs.Matrix.{Exact, allEntries, allDivisible, lowered, lower, identity}
-use Rattle.exact.specs.Rows.{Gate, phase, exchange, had, then, raw, act, gateOf, Proper, Plain}
+use Rattle.exact.specs.Rows.{Gate, phase, exchange, had, then, raw, act, gateOf}
 use Rattle.exact.specs.Lists.{after, product}
-use Rattle.exact.specs.Fits.{mostK, within, stepFits, Steps, allFit, unfitAt, next, stepsFrom, steps}
+use Rattle.exact.specs.Fits.{mostK, allFits, within, stepFits, Steps, allFit, unfitAt, next, stepsFrom, steps}
 use Rattle.exact.proofs.Words.{AllWithin, AllSmall, total, RowLaw, Proper, Plain}
 use Rattle.exact.specs.Unitary.{conj, inner, Unitary}
 use Rattle.exact.proofs.Linear.{raise-most}
 use Rattle.exact.proofs.Values.{pick-ind}
 use Rattle.exact.proofs.Coded.{proper, AllPlain}
 use Rattle.exact.proofs.Listed.{act-k, raw-k}
-use Rattle.exact.proofs.Keeps.{step-fits, fits-step, plain-fits, plain-within, act-then}
+use Rattle.exact.proofs.Keeps.{step-fits, fits-step, plain-each, plain-fits, act-then}
 use Rattle.exact.proofs.Conj.{own-first, sum-first}
 use Rattle.exact.proofs.Unitaries.{unitary-identity, unitary-raw, unitary-act, unitary-product, unitary-step}
 
@@ -130,7 +130,7 @@ module _ (n : ℕ) where
   plain-decide h {x} u w g t =
       let k = k-never h u w in
       let r = raise-most g t (x .k) in
-      plain-fits n g t x ∙ rw (le-leb (raw g x .k) mostK (omega arith)) (sym (plain-within n g t x))
+      plain-fits n g t x ∙ rw (le-leb (raw g x .k) mostK (omega arith)) (sym (plain-each n (allFits n) g t x))
 
   pub coefficients-decide : n ≤ 5 → {x : Exact} → Unitary n x → AllSmall n (x .e) → (g : Gate) → Proper n g → stepFits n g x ≡ within n g x
   unfolding stepFits

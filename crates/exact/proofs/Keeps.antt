@@ -16,7 +16,7 @@ use Rattle.cyclotomic.proofs.Answers.{small-fits, fits-small}
 use Rattle.exact.specs.Matrix.{Exact, allEntries, allDivisible, Lowest}
 use Rattle.exact.proofs.Words.{Equal, Proper, Plain, exchanges, AllSmall}
 use Rattle.exact.specs.Rows.{ones, Gate, phase, exchange, had, then, column, raise, raw, act}
-use Rattle.exact.specs.Fits.{mostK, rawWithin, within, stepFits}
+use Rattle.exact.specs.Fits.{mostK, allFits, eachRaw, within, stepFits}
 use Rattle.exact.proofs.Flips.{moved, moved-lt}
 use Rattle.exact.proofs.Values.{pick-ind, entries-to, entries-from, divisible-to, divisible-from, sqrt2s-cancel, equal-same, lower-stays, lower-unique, same-sym}
 use Rattle.exact.proofs.Linear.{column-cong, raw-back, raw-same}
@@ -87,30 +87,27 @@ module _ (n : ℕ) where
   exchange-small ks k x pr w = record { small = exchange-every Small ks k x pr (w .small) }
 
   -- ---- what fits: a step whose coefficients are within the limit, at an exponent of at most 65535
-  pub plain-fits : (g : Gate) → Plain g → (x : Exact) → stepFits n g x ≡ (leb (raw g x .k) mostK && rawWithin n g x)
-  unfolding stepFits
-  plain-fits (phase ks p) t x = refl
-  plain-fits (exchange ks k) t x = refl
-  plain-fits (had ks k) t x = refl
-  plain-fits (then g h) t x = absurd t
+  pub plain-each : (test : Exact → Bool) (g : Gate) → Plain g → (x : Exact) → eachRaw n test g x ≡ test (raw g x)
+  plain-each test (phase ks p) t x = refl
+  plain-each test (exchange ks k) t x = refl
+  plain-each test (had ks k) t x = refl
+  plain-each test (then g h) t x = absurd t
 
-  pub plain-within : (g : Gate) → Plain g → (x : Exact) → within n g x ≡ rawWithin n g x
-  plain-within (phase ks p) t x = refl
-  plain-within (exchange ks k) t x = refl
-  plain-within (had ks k) t x = refl
-  plain-within (then g h) t x = absurd t
+  pub plain-fits : (g : Gate) → Plain g → (x : Exact) → stepFits n g x ≡ (leb (raw g x .k) mostK && allFits n (raw g x))
+  unfolding stepFits
+  plain-fits g t x = plain-each (λ y. leb (y .k) mostK && allFits n y) g t x
 
   pub step-fits : (g : Gate) → Plain g → (x : Exact) → AllSmall n (raw g x .e) → raw g x .k ≤ mostK → stepFits n g x ≡ true
   step-fits g t x w h =
       plain-fits g t x
-      ∙ and-both (leb (raw g x .k) mostK) (rawWithin n g x) (le-leb (raw g x .k) mostK h)
+      ∙ and-both (leb (raw g x .k) mostK) (allFits n (raw g x)) (le-leb (raw g x .k) mostK h)
       (entries-from n (λ r c. fits (raw g x .e r c)) (λ r c i j. small-fits (raw g x .e r c) (w .small r c i j)))
 
-  pub within-small : (g : Gate) (x : Exact) → rawWithin n g x ≡ true → AllSmall n (raw g x .e)
+  pub within-small : (g : Gate) (x : Exact) → allFits n (raw g x) ≡ true → AllSmall n (raw g x .e)
   within-small g x h = record { small = λ r c p q. fits-small (raw g x .e r c) (entries-to n (λ r c. fits (raw g x .e r c)) h r c p q) }
 
   pub fits-step : (g : Gate) → Plain g → (x : Exact) → stepFits n g x ≡ true → AllSmall n (raw g x .e)
-  fits-step g t x h = within-small g x (both-true (leb (raw g x .k) mostK) (rawWithin n g x) (sym (plain-fits g t x) ∙ h) .1)
+  fits-step g t x h = within-small g x (both-true (leb (raw g x .k) mostK) (allFits n (raw g x)) (sym (plain-fits g t x) ∙ h) .1)
 
   pub phase-step-fits : (ks : List ℕ) (p : ℕ) (x : Exact) → AllSmall n (x .e) → x .k ≤ mostK → stepFits n (phase ks p) x ≡ true
   phase-step-fits ks p x w h = step-fits (phase ks p) tt x (phase-small ks p x w) h

@@ -16,24 +16,26 @@ use Rattle.exact.specs.Lists.{product}
 abbrev pub mostK : ℕ
 mostK = 65535
 
--- every coefficient of the raw row operation, before lowering, is within the limit
-abbrev pub rawWithin : ℕ → Gate → Exact → Bool
-rawWithin n g x = allEntries n (λ r c. fits (raw g x .e r c))
+-- every coefficient of every entry is within the limit
+abbrev pub allFits : ℕ → Exact → Bool
+allFits n x = allEntries n (λ r c. fits (x .e r c))
 
--- no step passes the limit; of operations one after the other, each by itself
-abbrev pub within : ℕ → Gate → Exact → Bool
-within n (phase ks p) x = rawWithin n (phase ks p) x
-within n (exchange ks k) x = rawWithin n (exchange ks k) x
-within n (had ks k) x = rawWithin n (had ks k) x
-within n (then g h) x = within n g x && within n h (act n g x)
+-- Each row operation of a gate has a raw result that passes a test. Of operations one after the other the second starts from what the first
+-- left, lowered: so of Sx the raw results of both H are tested; of Ch, one operation, all rows, those multiplied by sqrt(2) among them
+-- (SPECIFICATION 3.4)
+abbrev pub eachRaw : ℕ → (Exact → Bool) → Gate → Exact → Bool
+eachRaw n test (phase ks p) x = test (raw (phase ks p) x)
+eachRaw n test (exchange ks k) x = test (raw (exchange ks k) x)
+eachRaw n test (had ks k) x = test (raw (had ks k) x)
+eachRaw n test (then g h) x = eachRaw n test g x && eachRaw n test h (act n g x)
 
--- "a result past 127 either way, or k past 65535, is 'does not fit'": the raw row operation, before lowering. "Sx, as H, S, H, does not fit if
--- either H doesn't"
+-- the step fits: no raw result has a coefficient past the limit or an exponent above `mostK` (SPECIFICATION 3.4)
 unfoldable pub stepFits : ℕ → Gate → Exact → Bool
-stepFits n (phase ks p) x = leb (raw (phase ks p) x .k) mostK && rawWithin n (phase ks p) x
-stepFits n (exchange ks k) x = leb (raw (exchange ks k) x .k) mostK && rawWithin n (exchange ks k) x
-stepFits n (had ks k) x = leb (raw (had ks k) x .k) mostK && rawWithin n (had ks k) x
-stepFits n (then g h) x = stepFits n g x && stepFits n h (act n g x)
+stepFits n g x = eachRaw n (λ y. leb (y .k) mostK && allFits n y) g x
+
+-- the coefficients alone: no raw result of the step has one past the limit
+abbrev pub within : ℕ → Gate → Exact → Bool
+within n g x = eachRaw n (allFits n) g x
 
 -- every step of a list fits, or the position of the first that does not (SPECIFICATION 3.6)
 pub data Steps : Type 0 where

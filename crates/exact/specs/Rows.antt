@@ -1,7 +1,7 @@
 -- What gates do to rows: multiplying by a gate on the left, said without a product of matrices, as the code does it (SPECIFICATION 3.2). The
 -- kinds come to three operations, so that most laws have three cases. Assumes nothing.
 use mathlib.Core.Bool.{Bool}
-use mathlib.Core.List.{List, [], _∷_, _++_}
+use mathlib.Core.List.{List, [], _∷_}
 use Prim.Native.Nat.{ℕ, suc, _+_, _-_, _%_, _^_, _<_}
 use mathlib.Core.Path.{_≡_}
 use lib.Bits.{bitXor}

@@ -7,9 +7,11 @@ use lib.IntN.{ℤ}
 use lib.ListN.{length}
 use Rattle.cyclotomic.specs.Zomega.{Zω, Small}
 use Rattle.circuit.specs.Pairs.{maskOf}
-use Rattle.exact.specs.Rows.{phase, turnedExchange, exchanges3, Proper}
-use Rattle.exact.specs.Fits.{mostK, AllSmall}
-use Rattle.places.specs.Places.{places, read, Same, Kept}
+use Rattle.exact.specs.Rows.{phase, turnedExchange, exchanges3}
+use Rattle.exact.specs.Fits.{mostK}
+use Rattle.exact.specs.Places.{read}
+use Rattle.exact.proofs.Words.{Proper, AllSmall}
+use Rattle.places.specs.Places.{places, Same, Kept}
 use Rattle.rows.specs.Rows.{sourceRow, phaseRows, exchangeRows}
 use Rattle.rows.proofs.Pairs.{source-lt}
 use Rattle.matrix.specs.Step.{Ready, Stepped, Controlled}

@@ -5,7 +5,7 @@ use Prim.Native.Nat.{ℕ}
 use lib.IntN.{ℤ}
 use lib.ListN.{length}
 use Rattle.exact.specs.Matrix.{Exact, Lowest}
-use Rattle.exact.proofs.Words.{Equal, Proper, AllSmall, stepAnswer}
+use Rattle.exact.proofs.Words.{Equal, Proper, Plain, AllSmall, stepAnswer}
 use Rattle.cyclotomic.specs.Told.{doesNotFit}
 use Rattle.circuit.specs.Pairs.{maskOf}
 use Rattle.exact.specs.Rows.{Gate, phase, act}

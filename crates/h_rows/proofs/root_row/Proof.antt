@@ -4,7 +4,7 @@ use native.Mathlib.Omega.{arith}
 use borrow.Author.Needs.{needs}
 use mathlib.Core.Path.{_≡_, refl, _∙_}
 use mathlib.Core.Bool.{false}
-use Rattle.places.specs.Places.{entry}
+use Rattle.exact.specs.Places.{entry}
 use Rattle.h_rows.specs.Work.{Summed}
 use Rattle.h_rows.proofs.HRows.{summed-none, summed-low, summed-high, summed-more, summed-to}
 use Rattle.h_rows.proofs.root_row.Statement.{statement}

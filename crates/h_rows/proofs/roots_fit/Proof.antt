@@ -8,7 +8,7 @@ use mathlib.Core.Bool.{false}
 use Rattle.ints.proofs.Bools.{clash}
 use Rattle.cyclotomic.specs.Zomega.{Zω, fits, sqrt2}
 use Rattle.cyclotomic.proofs.Answers.{fits-small, small-fits}
-use Rattle.places.specs.Places.{entry}
+use Rattle.exact.specs.Places.{entry}
 use Rattle.h_rows.specs.Work.{SumsFit}
 use Rattle.h_rows.proofs.HRows.{sums-none, sums-more, sums-to}
 use Rattle.h_rows.proofs.roots_fit.Statement.{statement}

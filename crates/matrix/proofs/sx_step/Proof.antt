@@ -3,7 +3,8 @@ use Prim.Native.Nat.{ℕ, _<_}
 use native.Mathlib.Omega.{arith}
 use borrow.Author.Needs.{needs}
 use mathlib.Core.List.{[], _∷_}
-use Rattle.exact.specs.Rows.{phase, had, then, Proper}
+use Rattle.exact.specs.Rows.{phase, had, then}
+use Rattle.exact.proofs.Words.{Proper}
 use Rattle.matrix.proofs.Masks.{mask-none, none-apart}
 use Rattle.matrix.proofs.Steps.{ready-next, stepped-then, stepped-unfit, at-answer}
 use Rattle.matrix.proofs.Several.{turned-one}

@@ -14,7 +14,7 @@ use Rattle.cyclotomic.proofs.Division.{divisible-turn}
 use Rattle.cyclotomic.proofs.Squares.{small-turn}
 use Rattle.cyclotomic.proofs.Answers.{small-fits, fits-small}
 use Rattle.exact.specs.Matrix.{Exact, allEntries, allDivisible, Lowest}
-use Rattle.exact.proofs.Words.{Equal, Proper, Plain, exchanges, AllSmall}
+use Rattle.exact.proofs.Words.{Equal, Proper, Plain, exchanges, AllSmall, made}
 use Rattle.exact.specs.Rows.{ones, Gate, phase, exchange, had, then, column, raise, raw, act}
 use Rattle.exact.specs.Fits.{mostK, allFits, eachRaw, within, stepFits}
 use Rattle.exact.proofs.Flips.{moved, moved-lt}
@@ -159,3 +159,17 @@ module _ (n : ℕ) where
   equal-lowest {x} {y} s l = record {
     lowest = λ h. divisible-back x y (λ w r c i j. ap divisible (s .entries r c i j) ∙ w r c i j) (l .lowest (rw (s .exponent) h));
   }
+
+  -- equal matrices are left equal where a gate does not fit
+  pub made-equal : (g : Gate) → {x y : Exact} → Equal n x y → Proper n g → Equal n (made n g x) (made n g y)
+  made-equal (phase ks p) s pr = s
+  made-equal (exchange ks k) s pr = s
+  made-equal (had ks k) s pr = s
+  made-equal (then g h) {x} {y} s pr =
+      by (stepFits n g x) (stepFits n g y) (step-equal g s (pr .0)) (made-equal h (act-equal' g s (pr .0)) (pr .1)) (made-equal g s (pr .0))
+    where
+      by : {a b c d : Exact} (t u : Bool) → t ≡ u → Equal n a b → Equal n c d → Equal n (pick t a c) (pick u b d)
+      by true true e p q = p
+      by true false e p q = clash refl e
+      by false true e p q = clash refl (sym e)
+      by false false e p q = q

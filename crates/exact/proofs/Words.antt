@@ -40,6 +40,14 @@ pub record RowLaw (n : ℕ) (x : Exact) : Type 0 where
 unfoldable pub stepAnswer : ℕ → Gate → Exact → Answer
 stepAnswer n g x = pick (stepFits n g x) (given (act n g x .k)) (refused doesNotFit 0)
 
+-- where a gate does not fit: what its row operations before the first that does not fit have made. Of Sx it may be its first H and its S; a gate
+-- of one operation has made nothing
+abbrev pub made : ℕ → Gate → Exact → Exact
+made n (phase ks p) x = x
+made n (exchange ks k) x = x
+made n (had ks k) x = x
+made n (then g h) x = pick (stepFits n g x) (made n h (act n g x)) (made n g x)
+
 -- ---- gates of a width, gates with no common bit, gates that undo each other
 
 abbrev pub Lacks : ℕ → List ℕ → Type 0

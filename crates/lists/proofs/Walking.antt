@@ -17,7 +17,7 @@ use Rattle.exact.proofs.Values.{equal-sym, equal-trans}
 use Rattle.exact.proofs.Listed.{product-snoc}
 use Rattle.exact.proofs.Coded.{proper}
 use Rattle.exact.proofs.Answered.{step-given, step-refused, given-list, refused-list}
-use Rattle.exact.proofs.Keeps.{step-equal, act-equal'}
+use Rattle.exact.proofs.Keeps.{step-equal, act-equal', made-equal}
 use Rattle.exact.specs.Places.{held}
 use Rattle.matrix.specs.Step.{Holds, Ready, Stepped}
 use Rattle.matrix.specs.declared.Applied.the-variants.{Done, DoesNotFit}
@@ -97,7 +97,11 @@ module _ (n : ℕ) (codes : List ℕ) where
           (ahead-here
           ∙ ap (λ b. later i (pick b (next (stepsFrom n (act n (gateOf n code) (held n k l)) (drop (suc i) codes))) (unfitAt 0))) (step-refused n (gateOf n code) (held n k l) (s .answer))
           ∙ later-unfit i 0 ∙ ap unfitAt (omega arith));
-      end = tt;
+      end = record {
+        long = s .left .long;
+        equal = record { exponent = refl; entries = λ r c i j. s .left .equal .entries r c i j ∙ made-equal n (gateOf n code) (w .so-far) (proper n code) .entries r c i j };
+        small = s .left .small;
+      };
     }
 
   pub walking-end : {i k : ℕ} {l : List ℤ} → Walking n codes i k l → length codes ≤ i → Ended n codes l (Fits k)

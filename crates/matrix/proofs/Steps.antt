@@ -10,14 +10,14 @@ use Rattle.cyclotomic.specs.Zomega.{Zω, Small, fits}
 use Rattle.cyclotomic.proofs.Answers.{small-fits, fits-small}
 use Rattle.circuit.specs.Pairs.{maskOf}
 use Rattle.exact.specs.Matrix.{Exact, allEntries, lower}
-use Rattle.exact.proofs.Words.{Equal, Proper, Plain, AllSmall}
+use Rattle.exact.proofs.Words.{Equal, Proper, AllSmall, made}
 use Rattle.exact.specs.Rows.{Gate, phase, exchange, had, then, raw, act, turnedExchange, exchanges3}
 use Rattle.exact.specs.Fits.{mostK, stepFits}
 use Rattle.ints.proofs.Bools.{and-both}
 use Rattle.exact.proofs.Values.{equal-sym, equal-trans, equal-same, lower-unique, entries-to, entries-from}
 use Rattle.exact.proofs.Answered.{given-step, refused-step, step-given, step-refused}
 use Rattle.exact.proofs.Acts.{act-lowest}
-use Rattle.exact.proofs.Keeps.{phase-act, exchange-act, phase-small, exchange-small, phase-step-fits, exchange-step-fits, had-step, had-step-k, step-equal, act-equal', equal-lowest, act-then}
+use Rattle.exact.proofs.Keeps.{phase-act, exchange-act, phase-small, exchange-small, phase-step-fits, exchange-step-fits, had-step, had-step-k, step-equal, act-equal', made-equal, equal-lowest, act-then}
 use Rattle.exact.specs.Places.{read, held}
 use Rattle.places.specs.Places.{places, Same, Kept}
 use Rattle.places.proofs.Placed.{kept-refl, kept-trans}
@@ -75,13 +75,17 @@ module _ (n k : ℕ) (ks : List ℕ) (t : ℕ) (l : List ℤ) where
       by true e = absurd (u (record { small = λ r c i j. subst Small (sym (h-rows ks t (read n l) r c)) (fits-small (summed .e r c) (entries-to n (λ r c. fits (summed .e r c)) e r c i j)) }))
       by false e = refl
 
-  pub h-refused-k : mostK ≤ k → length l ≡ places → Stepped n k (had ks t) l l DoesNotFit
-  h-refused-k h b = record { answer = refused-step n (had ks t) (held n k l) (had-step-k n ks t (held n k l) h); left = (b, λ _. refl); kept = kept-refl n l }
+  -- a matrix that stays
+  stays : Ready n k l → Holds n k l (held n k l)
+  stays w = record { long = w .long; equal = record { exponent = refl; entries = λ r c i j. refl }; small = w .small }
 
-  pub h-refused : {l′ : List ℤ} {ok : Bool} → k < mostK → HDone n (hRows (maskOf ks) (2 ^ t) (read n l)) l l′ ok → ok ≡ false → Stepped n k (had ks t) l l′ DoesNotFit
-  h-refused h d e = record {
+  pub h-refused-k : mostK ≤ k → Ready n k l → Stepped n k (had ks t) l l DoesNotFit
+  h-refused-k h w = record { answer = refused-step n (had ks t) (held n k l) (had-step-k n ks t (held n k l) h); left = stays w; kept = kept-refl n l }
+
+  pub h-refused : {l′ : List ℤ} {ok : Bool} → Ready n k l → k < mostK → HDone n (hRows (maskOf ks) (2 ^ t) (read n l)) l l′ ok → ok ≡ false → Stepped n k (had ks t) l l′ DoesNotFit
+  h-refused w h d e = record {
     answer = refused-step n (had ks t) (held n k l) (had-step n ks t (held n k l) h ∙ tested-false (d .refused e .1));
-    left = (d .long, λ _. d .refused e .0);
+    left = rw (d .refused e .0) (stays w);
     kept = d .kept;
   }
 
@@ -139,7 +143,13 @@ module _ (n k : ℕ) (g h : Gate) (l : List ℤ) (pr : Proper n h) where
     answer =
         refused-step n (then g h) (held n k l)
         (ap (λ (b : Bool). stepFits n g (held n k l) && b) (sym (step-equal n h (s .left .equal) pr) ∙ step-refused n h (held n j l1) (w .answer)) ∙ and-false (stepFits n g (held n k l)));
-    left = (w .left .0, λ t. absurd t);
+    left =
+        rw (step-given n g (held n k l) (s .answer))
+        (record {
+          long = w .left .long;
+          equal = record { exponent = refl; entries = λ r c i j. w .left .equal .entries r c i j ∙ made-equal n h (s .left .equal) pr .entries r c i j };
+          small = w .left .small;
+        });
     kept = kept-trans n (s .kept) (w .kept);
   }
 
@@ -148,7 +158,7 @@ module _ (n k : ℕ) (g h : Gate) (l : List ℤ) (pr : Proper n h) where
   unfolding stepFits
   stepped-unfit s = record {
     answer = refused-step n (then g h) (held n k l) (ap (λ (b : Bool). b && stepFits n h (act n g (held n k l))) (step-refused n g (held n k l) (s .answer)));
-    left = (s .left .0, λ t. absurd t);
+    left = rw (step-refused n g (held n k l) (s .answer)) (s .left);
     kept = s .kept;
   }
 

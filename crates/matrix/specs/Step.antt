@@ -5,7 +5,7 @@ use Prim.Native.Nat.{ℕ}
 use lib.IntN.{ℤ}
 use lib.ListN.{length}
 use Rattle.exact.specs.Matrix.{Exact, Lowest}
-use Rattle.exact.proofs.Words.{Equal, Proper, Plain, AllSmall, stepAnswer}
+use Rattle.exact.proofs.Words.{Equal, Proper, AllSmall, stepAnswer, made}
 use Rattle.cyclotomic.specs.Told.{doesNotFit}
 use Rattle.circuit.specs.Pairs.{maskOf}
 use Rattle.exact.specs.Rows.{Gate, phase, act}
@@ -39,11 +39,11 @@ abbrev pub toldApplied : Applied → Answer
 toldApplied (Done k) = given k
 toldApplied DoesNotFit = refused doesNotFit 0
 
--- what a step by the gate g leaves: its exact result, with the exponent told, or, where it does not fit, all places as they were, if it is one
--- row operation ("Sx, as H, S, H": where the second H does not fit, the first was made)
+-- what a step by the gate g leaves: its exact result, with the exponent told, or, where it does not fit, what its row operations before the first
+-- that does not fit have made; of a gate of one operation, and so of all but Sx, that is the matrix as it was
 abbrev pub Left : (n k : ℕ) → Gate → List ℤ → List ℤ → Applied → Type 0
 Left n k g l l′ (Done j) = Holds n j l′ (act n g (held n k l))
-Left n k g l l′ DoesNotFit = (length l′ ≡ places) × (Plain g → l′ ≡ l)
+Left n k g l l′ DoesNotFit = Holds n (made n g (held n k l) .k) l′ (made n g (held n k l))
 
 -- with the answer that the definition gives, and the places past the matrix as they were
 pub record Stepped (n k : ℕ) (g : Gate) (l l′ : List ℤ) (r : Applied) : Type 0 where

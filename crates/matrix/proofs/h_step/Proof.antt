@@ -8,7 +8,7 @@ use Rattle.matrix.proofs.h_step.Statement.{statement}
 use Rattle.matrix.proofs.h_step.Tie as tie
 
 returns : tie.Need-returns
-returns c = record { by = λ ks e p. h-refused-k _ _ ks _ _ (omega (arith, c .if1 .taken)) (c .before .pre .1 .1 .long) }
+returns c = record { by = λ ks e p. h-refused-k _ _ ks _ _ (omega (arith, c .if1 .taken)) (c .before .pre .1 .1) }
 
 apply-h-left-requires : tie.Need-apply-h-left-requires
 apply-h-left-requires c κs =
@@ -17,7 +17,7 @@ apply-h-left-requires c κs =
 
 returns-2 : tie.Need-returns-2
 returns-2 c = record {
-  by = λ ks e p. h-refused _ _ ks _ _ (omega (arith, c .before .before .before .if1 .left)) (rw e at (c .before .apply-h-left .ensures)) (not-true _ (c .if2 .taken));
+  by = λ ks e p. h-refused _ _ ks _ _ (c .before .before .before .before .pre .1 .1) (omega (arith, c .before .before .before .if1 .left)) (rw e at (c .before .apply-h-left .ensures)) (not-true _ (c .if2 .taken));
 }
 
 normalize-denominator-requires : tie.Need-normalize-denominator-requires

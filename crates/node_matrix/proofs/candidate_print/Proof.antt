@@ -25,7 +25,7 @@ returns c =
     let a = c .before .before in
     let m = a .before .before in
     let s = at-answer (c .enum-told .given .1) (a .apply-gate-left .ensures) in
-    (copied-refused _ _ _ (m .copy-matrix .ensures) (step-refused _ _ _ (s .answer)), s .left .0)
+    (copied-refused _ _ _ (m .copy-matrix .ensures) (step-refused _ _ _ (s .answer)), s .left .long)
 
 unitary-fingerprint-requires : tie.Need-unitary-fingerprint-requires
 unitary-fingerprint-requires c κs =

@@ -39,7 +39,7 @@ no-operands k p a b c d e f = by (decLt k 27)
         ∙ rw (ne-eqb k 15 a, ne-eqb k 16 b, ne-eqb k 19 c, ne-eqb k 20 d, ne-eqb k 25 e, ne-eqb k 26 f) at (all-range operandless 15 12 refl k p (omega arith)))
     by (no q) = ap arity (kind-past k (omega arith))
 
--- the eleven kinds are those with an operand
+-- the kinds are those with an operand
 pub kind-placed : (k : Kind) → not (eqb (arity k) 0) ≡ isKind k
 unfolding arity isKind
 kind-placed H = refl

@@ -92,7 +92,7 @@ mask-apart ps qs = iff _ _
 
 -- ---- the supported set
 
--- bit i is 1 exactly where i is one of the eleven kinds
+-- bit i is 1 exactly where i is one of the eleven kinds of tables
 abbrev agree : ℕ → Bool
 agree i = pick (ofTables (kindAt i)) (bit supported i) (not (bit supported i))
 

@@ -9,7 +9,7 @@ use Rattle.ints.specs.Lists.{all, elem}
 use Rattle.circuit.specs.Kinds.{number, arity, ofTables, dual}
 use Rattle.circuit.specs.Codes.{kindNumber, kindOf, first, second, third}
 
--- g inverts h: its kind is the one that undoes h's kind, on the same operands
+-- g inverts h: h is of a kind of tables, g's kind is the one that undoes it, and their operands are the same. Only tables ask this
 unfoldable pub inverse : ℕ → ℕ → Bool
 inverse g h = ofTables (kindOf h) && (eqb (kindNumber g) (number (dual (kindOf h))) && eqb (g % 4096) (h % 4096))
 

@@ -10,11 +10,12 @@ ghost use Rattle.circuit.specs.Codes.{kindNumber, first, second, third, 
 ghost use Rattle.circuit.specs.Pairs.{inverse, qubits, disjoint, maskOf};
 ghost use Rattle.circuit.specs.Charge.{kindCharge, charge};
 
-// How many kinds the tables below have: H 0, X 1, Z 2, S 3, Sdg 4, T 5, Tdg 6, (Rz 7, not taken), Cx 8, Cz 9, Ccx 10, Ccz 11. These may be in a
-// library's table. Lists have also Y 15, Sx 16, Swap 19, Cy 20, Ch 25, Cswap 26.
+// The places of the constants below: H 0, X 1, Z 2, S 3, Sdg 4, T 5, Tdg 6, (Rz 7, not taken), Cx 8, Cz 9, Ccx 10, Ccz 11. These eleven may be in a
+// table. Lists take also Y 15, Sx 16, Swap 19, Cy 20, Ch 25, Cswap 26, which have a `match` below: every function that indexes a constant copies it
+// to the stack, so 27 places would cost each gate of a list some nanoseconds.
 const KINDS: u32 = 12;
 
-// The number of operands of each kind, 0 for what is none of the eleven.
+// The number of operands of each kind.
 const ARITY: [u32; 12] = [1, 1, 1, 1, 1, 1, 1, 0, 2, 2, 3, 3];
 
 // How many of the first operands of each kind are in rising order.
@@ -26,7 +27,7 @@ const DUAL: [u32; 12] = [0, 1, 2, 4, 3, 6, 5, 7, 8, 9, 10, 11];
 // The T charge of each kind.
 const CHARGE: [usize; 12] = [0, 0, 0, 0, 0, 1, 1, 0, 0, 0, 0, 0];
 
-// How many operands a kind from 12 on has; 0 for what is none of the six.
+// How many operands a kind from 12 on has; 0 for what is no kind.
 fn more_operands(kind: u32) -> u32
     requires { ⌜ 12 ≤ kind ⌝ }
     ensures { λ r. ⌜ r ≡ arity (kindAt kind) ⌝ }
@@ -42,7 +43,7 @@ fn more_operands(kind: u32) -> u32
     }
 }
 
-// How many operands a kind has; 0 for what is none of the eleven.
+// How many operands a kind has; 0 for what is no kind.
 fn operand_count(kind: u32) -> u32
     ensures { λ r. ⌜ r ≡ arity (kindAt kind) ⌝ }
 {
@@ -78,7 +79,7 @@ fn is_table_kind(kind: u32) -> bool
     is_kind(kind)
 }
 
-// The kind that undoes a kind; 7 for what is none of the eleven.
+// The kind that undoes a kind of tables; 7 for the others.
 fn dual_kind(kind: u32) -> u32
     ensures { λ r. ⌜ r ≡ number (dual (kindAt kind)) ⌝ }
 {
@@ -200,7 +201,7 @@ impl GateSet {
     // The original's default basis: H, X, Z, S, Sdg, T, Tdg, Cx (SPECIFICATION 2.2).
     pub const BASE: GateSet = GateSet(383);
 
-    // That basis with Cz, Ccx, Ccz: all eleven kinds.
+    // That basis with Cz, Ccx, Ccz: all kinds of tables.
     pub const SUPPORTED: GateSet = GateSet(3967);
 
     pub fn bits(self) -> u32
@@ -293,7 +294,7 @@ impl LibraryGate {
         in_order(sorted_count(kind), a, b, c)
     }
 
-    // Whether the code is valid at a width and of a kind in the basis.
+    // Whether the code is valid at a width, of a kind of tables, and this kind is in the basis.
     pub fn is_valid_for(self, width: u32, basis: GateSet) -> bool
         ensures { λ r. ⌜ r ≡ validFor width (basis .0) (self .0) ⌝ }
     {
@@ -307,7 +308,7 @@ impl LibraryGate {
         self.is_valid(width)
     }
 
-    // Whether this gate undoes the other.
+    // Whether this gate undoes the other, one of a kind of tables.
     pub fn is_inverse_of(self, other: LibraryGate) -> bool
         ensures { λ r. ⌜ r ≡ inverse (self .0) (other .0) ⌝ }
     {

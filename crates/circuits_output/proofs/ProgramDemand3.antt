@@ -13,7 +13,7 @@ use lib.Seq.{take-at, getD-take, getD-drop}
 use Rattle.ints.specs.Lists.{pick, all, range, each}
 use Rattle.ints.proofs.Bools.{both-true}
 use Rattle.circuit.specs.Charge.{charge}
-use Rattle.circuit.specs.Codes.{valid, validFor}
+use Rattle.circuit.specs.Codes.{validFor}
 use Rattle.circuit.proofs.Charges.{charge-most}
 use Rattle.exact.specs.Matrix.{PowerOf}
 use Rattle.exact.specs.Paper.{paperProduct}

@@ -13,9 +13,9 @@ use borrow.Author.Tests.{le-leb}
 use Rattle.ints.specs.Lists.{pick}
 use Rattle.ints.proofs.Bools.{both-true}
 use Rattle.ints.proofs.Int.{up}
-use Rattle.cyclotomic.specs.Zomega.{Zω, limit, mulω, overSqrt2, squares, fits, Small, WithinBound}
+use Rattle.cyclotomic.specs.Zomega.{Zω, limit, mulω, overSqrt2, squares, Small, WithinBound}
 use Rattle.cyclotomic.proofs.Squares.{small-of-squares, small-over}
-use Rattle.exact.specs.Matrix.{Exact, allEntries, allDivisible, lowered, lower, identity}
+use Rattle.exact.specs.Matrix.{Exact, allDivisible, lowered, lower, identity}
 use Rattle.exact.specs.Rows.{Gate, phase, exchange, had, then, raw, act, gateOf}
 use Rattle.exact.specs.Lists.{after, product}
 use Rattle.exact.specs.Fits.{mostK, allFits, within, stepFits, Steps, allFit, unfitAt, next, stepsFrom, steps}

@@ -16,7 +16,7 @@ use Rattle.circuit.specs.Codes.{kindNumber, kindOf, first, second, third, place
 use Rattle.circuit.specs.Pairs.{inverse, qubits, disjoint}
 use Rattle.circuit.proofs.ByNumber.{kind-past, kind-number, table-kind}
 use Rattle.circuit.proofs.Coded.{code-table}
-use Rattle.exact.specs.Rows.{Gate, phase, exchange, had, bitOf, gate, gateOf}
+use Rattle.exact.specs.Rows.{Gate, phase, bitOf, gate, gateOf}
 use Rattle.exact.proofs.Words.{Lacks, AllBelow, Proper, Plain, touches, Apart, Undoes, turns, exchanges, hads}
 use Rattle.exact.proofs.Values.{pick-ind}
 use Rattle.exact.proofs.Linear.{apart-sym}

@@ -16,7 +16,7 @@ use Rattle.cyclotomic.proofs.Answers.{small-fits, fits-small}
 use Rattle.exact.specs.Matrix.{Exact, allEntries, allDivisible, Lowest}
 use Rattle.exact.proofs.Words.{Equal, Proper, Plain, exchanges, AllSmall, made}
 use Rattle.exact.specs.Rows.{ones, Gate, phase, exchange, had, then, column, raise, raw, act}
-use Rattle.exact.specs.Fits.{mostK, allFits, eachRaw, within, stepFits}
+use Rattle.exact.specs.Fits.{mostK, allFits, eachRaw, stepFits}
 use Rattle.exact.proofs.Flips.{moved, moved-lt}
 use Rattle.exact.proofs.Values.{pick-ind, entries-to, entries-from, divisible-to, divisible-from, sqrt2s-cancel, equal-same, lower-stays, lower-unique, same-sym}
 use Rattle.exact.proofs.Linear.{column-cong, raw-back, raw-same}

@@ -24,7 +24,7 @@ use Rattle.exact.proofs.Words.{Lacks, Proper}
 use Rattle.exact.specs.Lists.{after, product}
 use Rattle.exact.specs.Paper.{sumω}
 use Rattle.exact.specs.Unitary.{conj, inner, natω, Unitary}
-use Rattle.exact.proofs.Flips.{flip-flip, bit-own, bit-differs, flip-lt, moved, moved-back, moved-lt, moved-ones, moved-on, moved-off}
+use Rattle.exact.proofs.Flips.{bit-own, bit-differs, moved, moved-back, moved-lt, moved-ones, moved-on, moved-off}
 use Rattle.exact.proofs.Values.{sqrt2s-sqrt2, sqrt2s-comm, sqrt2s-cancel, sqrt2s-add, lower-same}
 use Rattle.exact.proofs.Acts.{power-sym}
 use Rattle.exact.proofs.Coded.{proper}

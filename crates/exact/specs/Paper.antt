@@ -22,14 +22,14 @@ abbrev pub hadamard : Single
 hadamard = record { k = 1; u = λ i j. pick (i && j) (turn 4 oneω) oneω }
 
 -- X = (0 1; 1 0)
-abbrev pub swap : Bool → Bool → Zω
-swap true true = zeroω
-swap true false = oneω
-swap false true = oneω
-swap false false = zeroω
+abbrev pub pauliXEntry : Bool → Bool → Zω
+pauliXEntry true true = zeroω
+pauliXEntry true false = oneω
+pauliXEntry false true = oneω
+pauliXEntry false false = zeroω
 
 abbrev pub pauliX : Single
-pauliX = record { k = 0; u = swap }
+pauliX = record { k = 0; u = pauliXEntry }
 
 -- Y = (0 -i; i 0), with i = omega²
 abbrev pub pauliYEntry : Bool → Bool → Zω
@@ -87,7 +87,7 @@ swapped ks j k r = pick (ones ks r && differs (bit r j) (bit r k)) (flip j (flip
 abbrev pub permutation : (ℕ → ℕ) → Exact
 permutation f = record { k = 0; e = λ r s. pick (eqb s (f r)) oneω zeroω }
 
--- the matrix of each kind: the last operand is the target, the others are controls
+-- the matrix of each kind: the last operand is the target, of Swap and Cswap the last two are the pair, and the others are controls
 abbrev pub paperGate : ℕ → Kind → ℕ → ℕ → ℕ → Exact
 paperGate n H a b c = matrixOf hadamard [] (bitOf n a)
 paperGate n X a b c = matrixOf pauliX [] (bitOf n a)

@@ -1,9 +1,8 @@
 -- What gates do to rows: multiplying by a gate on the left, said without a product of matrices, as the code does it (SPECIFICATION 3.2). The
--- kinds come to three operations, so that most laws have three cases. Assumes nothing.
+-- kinds come to three operations and to several of them one after the other, so that a law has four cases and not seventeen. Assumes nothing.
 use mathlib.Core.Bool.{Bool}
 use mathlib.Core.List.{List, [], _∷_}
-use Prim.Native.Nat.{ℕ, suc, _+_, _-_, _%_, _^_, _<_}
-use mathlib.Core.Path.{_≡_}
+use Prim.Native.Nat.{ℕ, suc, _-_, _^_}
 use lib.Bits.{bitXor}
 use Rattle.ints.specs.Bits.{bit}
 use Rattle.ints.specs.Lists.{pick, all}
@@ -21,8 +20,7 @@ abbrev pub ones : List ℕ → ℕ → Bool
 ones ks r = all (bit r) ks
 
 -- what a gate does to rows, by their bits: a turn by omega^p of the rows that have all the bits ks; an exchange of the rows that differ in
--- bit k, where all the bits ks are 1; sum and difference of each pair of rows that differ in bit k, where all the bits ks are 1, and the other
--- rows times √2; one after the other
+-- bit k, where all the bits ks are 1; H of each pair of rows that differ in bit k, where all the bits ks are 1; one gate after the other
 pub data Gate : Type 0 where
   phase : List ℕ → ℕ → Gate
   exchange : List ℕ → ℕ → Gate
@@ -30,15 +28,15 @@ pub data Gate : Type 0 where
   then : Gate → Gate → Gate
 
 -- what comes to row r of a column v: itself, turned where the bits are 1; the row that it is exchanged with; of H the sum of the two rows where
--- the bit is 0, and where it is 1 the row with 0 less the row with 1, but sqrt(2) times itself where a control is 0; of operations one after
--- the other the second's on what the first made (SPECIFICATION 3.2)
+-- the bit is 0, and where it is 1 the row with 0 less the row with 1; but where one of H's controls is 0 the row itself times sqrt(2), since the
+-- exponent is the whole matrix's; of two gates what the second makes of the first's result (SPECIFICATION 3.2)
 unfoldable pub column : Gate → (ℕ → Zω) → ℕ → Zω
 column (phase ks p) v r = pick (ones ks r) (turn p (v r)) (v r)
 column (exchange ks k) v r = v (pick (ones ks r) (flip k r) r)
 column (had ks k) v r = pick (ones ks r) (pick (bit r k) (subω (v (flip k r)) (v r)) (addω (v r) (v (flip k r)))) (sqrt2 (v r))
 column (then g h) v r = column h (column g v) r
 
--- the exponent: H adds 1, the others leave it (SPECIFICATION 3.2)
+-- the exponent: H adds 1, with controls or without, the others leave it (SPECIFICATION 3.2)
 abbrev pub raise : Gate → ℕ → ℕ
 raise (phase ks p) k = k
 raise (exchange ks j) k = k

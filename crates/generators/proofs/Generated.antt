@@ -11,7 +11,7 @@ use borrow.Author.Tests.{eqb-true, ltb-true}
 use lib.Dec.{eqb, ltb}
 use lib.ListN.{take, drop}
 use Rattle.ints.specs.Lists.{pick, range, all, distinct, Run}
-use Rattle.ints.proofs.Bools.{clash, and-left, and-right}
+use Rattle.ints.proofs.Bools.{and-left, and-right}
 use Rattle.ints.proofs.Runs.{run-to, run-each, range-in, each-in, each-mem}
 use Rattle.circuit.specs.Kinds.{kindAt, arity, sorted, isKind, ofTables}
 use Rattle.circuit.specs.Codes.{codeOf, kindNumber, kindOf, first, second, third, placed, ordered, valid, validFor}

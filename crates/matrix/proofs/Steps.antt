@@ -1,7 +1,7 @@
 -- One gate in place: what each row operation leaves is the exact step, and of all of them only H and Ch can fail to fit. Assumes nothing.
 use mathlib.Core.Path.{_≡_, refl, sym, ap, _∙_, subst}
 use mathlib.Core.Bool.{Bool, true, false, _&&_}
-use mathlib.Core.List.{List, [], _∷_}
+use mathlib.Core.List.{List}
 use Prim.Native.Nat.{ℕ, _+_, _^_, _≤_, _<_}
 use native.Mathlib.Omega.{arith}
 use lib.IntN.{ℤ}
@@ -10,8 +10,8 @@ use Rattle.cyclotomic.specs.Zomega.{Zω, Small, fits}
 use Rattle.cyclotomic.proofs.Answers.{small-fits, fits-small}
 use Rattle.circuit.specs.Pairs.{maskOf}
 use Rattle.exact.specs.Matrix.{Exact, allEntries, lower}
-use Rattle.exact.proofs.Words.{Equal, Proper, AllSmall, made}
-use Rattle.exact.specs.Rows.{Gate, phase, exchange, had, then, raw, act, turnedExchange, exchanges3}
+use Rattle.exact.proofs.Words.{Equal, Proper, AllSmall}
+use Rattle.exact.specs.Rows.{Gate, phase, exchange, had, then, raw, act}
 use Rattle.exact.specs.Fits.{mostK, stepFits}
 use Rattle.ints.proofs.Bools.{and-both}
 use Rattle.exact.proofs.Values.{equal-sym, equal-trans, equal-same, lower-unique, entries-to, entries-from}
@@ -24,7 +24,7 @@ use Rattle.places.proofs.Placed.{kept-refl, kept-trans}
 use Rattle.rows.specs.Rows.{phaseRows, exchangeRows, hRows}
 use Rattle.rows.proofs.ByMask.{phase-rows, exchange-rows, h-rows}
 use Rattle.h_rows.specs.Work.{HDone}
-use Rattle.matrix.specs.Step.{Holds, Ready, Stepped, Controlled}
+use Rattle.matrix.specs.Step.{Holds, Ready, Stepped}
 use Rattle.matrix.specs.declared.Applied.{Applied}
 use Rattle.matrix.specs.declared.Applied.the-variants.{Done, DoesNotFit}
 

@@ -11,8 +11,7 @@ use lib.ListN.{length, getD, length-reverse}
 use Rattle.ints.specs.Lists.{all}
 use Rattle.ints.proofs.Bools.{clash, and-left, and-right, and-both}
 use Rattle.cyclotomic.specs.Zomega.{limit}
-use Rattle.circuit.specs.Sets.{member}
-use Rattle.circuit.specs.Codes.{kindNumber, valid, validFor}
+use Rattle.circuit.specs.Codes.{validFor}
 use Rattle.generators.specs.Generators.{generators}
 use Rattle.generators.proofs.Generated.{lists}
 use Rattle.exact.specs.Matrix.{Exact, Lowest, PowerOf}

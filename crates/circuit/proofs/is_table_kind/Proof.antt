@@ -1,9 +1,8 @@
 -- `is_table_kind` meets its contract: the kinds of tables are those below 12. Assumes nothing.
-use mathlib.Core.Path.{sym, _∙_, ap}
+use mathlib.Core.Path.{sym, _∙_}
 use borrow.Author.Needs.{needs}
 use borrow.Author.Tests.{le-ltb, lt-ltb}
 use native.Mathlib.Omega.{arith}
-use Rattle.circuit.specs.Kinds.{kindAt, ofTables}
 use Rattle.circuit.proofs.ByNumber.{table-kind}
 use Rattle.circuit.proofs.is_table_kind.Statement.{statement}
 use Rattle.circuit.proofs.is_table_kind.Tie as tie

@@ -1,5 +1,5 @@
 -- `more_operands` meets its contract: each arm is the arity of its kind, and the kinds from 12 on that are left have none. Assumes nothing.
-use mathlib.Core.Path.{refl, sym}
+use mathlib.Core.Path.{sym}
 use Rattle.circuit.specs.Kinds.{arity, kindAt}
 use Rattle.circuit.proofs.ByNumber.{no-operands}
 use Rattle.circuit.proofs.more_operands.Statement.{statement}

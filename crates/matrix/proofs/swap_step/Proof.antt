@@ -1,6 +1,5 @@
 -- `swap_step` meets its contract: three exchanges, each with its target apart from its controls. Assumes nothing.
 use native.Mathlib.Omega.{arith}
-use borrow.Author.Needs.{needs}
 use Rattle.matrix.proofs.Several.{swap-stepped}
 use Rattle.matrix.proofs.swap_step.Statement.{statement}
 use Rattle.matrix.proofs.swap_step.Tie as tie

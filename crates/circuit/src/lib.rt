@@ -11,8 +11,7 @@ ghost use Rattle.circuit.specs.Pairs.{inverse, qubits, disjoint, maskOf}
 ghost use Rattle.circuit.specs.Charge.{kindCharge, charge};
 
 // The places of the constants below: H 0, X 1, Z 2, S 3, Sdg 4, T 5, Tdg 6, (Rz 7, not taken), Cx 8, Cz 9, Ccx 10, Ccz 11. These eleven may be in a
-// table. Lists take also Y 15, Sx 16, Swap 19, Cy 20, Ch 25, Cswap 26, which have a `match` below: every function that indexes a constant copies it
-// to the stack, so 27 places would cost each gate of a list some nanoseconds.
+// table. Lists take also Y 15, Sx 16, Swap 19, Cy 20, Ch 25, Cswap 26: of these only the number of operands is needed, which `more_operands` has.
 const KINDS: u32 = 12;
 
 // The number of operands of each kind.

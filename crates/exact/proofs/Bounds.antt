@@ -169,7 +169,8 @@ module _ (n : ℕ) where
   pub row-step : (g : ℕ) (l : List ℕ) → RowLaw n (raw (gateOf n g) (product n l))
   row-step g l = row-law n (unitary-step n g l)
 
-  -- every raw step of a list of at most G gates, each of them one row operation
+  -- every raw step of a list of at most G gates, each of them one row operation, as those of a basis are (`basis-plain`). Sx is several, and
+  -- raises the exponent twice before its last lowering: of lists with it this is not claimed
   pub steps-within : (b G : ℕ) → 2 ^ G < suc b * suc b → (g : ℕ) → Plain (gateOf n g) → (l : List ℕ) → AllPlain n l → length l < G
       → AllWithin n b (raw (gateOf n g) (product n l) .e) × (raw (gateOf n g) (product n l) .k ≤ G)
   steps-within b G s g t l a h =
@@ -192,7 +193,7 @@ module _ (n : ℕ) where
   unfolding steps
   steps-fit G s m l a h = steps-fit-from G s m l a (unitary-identity n) (omega arith)
 
-  -- 2^13 is below 127², and 2^29 below 32767²
+  -- 2^13 is below 127², and 2^29 below 32767²: of lists of a basis
   pub thirteen : (l : List ℕ) → AllPlain n l → length l ≤ 13 → steps n l ≡ allFit
   thirteen = steps-fit 13 (below-square limit 13 (omega arith)) (omega arith)
 

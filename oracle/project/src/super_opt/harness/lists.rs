@@ -14,6 +14,7 @@ use crate::super_opt::murm::{LibraryGate, library_circuit_matrix};
 pub(super) const MOST_WIDTH: u32 = 5;
 
 /// A line of standard input, `list WIDTH COUNT CODES..`.
+#[derive(Clone)]
 pub(super) struct List {
     pub(super) width: u32,
     pub(super) codes: Vec<u32>,
@@ -41,7 +42,7 @@ pub(super) fn line_answer(line: &str) -> String {
 }
 
 impl List {
-    fn parse(line: &str) -> Option<Self> {
+    pub(super) fn parse(line: &str) -> Option<Self> {
         Self::of_numbers(line.strip_prefix("list ")?)
     }
 
@@ -84,7 +85,12 @@ impl List {
         }
         let product = product(width, &gates);
         let of_library = |&code: &u32| valid_gate(code, width);
-        if let Some(gates) = self.codes.iter().map(of_library).collect::<Option<Vec<_>>>() {
+        if let Some(gates) = self
+            .codes
+            .iter()
+            .map(of_library)
+            .collect::<Option<Vec<_>>>()
+        {
             let matrix = library_circuit_matrix(width, &gates).expect("the width is small");
             assert_eq!(matrix.as_ref(), product.as_ref().ok(), "library gates");
         }

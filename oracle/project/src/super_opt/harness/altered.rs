@@ -143,6 +143,7 @@ pub(super) fn values(table: &Table, place: Place, strangers: &[u64]) -> Vec<u64>
                 4095,
                 4096,
                 old | 128,
+                old | 1 << 25,
                 old | 1 << 31,
                 old & (old - 1),
                 old ^ 32,

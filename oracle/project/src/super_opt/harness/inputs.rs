@@ -1,9 +1,10 @@
 //! Mode `inputs`: the lists that port and original are compared on, as lines
 //! for the mode `list`. `inputs all` has every group whole; `inputs sample` has
 //! some of each; both end in damaged lines. The same lines come out in every
-//! run. The sorts here are of the eleven kinds that tables have; those of the
-//! other kinds are in `further`. `inputs tables all` and `inputs tables sample` are in `table_inputs`,
-//! `inputs circuits sample` and `inputs circuits part N` in `run_inputs`.
+//! run. The groups here are of the eleven kinds that tables have; those with the
+//! six further kinds are in `further`. `inputs tables all` and `inputs tables
+//! sample` are in `table_inputs`, `inputs circuits sample` and `inputs circuits
+//! part N` in `run_inputs`.
 
 use std::io::{self, Write};
 

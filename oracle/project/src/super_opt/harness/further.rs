@@ -26,6 +26,7 @@ pub(super) fn lists() -> Vec<List> {
         short(),
         random(),
         not_valid(),
+        roots(),
         further_edges::lists(),
     ]
     .concat()
@@ -39,6 +40,7 @@ pub(super) fn sample() -> Vec<List> {
         evenly(narrow(short(), 2, 3), 40),
         evenly(narrow(random(), 3, 20), 40),
         evenly(narrow(not_valid(), 5, 8), 40),
+        narrow(roots(), 2, 60),
         some_edges(),
     ]
     .concat()
@@ -332,6 +334,23 @@ pub(super) fn invalid_codes(width: usize) -> Vec<u32> {
     }
     codes.retain(|code| !valid.contains(code));
     codes
+}
+
+/// T and Ch in turns on one pair of qubits. No sum is formed in the inactive
+/// rows, they hold sqrt(2)^k: after 24 pairs (0, 64, 0, -64), of which the next
+/// Ch would make 128. A code that is not valid is told before that.
+fn roots() -> Vec<List> {
+    let mut lists = Vec::new();
+    for width in 2..=5 {
+        for ch in list_codes_of(Kind::Ch, width) {
+            let t = Kind::T as u32 * 4096 + ch / 16 % 16 * 256;
+            let codes = [t, ch].repeat(25);
+            lists.push(list(width, codes[..48].to_vec()));
+            lists.push(list(width, codes.clone()));
+            lists.push(list(width, [&codes[..], &[28672]].concat()));
+        }
+    }
+    lists
 }
 
 /// For each part of an Sx and a Ch and each edge the first list found at the

@@ -174,6 +174,17 @@ fn sx_step(m: &mut [Coefficient; 4096], n: usize, t: usize, k: u16) -> Applied
     }
 }
 
+// The same answer, taken apart and made anew. Where a function is called and not compiled in place, as H is, its answer lies in memory in two parts;
+// handed on as it lies, it is read as one word, and so are then the answers of turns and exchanges, which makes each gate wait.
+fn made_anew(answer: Applied) -> Applied
+    ensures { λ r. ⌜ r ≡ answer ⌝ }
+{
+    match answer {
+        Applied::Done(k) => Applied::Done(k),
+        Applied::DoesNotFit => Applied::DoesNotFit,
+    }
+}
+
 // The bit of a row's number that stands for qubit q: qubit 0 is the highest (SPECIFICATION 1.6).
 fn row_bit(n: usize, q: u32) -> usize
     ensures { λ r. ⌜ r ≡ bitOf n q ⌝ }
@@ -208,7 +219,7 @@ fn kind_step(
     let bit_t = places::mask(t);
     let bit_u = places::mask(u);
     match kind {
-        0 => h_step(m, n, 0, s, k),
+        0 => made_anew(h_step(m, n, 0, s, k)),
         1 => exchange_step(m, n, 0, s, k),
         2 => phase_step(m, n, bit_s, 4, k),
         3 => phase_step(m, n, bit_s, 2, k),
@@ -266,5 +277,5 @@ pub fn apply_gate_left(m: &mut [Coefficient; 4096], n: usize, gate: LibraryGate,
     if kind < 12 {
         return kind_step(m, n, kind, a, b, c, k);
     }
-    more_kind_step(m, n, kind, a, b, c, k)
+    made_anew(more_kind_step(m, n, kind, a, b, c, k))
 }

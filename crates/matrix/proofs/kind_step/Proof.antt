@@ -1,12 +1,10 @@
 -- `kind_step` meets its contract: each arm is the gate of its kind. Assumes nothing.
-use mathlib.Core.Path.{sym}
 use mathlib.Core.List.{[], _∷_}
 use borrow.Author.Needs.{needs}
 use Rattle.circuit.specs.Kinds.{kindAt}
 use Rattle.exact.specs.Rows.{exchange, had}
 use Rattle.cyclotomic.proofs.Number.{past}
 use Rattle.matrix.proofs.Masks.{mask-none, one-bit, two-bits, three-bits, exchange-needs, controlled-at, kind-at, proper-at, last-kind}
-use Rattle.matrix.proofs.Steps.{at-answer}
 use Rattle.matrix.proofs.kind_step.Statement.{statement}
 use Rattle.matrix.proofs.kind_step.Tie as tie
 
@@ -14,7 +12,7 @@ h-step-requires : tie.Need-h-step-requires
 unfolding kindAt
 h-step-requires c κs =
     let w = exchange-needs ([]) (c .before .before .before .before .before .before .before .row-bit .ensures) mask-none (proper-at (c .before .before .before .before .before .before .before .before .args .n) (c .before .before .before .before .before .before .before .before .args .a) (c .before .before .before .before .before .before .before .before .args .b) (c .before .before .before .before .before .before .before .before .args .c) (c .before .match .keys1) (c .before .before .before .before .before .before .before .before .pre .1 .1 .0)) in
-    ((c .before .before .before .before .before .before .before .before .pre .0, w .0), (w .1, c .before .before .before .before .before .before .before .before .pre .1 .1 .1))
+    ((c .before .before .before .before .before .before .before .before .pre .0, w .0), c .before .before .before .before .before .before .before .before .pre .1 .1 .1)
 
 exchange-step-requires : tie.Need-exchange-step-requires
 unfolding kindAt
@@ -36,7 +34,7 @@ exchange-step-requires-3 c κs =
 
 returns : tie.Need-returns
 unfolding kindAt
-returns c = at-answer (sym (c .made-anew .ensures)) (kind-at (c .before .before .before .before .before .before .before .before .before .before .args .a) (c .before .before .before .before .before .before .before .before .before .before .args .b) (c .before .before .before .before .before .before .before .before .before .before .args .c) (c .before .before .before .match .keys1) (controlled-at (λ t ks. had ks t) ([]) (c .before .before .before .before .before .before .before .before .before .row-bit .ensures) mask-none (proper-at (c .before .before .before .before .before .before .before .before .before .before .args .n) (c .before .before .before .before .before .before .before .before .before .before .args .a) (c .before .before .before .before .before .before .before .before .before .before .args .b) (c .before .before .before .before .before .before .before .before .before .before .args .c) (c .before .before .before .match .keys1) (c .before .before .before .before .before .before .before .before .before .before .pre .1 .1 .0)) (c .before .h-step .ensures)))
+returns c = kind-at (c .before .before .before .before .before .before .before .before .before .args .a) (c .before .before .before .before .before .before .before .before .before .args .b) (c .before .before .before .before .before .before .before .before .before .args .c) (c .before .before .match .keys1) (controlled-at (λ t ks. had ks t) ([]) (c .before .before .before .before .before .before .before .before .row-bit .ensures) mask-none (proper-at (c .before .before .before .before .before .before .before .before .before .args .n) (c .before .before .before .before .before .before .before .before .before .args .a) (c .before .before .before .before .before .before .before .before .before .args .b) (c .before .before .before .before .before .before .before .before .before .args .c) (c .before .before .match .keys1) (c .before .before .before .before .before .before .before .before .before .pre .1 .1 .0)) (c .h-step .ensures))
 
 returns-2 : tie.Need-returns-2
 unfolding kindAt
@@ -89,7 +87,6 @@ kind-step-spec =
     (λ c κs. search needs)
     (λ c κs. search needs)
     h-step-requires
-    (λ c κs. search needs)
     exchange-step-requires
     (λ c κs. search needs)
     (λ c κs. search needs)

@@ -291,6 +291,9 @@ impl LibraryGate {
         if !operands_placed(width, count, a, b, c) {
             return false;
         }
+        if count == 1 {
+            return true; // one operand stands in no order
+        }
         in_order(sorted_count(kind), a, b, c)
     }
 

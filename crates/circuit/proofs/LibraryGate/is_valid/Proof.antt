@@ -5,8 +5,8 @@ use Prim.Native.Nat.{ℕ, _≤_, _<_}
 use borrow.Author.Needs.{needs}
 use borrow.Author.Tests.{eq-eqb, ne-eqb, not-true, not-false}
 use Rattle.circuit.specs.Kinds.{kindAt, arity, sorted, isKind}
-use Rattle.circuit.specs.Codes.{kindOf, first, second, third, placed, ordered, valid}
-use Rattle.circuit.proofs.ByNumber.{kind-placed, kind-used, arity-most}
+use Rattle.circuit.specs.Codes.{kindOf, first, second, third, placed, rises, ordered, valid}
+use Rattle.circuit.proofs.ByNumber.{kind-placed, kind-used, arity-most, one-sorted}
 use Rattle.circuit.proofs.LibraryGate.is_valid.Statement.{statement}
 use Rattle.circuit.proofs.LibraryGate.is_valid.Tie as tie
 
@@ -42,17 +42,27 @@ returns-2 : tie.Need-returns-2
 unfolding valid
 returns-2 c = rw (a-kind (c .before .before), sym (set (c .before)) ∙ not-true _ (c .if2 .taken))
 
+returns-3 : tie.Need-returns-3
+unfolding valid rises
+returns-3 c =
+    let k = kindOf (c .before .before .before .before .before .before .before .before .before .args .self .0) in
+    rw (
+      a-kind (c .before .before .before),
+      sym (set (c .before .before)) ∙ not-false _ (c .before .if2 .left),
+      one-sorted k (sym (counted (c .before .before .before .before)) ∙ c .if3 .taken),
+    )
+
 in-order-requires : tie.Need-in-order-requires
 in-order-requires c κs =
-    let k = kindOf (c .before .before .before .before .before .before .before .before .before .args .self .0) in
-    subst (λ (n : ℕ). n ≤ 3) (sym (c .sorted-count .ensures ∙ ap (λ (k : ℕ). sorted (kindAt k)) (c .before .before .before .before .before .before .before .before .kind .ensures))) (arity-most k .1)
+    let k = kindOf (c .before .before .before .before .before .before .before .before .before .before .args .self .0) in
+    subst (λ (n : ℕ). n ≤ 3) (sym (c .sorted-count .ensures ∙ ap (λ (k : ℕ). sorted (kindAt k)) (c .before .before .before .before .before .before .before .before .before .kind .ensures))) (arity-most k .1)
 
-returns-3 : tie.Need-returns-3
+returns-4 : tie.Need-returns-4
 unfolding valid
-returns-3 c =
-    rw (a-kind (c .before .before .before .before), sym (set (c .before .before .before)) ∙ not-false _ (c .before .before .if2 .left))
+returns-4 c =
+    rw (a-kind (c .before .before .before .before .before), sym (set (c .before .before .before .before)) ∙ not-false _ (c .before .before .before .if2 .left))
     (c .in-order .ensures
-    ∙ (λ i. ordered ((c .before .sorted-count .ensures ∙ ap (λ (k : ℕ). sorted (kindAt k)) (c .before .before .before .before .before .before .before .before .before .kind .ensures)) i) (c .before .before .before .before .before .before .before .before .first .ensures i) (c .before .before .before .before .before .before .before .second .ensures i) (c .before .before .before .before .before .before .third .ensures i)))
+    ∙ (λ i. ordered ((c .before .sorted-count .ensures ∙ ap (λ (k : ℕ). sorted (kindAt k)) (c .before .before .before .before .before .before .before .before .before .before .kind .ensures)) i) (c .before .before .before .before .before .before .before .before .before .first .ensures i) (c .before .before .before .before .before .before .before .before .second .ensures i) (c .before .before .before .before .before .before .before .third .ensures i)))
 
 pub is-valid-spec : {M : Type 1} → statement M
 is-valid-spec =
@@ -66,6 +76,7 @@ is-valid-spec =
     returns
     operands-placed-requires
     returns-2
+    returns-3
     (λ c κs. search needs)
     in-order-requires
-    returns-3)
+    returns-4)

@@ -134,7 +134,8 @@ fn ch_step(m: &mut [Coefficient; 4096], n: usize, control: usize, t: usize, k: u
     if !h_rows::apply_h_left(m, n, control, t) {
         return Applied::DoesNotFit;
     }
-    Applied::Done(normalize_denominator(m, n, k + 1))
+    let raised = k + 1;
+    Applied::Done(normalize_denominator(m, n, raised))
 }
 
 // Y on bit t, or Cy: Sdg on the target, the exchange where all bits of control are 1, S on the target.

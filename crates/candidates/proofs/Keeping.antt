@@ -7,9 +7,8 @@ use Prim.Native.Nat.{ℕ, zero, suc, _+_, _≤_, _<_}
 use native.Mathlib.Nat.{not-suc-le-zero, le-of-suc-le-suc, le-refl}
 use native.Mathlib.Omega.{arith}
 use lib.ListN.{length, getD}
-use Rattle.ints.proofs.Bools.{and-right}
-use Rattle.circuit.specs.Sets.{member}
-use Rattle.circuit.specs.Codes.{kindNumber, valid, validFor}
+use Rattle.circuit.specs.Codes.{valid}
+use Rattle.circuit.proofs.Coded.{code-valid}
 use Rattle.generators.specs.Generators.{generators}
 use Rattle.generators.proofs.Generated.{lists}
 use Rattle.walk.specs.Walk.{Rules, Node, State, root, listAt, child, try, tryAll, layer}
@@ -25,11 +24,9 @@ mem-at (g ∷ gs) (suc j) h = List·Memᴰ·tail (mem-at gs j (le-of-suc-le-suc 
 
 -- a generator is a valid code
 pub generator-valid : (n basis j : ℕ) {gs : List ℕ} → gs ≡ generators n basis → n ≤ 5 → j < length gs → valid n (getD gs j 0) ≡ true
-unfolding validFor
 generator-valid n basis j {gs} same small l =
-    let g : ℕ = getD gs j 0 in
-    and-right (member basis (kindNumber g)) (valid n g)
-    (lists n basis (omega arith) .sound g (subst (λ (z : List ℕ). List·Memᴰ (getD gs j 0) z) same (mem-at gs j l)))
+    code-valid n basis (getD gs j 0)
+    (lists n basis (omega arith) .sound (getD gs j 0) (subst (λ (z : List ℕ). List·Memᴰ (getD gs j 0) z) same (mem-at gs j l)))
 
 -- ---- what candidates keep, at node k and with hi nodes of earlier depths
 

@@ -5,7 +5,7 @@ use Prim.Native.Nat.{ℕ, _+_, _*_, _/_, _%_}
 use lib.Dec.{eqb, ltb}
 use lib.ListN.{take, drop}
 use Rattle.ints.specs.Lists.{all, distinct}
-use Rattle.circuit.specs.Kinds.{Kind, kindAt, arity, sorted, isKind}
+use Rattle.circuit.specs.Kinds.{Kind, kindAt, arity, sorted, isKind, ofTables}
 use Rattle.circuit.specs.Sets.{member}
 
 abbrev pub codeOf : ℕ → ℕ → ℕ → ℕ → ℕ
@@ -43,16 +43,17 @@ rises (x ∷ y ∷ l) = ltb x y && rises (y ∷ l)
 abbrev pub ordered : ℕ → ℕ → ℕ → ℕ → Bool
 ordered m a b c = rises (take m (a ∷ b ∷ c ∷ []))
 
--- valid at width n: the kind is one of the eleven, its operands are below n, pairwise different and in the order that it wants, and those that
+-- valid at width n, as lists ask: the kind is one of the seventeen, its operands are below n, pairwise different and in the order that it wants, and those that
 -- it does not have are 0 (SPECIFICATION 2.4)
 unfoldable pub valid : ℕ → ℕ → Bool
 valid n g =
     isKind (kindOf g)
     && (placed n (arity (kindOf g)) (first g) (second g) (third g) && ordered (sorted (kindOf g)) (first g) (second g) (third g))
 
--- valid for a basis at width n: valid there, and the kind is in the basis (SPECIFICATION 2.5)
+-- valid for a basis at width n, as tables ask: valid there, of a kind of tables, and this kind is in the basis (SPECIFICATION 2.5). A basis that
+-- is not refused has no bit of another kind, but this is said of any number
 unfoldable pub validFor : ℕ → ℕ → ℕ → Bool
-validFor n basis g = member basis (kindNumber g) && valid n g
+validFor n basis g = member basis (kindNumber g) && (ofTables (kindOf g) && valid n g)
 
 -- the mark: node 0 of a table has it in the place of a parent and of a code (SPECIFICATION 2.10)
 abbrev pub mark : ℕ

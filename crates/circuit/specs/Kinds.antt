@@ -1,33 +1,41 @@
--- The eleven kinds of gate and what each has: its number, its operands, the kind that undoes it (SPECIFICATION 2.1). Assumes nothing.
-use mathlib.Core.Bool.{Bool}
+-- The seventeen kinds of gate and what each has: its number, its operands, whether tables have it and which kind then undoes it (SPECIFICATION
+-- 2.1). Assumes nothing.
+use mathlib.Core.Bool.{Bool, true, false}
 use mathlib.Core.List.{List, [], _∷_}
 use Prim.Native.Nat.{ℕ}
 use lib.Dec.{ltb}
 use lib.ListN.{getD}
 
--- one of the eleven kinds, or none of them
+-- one of the seventeen kinds, or none of them; the first eleven are those of tables
 pub data Kind : Type 0 where
-  H X Z S Sdg T Tdg Cx Cz Ccx Ccz Other : Kind
+  H X Z S Sdg T Tdg Cx Cz Ccx Ccz Y Sx Swap Cy Ch Cswap Other : Kind
 
--- the kinds in the order of their numbers, which are those of GateKind::ALL; 7 is Rz there
+-- the kinds in the order of their numbers, which are those of GateKind::ALL; `Other` stands where it has a kind that no list takes, as Rz at 7
 abbrev pub kinds : List Kind
-kinds = H ∷ X ∷ Z ∷ S ∷ Sdg ∷ T ∷ Tdg ∷ Other ∷ Cx ∷ Cz ∷ Ccx ∷ Ccz ∷ []
+kinds =
+    H ∷ X ∷ Z ∷ S ∷ Sdg ∷ T ∷ Tdg ∷ Other ∷ Cx ∷ Cz ∷ Ccx ∷ Ccz ∷ Other ∷ Other ∷ Other ∷ Y ∷ Sx ∷ Other ∷ Other ∷ Swap ∷ Cy ∷ Other ∷ Other
+    ∷ Other ∷ Other ∷ Ch ∷ Cswap ∷ []
 
 unfoldable pub kindAt : ℕ → Kind
 kindAt i = getD kinds i Other
 
 -- What a kind has: its number; how many operands; how many of its first operands stand in rising order (both of Cz, the controls of Ccx, all three
--- of Ccz); and the kind that undoes it
+-- of Ccz); whether a table may have it; and the kind that undoes it in a table
 pub record About : Type 0 where
   pub number : ℕ
   pub arity : ℕ
   pub sorted : ℕ
+  pub inTables : Bool
   pub dual : Kind
 
 abbrev pub has : ℕ → ℕ → ℕ → Kind → About
-has number arity sorted dual = record { number = number; arity = arity; sorted = sorted; dual = dual }
+has number arity sorted dual = record { number = number; arity = arity; sorted = sorted; inTables = true; dual = dual }
 
--- what is none of the eleven has the number of Rz and no operand
+-- a kind that lists take and no table has; its operands stand in any order, and no kind of tables undoes it
+abbrev pub listed : ℕ → ℕ → About
+listed number arity = record { number = number; arity = arity; sorted = 0; inTables = false; dual = Other }
+
+-- what is none of the seventeen has the number of Rz and no operand
 abbrev pub about : Kind → About
 about H = has 0 1 0 H
 about X = has 1 1 0 X
@@ -40,7 +48,13 @@ about Cx = has 8 2 0 Cx
 about Cz = has 9 2 2 Cz
 about Ccx = has 10 3 2 Ccx
 about Ccz = has 11 3 3 Ccz
-about Other = has 7 0 0 Other
+about Y = listed 15 1
+about Sx = listed 16 1
+about Swap = listed 19 2
+about Cy = listed 20 2
+about Ch = listed 25 2
+about Cswap = listed 26 3
+about Other = listed 7 0
 
 unfoldable pub number : Kind → ℕ
 number k = about k .number
@@ -54,6 +68,10 @@ sorted k = about k .sorted
 unfoldable pub dual : Kind → Kind
 dual k = about k .dual
 
--- a kind of the eleven: each of them has an operand
+-- a kind of the seventeen: each of them has an operand
 unfoldable pub isKind : Kind → Bool
 isKind k = ltb 0 (about k .arity)
+
+-- a kind of the eleven that tables have (SPECIFICATION 2.2)
+unfoldable pub ofTables : Kind → Bool
+ofTables k = about k .inTables

@@ -6,12 +6,12 @@ use lib.Bits.{bitOr}
 use lib.Dec.{eqb}
 use lib.ListN.{take}
 use Rattle.ints.specs.Lists.{all, elem}
-use Rattle.circuit.specs.Kinds.{number, arity, isKind, dual}
+use Rattle.circuit.specs.Kinds.{number, arity, ofTables, dual}
 use Rattle.circuit.specs.Codes.{kindNumber, kindOf, first, second, third}
 
--- g inverts h: its kind is the one that undoes h's kind, on the same operands
+-- g inverts h: h is of a kind of tables, g's kind is the one that undoes it, and their operands are the same. Only tables ask this
 unfoldable pub inverse : ℕ → ℕ → Bool
-inverse g h = isKind (kindOf h) && (eqb (kindNumber g) (number (dual (kindOf h))) && eqb (g % 4096) (h % 4096))
+inverse g h = ofTables (kindOf h) && (eqb (kindNumber g) (number (dual (kindOf h))) && eqb (g % 4096) (h % 4096))
 
 -- the qubits that a gate acts on: its used operands
 unfoldable pub qubits : ℕ → List ℕ

@@ -4,7 +4,7 @@ use Prim.Native.Nat.{ℕ}
 use Rattle.ints.specs.Bits.{bit}
 use Rattle.ints.specs.Lists.{range, all}
 
--- the set of the eleven kinds, and the original's default basis: H to Tdg and Cx (SPECIFICATION 2.2)
+-- the set of the eleven kinds of tables, and the original's default basis: H to Tdg and Cx (SPECIFICATION 2.2)
 abbrev pub supported : ℕ
 supported = 3967
 

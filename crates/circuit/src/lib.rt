@@ -4,16 +4,17 @@
 ghost use mathlib.Core.Path.{_≡_};
 ghost use Prim.Native.Nat.{_^_, _<_, _≤_};
 ghost use lib.Dec.{eqb};
-ghost use Rattle.circuit.specs.Kinds.{kindAt, number, arity, sorted, isKind, dual};
+ghost use Rattle.circuit.specs.Kinds.{kindAt, number, arity, sorted, isKind, ofTables, dual};
 ghost use Rattle.circuit.specs.Sets.{supported, base, member, subset};
 ghost use Rattle.circuit.specs.Codes.{kindNumber, first, second, third, placed, ordered, valid, validFor};
 ghost use Rattle.circuit.specs.Pairs.{inverse, qubits, disjoint, maskOf};
 ghost use Rattle.circuit.specs.Charge.{kindCharge, charge};
 
-// How many kinds the tables below have: H 0, X 1, Z 2, S 3, Sdg 4, T 5, Tdg 6, (Rz 7, not taken), Cx 8, Cz 9, Ccx 10, Ccz 11.
+// The places of the constants below: H 0, X 1, Z 2, S 3, Sdg 4, T 5, Tdg 6, (Rz 7, not taken), Cx 8, Cz 9, Ccx 10, Ccz 11. These eleven may be in a
+// table. Lists take also Y 15, Sx 16, Swap 19, Cy 20, Ch 25, Cswap 26: of these only the number of operands is needed, which `more_operands` has.
 const KINDS: u32 = 12;
 
-// The number of operands of each kind, 0 for what is none of the eleven.
+// The number of operands of each kind.
 const ARITY: [u32; 12] = [1, 1, 1, 1, 1, 1, 1, 0, 2, 2, 3, 3];
 
 // How many of the first operands of each kind are in rising order.
@@ -25,12 +26,28 @@ const DUAL: [u32; 12] = [0, 1, 2, 4, 3, 6, 5, 7, 8, 9, 10, 11];
 // The T charge of each kind.
 const CHARGE: [usize; 12] = [0, 0, 0, 0, 0, 1, 1, 0, 0, 0, 0, 0];
 
-// How many operands a kind has; 0 for what is none of the eleven.
+// How many operands a kind from 12 on has; 0 for what is no kind.
+fn more_operands(kind: u32) -> u32
+    requires { ⌜ 12 ≤ kind ⌝ }
+    ensures { λ r. ⌜ r ≡ arity (kindAt kind) ⌝ }
+{
+    match kind {
+        15 => 1,
+        16 => 1,
+        19 => 2,
+        20 => 2,
+        25 => 2,
+        26 => 3,
+        _ => 0,
+    }
+}
+
+// How many operands a kind has; 0 for what is no kind.
 fn operand_count(kind: u32) -> u32
     ensures { λ r. ⌜ r ≡ arity (kindAt kind) ⌝ }
 {
     if kind >= KINDS {
-        return 0;
+        return more_operands(kind);
     }
     ARITY[kind as usize]
 }
@@ -51,7 +68,17 @@ fn is_kind(kind: u32) -> bool
     operand_count(kind) != 0
 }
 
-// The kind that undoes a kind; 7 for what is none of the eleven.
+// Whether a table may have the kind.
+fn is_table_kind(kind: u32) -> bool
+    ensures { λ r. ⌜ r ≡ ofTables (kindAt kind) ⌝ }
+{
+    if kind >= KINDS {
+        return false;
+    }
+    is_kind(kind)
+}
+
+// The kind that undoes a kind of tables; 7 for the others.
 fn dual_kind(kind: u32) -> u32
     ensures { λ r. ⌜ r ≡ number (dual (kindAt kind)) ⌝ }
 {
@@ -173,7 +200,7 @@ impl GateSet {
     // The original's default basis: H, X, Z, S, Sdg, T, Tdg, Cx (SPECIFICATION 2.2).
     pub const BASE: GateSet = GateSet(383);
 
-    // That basis with Cz, Ccx, Ccz: all eleven kinds.
+    // That basis with Cz, Ccx, Ccz: all kinds of tables.
     pub const SUPPORTED: GateSet = GateSet(3967);
 
     pub fn bits(self) -> u32
@@ -257,31 +284,39 @@ impl LibraryGate {
         let a = self.first();
         let b = self.second();
         let c = self.third();
-        if !is_kind(kind) {
+        let count = operand_count(kind);
+        if count == 0 {
             return false;
         }
-        if !operands_placed(width, operand_count(kind), a, b, c) {
+        if !operands_placed(width, count, a, b, c) {
             return false;
+        }
+        if count == 1 {
+            return true; // one operand stands in no order
         }
         in_order(sorted_count(kind), a, b, c)
     }
 
-    // Whether the code is valid at a width and of a kind in the basis.
+    // Whether the code is valid at a width, of a kind of tables, and this kind is in the basis.
     pub fn is_valid_for(self, width: u32, basis: GateSet) -> bool
         ensures { λ r. ⌜ r ≡ validFor width (basis .0) (self .0) ⌝ }
     {
-        if !basis.contains(self.kind()) {
+        let kind = self.kind();
+        if !basis.contains(kind) {
+            return false;
+        }
+        if !is_table_kind(kind) {
             return false;
         }
         self.is_valid(width)
     }
 
-    // Whether this gate undoes the other.
+    // Whether this gate undoes the other, one of a kind of tables.
     pub fn is_inverse_of(self, other: LibraryGate) -> bool
         ensures { λ r. ⌜ r ≡ inverse (self .0) (other .0) ⌝ }
     {
         let kind = other.kind();
-        if !is_kind(kind) {
+        if !is_table_kind(kind) {
             return false;
         }
         if self.kind() != dual_kind(kind) {

@@ -13,8 +13,7 @@ use lib.Seq.{take-at, getD-take, getD-drop}
 use Rattle.ints.specs.Lists.{pick, all, range, each}
 use Rattle.ints.proofs.Bools.{both-true}
 use Rattle.circuit.specs.Charge.{charge}
-use Rattle.circuit.specs.Codes.{kindNumber, valid, validFor}
-use Rattle.circuit.specs.Sets.{member}
+use Rattle.circuit.specs.Codes.{validFor}
 use Rattle.circuit.proofs.Charges.{charge-most}
 use Rattle.exact.specs.Matrix.{PowerOf}
 use Rattle.exact.specs.Paper.{paperProduct}
@@ -24,7 +23,7 @@ use Rattle.exact.specs.Answers.{Answer, given, bySteps, listAnswer}
 use Rattle.exact.specs.Answers as e
 use Rattle.exact.proofs.Acts.{power-of, power-sym, power-trans}
 use Rattle.exact.proofs.Papers.{paper-value}
-use Rattle.exact.proofs.Coded.{valid-below}
+use Rattle.exact.proofs.Coded.{basis-below}
 use Rattle.exact.specs.Places.{held}
 use Rattle.walk.specs.Walk.{gate}
 use Rattle.walk.specs.AtWidth.{atWidth, ListOf, parentOf}
@@ -74,8 +73,7 @@ unfolding InWord all validFor
 codes-small w basis [] h = refl
 codes-small w basis (g ∷ gs) h =
     let p = both-true (validFor w basis g) (all (validFor w basis) gs) h in
-    let v = both-true (member basis (kindNumber g)) (valid w g) (p .0) .1 in
-    (omega (arith, valid-below w g v), codes-small w basis gs (p .1))
+    (omega (arith, basis-below w basis g (p .0)), codes-small w basis gs (p .1))
 
 spaced-codes : (n : ℕ) (m : List ℕ) → n ≤ 4294967295 → InWord m → AllowedLine (n ∷ m) (decimal n ++ spacedCodes m)
 unfolding InWord spacedCodes each

@@ -1,18 +1,19 @@
 -- The sizes of two coefficients add up past the limit exactly where their sum or their difference does. Assumes nothing.
 use mathlib.Core.Path.{_≡_, refl, ap}
-use mathlib.Core.Bool.{true, false}
+use mathlib.Core.Bool.{true, false, not, _&&_}
 use mathlib.Core.Logic.{_↔_}
 use Prim.Native.Nat.{ℕ, suc, _+_, _^_, _≤_}
 use native.Mathlib.Omega.{arith}
-use borrow.Author.Tests.{ltb-true}
+use borrow.Author.Tests.{ltb-true, ltb-false, le-ltb, not-true}
 use lib.IntN.{ℤ, pos, negsuc, natAbs, negℤ, _+ℤ_, _-ℤ_}
 use lib.Signed.{ltZ}
 use mir.Syntax.{Width}
 use mir.Val.{SFits, hbits}
-use Rattle.ints.proofs.Bools.{clash}
+use Rattle.ints.proofs.Bools.{clash, iff, and-both, both-true}
 use Rattle.ints.proofs.Int.{up, dn, Is, add-is, neg-is}
 use Rattle.ints.proofs.Machine.{range, abs-is, abs-neg}
-use Rattle.cyclotomic.specs.Zomega.{Zω, limit, addω, subω, Small}
+use Rattle.cyclotomic.specs.Zomega.{Zω, limit, addω, subω, sqrt2, fits, Small, sizesPass}
+use Rattle.cyclotomic.proofs.Answers.{fits-small, small-fits}
 
 -- ---- the size of one number
 
@@ -94,3 +95,37 @@ both-sizes x y s t = record {
   c-sizes = sums-fit-exactly (x .c) (y .c) .1 (s .c-small, t .c-small);
   d-sizes = sums-fit-exactly (x .d) (y .d) .1 (s .d-small, t .d-small);
 }
+
+-- ---- √2 times an element
+
+abs-turned : (x y : ℤ) → natAbs (y -ℤ x) ≡ natAbs (x -ℤ y)
+abs-turned x y = by (y -ℤ x) (x -ℤ y) (negℤ x) (negℤ y) (add-is y (negℤ x)) (add-is x (negℤ y)) (neg-is x) (neg-is y)
+  where
+    by : (p q m n : ℤ) → Is p (up y + up m) (dn y + dn m) → Is q (up x + up n) (dn x + dn n) → Is m (dn x) (up x) → Is n (dn y) (up y) → natAbs p ≡ natAbs q
+    by (pos a) (pos b) m n ip iq im ik = omega arith
+    by (pos a) (negsuc b) m n ip iq im ik = omega arith
+    by (negsuc a) (pos b) m n ip iq im ik = omega arith
+    by (negsuc a) (negsuc b) m n ip iq im ik = omega arith
+
+-- the product fits exactly where the sizes of a and c, and of b and d, add up within the limit
+pub root-tests : (x : Zω) → fits (sqrt2 x) ≡ (not (sizesPass (x .a) (x .c)) && not (sizesPass (x .b) (x .d)))
+unfolding sqrt2
+root-tests x = iff _ _ (λ h. to (fits-small (sqrt2 x) h)) (λ h. small-fits (sqrt2 x) (from (both-true (not (sizesPass (x .a) (x .c))) (not (sizesPass (x .b) (x .d))) h)))
+  where
+    passes : (u v : ℤ) → natAbs u + natAbs v ≤ limit → not (sizesPass u v) ≡ true
+    passes u v h = rw (le-ltb limit (natAbs u + natAbs v) h)
+
+    sizes : (u v : ℤ) → not (sizesPass u v) ≡ true → natAbs u + natAbs v ≤ limit
+    sizes u v h = ltb-false limit (natAbs u + natAbs v) (not-true (sizesPass u v) h)
+
+    to : Small (sqrt2 x) → (not (sizesPass (x .a) (x .c)) && not (sizesPass (x .b) (x .d))) ≡ true
+    to s =
+        and-both (not (sizesPass (x .a) (x .c))) (not (sizesPass (x .b) (x .d)))
+        (passes (x .a) (x .c) (sizes-of limit (x .a) (x .c) (s .b-small) (omega (arith, s .d-small, abs-turned (x .a) (x .c)))))
+        (passes (x .b) (x .d) (sizes-of limit (x .b) (x .d) (s .c-small) (s .a-small)))
+
+    from : (not (sizesPass (x .a) (x .c)) ≡ true) × (not (sizesPass (x .b) (x .d)) ≡ true) → Small (sqrt2 x)
+    from h =
+        let p = sums-fit-exactly (x .a) (x .c) .0 (sizes (x .a) (x .c) (h .0)) in
+        let q = sums-fit-exactly (x .b) (x .d) .0 (sizes (x .b) (x .d) (h .1)) in
+        record { a-small = q .1; b-small = p .0; c-small = q .0; d-small = omega (arith, p .1, abs-turned (x .a) (x .c)) }

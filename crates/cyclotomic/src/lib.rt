@@ -5,7 +5,7 @@ ghost use mathlib.Core.Path.{_≡_};
 ghost use Prim.Native.Nat.{_+_, _≤_};
 ghost use lib.IntN.{pos, natAbs, negℤ, _+ℤ_, _-ℤ_};
 ghost use lib.Signed.{ltZ};
-ghost use Rattle.cyclotomic.specs.Zomega.{limit, mk, zeroω, oneω, addω, subω, turn, sameParity, half, divisible, overSqrt2, eqZ, eqω, isZero, less, within, Small, sizesPass};
+ghost use Rattle.cyclotomic.specs.Zomega.{limit, mk, zeroω, oneω, addω, subω, turn, sameParity, half, sqrt2, divisible, overSqrt2, eqZ, eqω, isZero, less, within, fits, Small, sizesPass};
 ghost use Rattle.cyclotomic.specs.Told.{told, checked};
 
 // A coefficient's type, and the type in which sums are formed.
@@ -313,6 +313,29 @@ impl Cyclotomic {
             b: halved(plus(self.a, self.c)),
             c: halved(plus(self.b, self.d)),
             d: halved(minus(self.c, self.a)),
+        }
+    }
+
+    // Whether sqrt(2) times this is within the limit: its coefficients are b - d, a + c, b + d and c - a.
+    pub fn sqrt_2_fits(self) -> bool
+        ensures { λ r. ⌜ r ≡ fits (sqrt2 self) ⌝ }
+    {
+        if sizes_pass(self.a, self.c) {
+            return false;
+        }
+        !sizes_pass(self.b, self.d)
+    }
+
+    // sqrt(2) times this, where it is within the limit.
+    pub fn times_sqrt_2(self) -> Cyclotomic
+        requires { ⌜ Small (sqrt2 self) ⌝ }
+        ensures { λ r. ⌜ r ≡ sqrt2 self ⌝ }
+    {
+        Cyclotomic {
+            a: narrow_coefficient(minus(self.b, self.d)),
+            b: narrow_coefficient(plus(self.a, self.c)),
+            c: narrow_coefficient(plus(self.b, self.d)),
+            d: narrow_coefficient(minus(self.c, self.a)),
         }
     }
 

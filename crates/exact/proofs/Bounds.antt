@@ -1,7 +1,7 @@
 -- What unitarity bounds: the squares of the coefficients of each row sum to 2^k, so that lists of few gates fit at every step, and an exponent
 -- past 65535 is never met (SPECIFICATION 3.4). Assumes nothing.
-use mathlib.Core.Path.{_≡_, refl, sym, ap, _∙_}
-use mathlib.Core.Bool.{Bool, true, false}
+use mathlib.Core.Path.{_≡_, refl, sym, ap, _∙_, subst}
+use mathlib.Core.Bool.{Bool, true, false, _&&_}
 use mathlib.Core.List.{List, [], _∷_}
 use Prim.Native.Nat.{ℕ, zero, suc, _+_, _*_, _^_, _≤_, _<_}
 use native.Mathlib.Omega.{arith}
@@ -11,20 +11,21 @@ use lib.ListN.{length}
 use lib.Pow.{pow-pos, pow-mono}
 use borrow.Author.Tests.{le-leb}
 use Rattle.ints.specs.Lists.{pick}
+use Rattle.ints.proofs.Bools.{both-true}
 use Rattle.ints.proofs.Int.{up}
-use Rattle.cyclotomic.specs.Zomega.{Zω, limit, mulω, overSqrt2, squares, fits, WithinBound}
+use Rattle.cyclotomic.specs.Zomega.{Zω, limit, mulω, overSqrt2, squares, Small, WithinBound}
 use Rattle.cyclotomic.proofs.Squares.{small-of-squares, small-over}
-use Rattle.exact.specs.Matrix.{Exact, allEntries, allDivisible, lowered, lower, identity}
-use Rattle.exact.specs.Rows.{Gate, raw, act, gateOf}
+use Rattle.exact.specs.Matrix.{Exact, allDivisible, lowered, lower, identity}
+use Rattle.exact.specs.Rows.{Gate, phase, exchange, had, then, raw, act, gateOf}
 use Rattle.exact.specs.Lists.{after, product}
-use Rattle.exact.specs.Fits.{mostK, stepFits, Steps, allFit, unfitAt, next, stepsFrom, steps}
-use Rattle.exact.proofs.Words.{AllWithin, AllSmall, total, RowLaw}
+use Rattle.exact.specs.Fits.{mostK, allFits, within, stepFits, Steps, allFit, unfitAt, next, stepsFrom, steps}
+use Rattle.exact.proofs.Words.{AllWithin, AllSmall, total, RowLaw, Proper, Plain}
 use Rattle.exact.specs.Unitary.{conj, inner, Unitary}
 use Rattle.exact.proofs.Linear.{raise-most}
 use Rattle.exact.proofs.Values.{pick-ind}
-use Rattle.exact.proofs.Coded.{proper}
+use Rattle.exact.proofs.Coded.{proper, AllPlain}
 use Rattle.exact.proofs.Listed.{act-k, raw-k}
-use Rattle.exact.proofs.Keeps.{step-fits, fits-step}
+use Rattle.exact.proofs.Keeps.{step-fits, fits-step, plain-each, plain-fits, act-then}
 use Rattle.exact.proofs.Conj.{own-first, sum-first}
 use Rattle.exact.proofs.Unitaries.{unitary-identity, unitary-raw, unitary-act, unitary-product, unitary-step}
 
@@ -103,15 +104,6 @@ module _ (n : ℕ) where
       let k = exponent-below limit 40 u w (omega arith) in
       omega arith
 
-  -- and so the exponent never decides whether a step fits
-  pub coefficients-decide : n ≤ 5 → {x : Exact} → Unitary n x → AllSmall n (x .e) → (g : Gate)
-      → stepFits n g x ≡ allEntries n (λ r c. fits (raw g x .e r c))
-  unfolding stepFits
-  coefficients-decide h {x} u w g =
-      let k = k-never h u w in
-      let r = raise-most g (x .k) in
-      rw (le-leb (raw g x .k) mostK (omega arith))
-
   -- ---- lowering keeps coefficients within the limit
   lowered-small : (k : ℕ) (e : ℕ → ℕ → Zω) → AllSmall n e → AllSmall n (lowered n k e .e)
   lowered-small zero e w = w
@@ -123,12 +115,42 @@ module _ (n : ℕ) where
   unfolding lower
   lower-small x w = lowered-small (x .k) (x .e) w
 
+  -- a step that fits leaves coefficients within the limit
+  pub fits-act : (g : Gate) (x : Exact) → Proper n g → stepFits n g x ≡ true → AllSmall n (act n g x .e)
+  unfolding stepFits
+  fits-act (phase ks p) x pr h = lower-small _ (fits-step n (phase ks p) tt x h)
+  fits-act (exchange ks k) x pr h = lower-small _ (fits-step n (exchange ks k) tt x h)
+  fits-act (had ks k) x pr h = lower-small _ (fits-step n (had ks k) tt x h)
+  fits-act (then f g) x pr h =
+      let w = fits-act g (act n f x) (pr .1) (both-true (stepFits n f x) (stepFits n g (act n f x)) h .1) in
+      record { small = λ r c p q. subst Small (act-then n f g x (pr .1) .entries r c p q) (w .small r c p q) }
+
+  -- and so the exponent never decides whether a step fits
+  plain-decide : n ≤ 5 → {x : Exact} → Unitary n x → AllSmall n (x .e) → (g : Gate) → Plain g → stepFits n g x ≡ within n g x
+  plain-decide h {x} u w g t =
+      let k = k-never h u w in
+      let r = raise-most g t (x .k) in
+      plain-fits n g t x ∙ rw (le-leb (raw g x .k) mostK (omega arith)) (sym (plain-each n (allFits n) g t x))
+
+  pub coefficients-decide : n ≤ 5 → {x : Exact} → Unitary n x → AllSmall n (x .e) → (g : Gate) → Proper n g → stepFits n g x ≡ within n g x
+  unfolding stepFits
+  coefficients-decide h u w (phase ks p) pr = plain-decide h u w (phase ks p) tt
+  coefficients-decide h u w (exchange ks k) pr = plain-decide h u w (exchange ks k) tt
+  coefficients-decide h u w (had ks k) pr = plain-decide h u w (had ks k) tt
+  coefficients-decide h {x} u w (then f g) pr =
+      by (stepFits n f x) refl (coefficients-decide h u w f (pr .0)) (λ e. coefficients-decide h (unitary-act n f (pr .0) u) (fits-act f x (pr .0) e) g (pr .1))
+    where
+      by : (b : Bool) → stepFits n f x ≡ b → stepFits n f x ≡ within n f x → (stepFits n f x ≡ true → stepFits n g (act n f x) ≡ within n g (act n f x))
+          → (stepFits n f x && stepFits n g (act n f x)) ≡ (within n f x && within n g (act n f x))
+      by true e q v = λ i. q i && v e i
+      by false e q v = ap (λ (b : Bool). b && stepFits n g (act n f x)) e ∙ sym (ap (λ (b : Bool). b && within n g (act n f x)) (sym q ∙ e))
+
   -- ---- lists that fit at every step
   after-small : (l : List ℕ) (x : Exact) → AllSmall n (x .e) → stepsFrom n x l ≡ allFit → AllSmall n (after n x l .e)
   after-small [] x w h = w
   after-small (g ∷ l) x w h =
       let t = both-fit (stepFits n (gateOf n g) x) (stepsFrom n (act n (gateOf n g) x) l) h in
-      after-small l (act n (gateOf n g) x) (lower-small (raw (gateOf n g) x) (fits-step n (gateOf n g) x (t .0))) (t .1)
+      after-small l (act n (gateOf n g) x) (fits-act (gateOf n g) x (proper n g) (t .0)) (t .1)
 
   pub product-small : (l : List ℕ) → steps n l ≡ allFit → AllSmall n (product n l .e)
   unfolding steps product
@@ -147,40 +169,38 @@ module _ (n : ℕ) where
   pub row-step : (g : ℕ) (l : List ℕ) → RowLaw n (raw (gateOf n g) (product n l))
   row-step g l = row-law n (unitary-step n g l)
 
-  -- every raw step of a list of at most G gates
-  pub steps-within : (b G : ℕ) → 2 ^ G < suc b * suc b → (g : ℕ) (l : List ℕ) → length l < G
+  -- every raw step of a list of at most G gates, each of them one row operation, as those of a basis are (`basis-plain`). Sx is several, and
+  -- raises the exponent twice before its last lowering: of lists with it this is not claimed
+  pub steps-within : (b G : ℕ) → 2 ^ G < suc b * suc b → (g : ℕ) → Plain (gateOf n g) → (l : List ℕ) → AllPlain n l → length l < G
       → AllWithin n b (raw (gateOf n g) (product n l) .e) × (raw (gateOf n g) (product n l) .k ≤ G)
-  steps-within b G s g l h =
-      let k : raw (gateOf n g) (product n l) .k ≤ G = le-trans (raw-k n (gateOf n g) l) h in
+  steps-within b G s g t l a h =
+      let k : raw (gateOf n g) (product n l) .k ≤ G = le-trans (raw-k n (gateOf n g) t l a) h in
       (all-within n b (unitary-step n g l) (lt-of-le-of-lt (pow-mono k) s), k)
 
-  steps-fit-from : (G : ℕ) → 2 ^ G < suc limit * suc limit → G ≤ mostK → (l : List ℕ) {x : Exact}
+  steps-fit-from : (G : ℕ) → 2 ^ G < suc limit * suc limit → G ≤ mostK → (l : List ℕ) → AllPlain n l → {x : Exact}
       → Unitary n x → x .k + length l ≤ G → stepsFrom n x l ≡ allFit
-  steps-fit-from G s m [] u h = refl
-  steps-fit-from G s m (g ∷ l) {x} u h =
-      let r = raise-most (gateOf n g) (x .k) in
-      let a = act-k n (gateOf n g) x in
+  steps-fit-from G s m [] a u h = refl
+  steps-fit-from G s m (g ∷ l) a {x} u h =
+      let r = raise-most (gateOf n g) (a .0) (x .k) in
+      let q = act-k n (gateOf n g) (a .0) x in
       let k : raw (gateOf n g) x .k ≤ G = omega arith in
       let w = all-within n limit (unitary-raw n (gateOf n g) (proper n g) u) (lt-of-le-of-lt (pow-mono k) s) in
-      rw (step-fits n (gateOf n g) x w (le-trans k m))
-      (ap next (steps-fit-from G s m l (unitary-act n (gateOf n g) (proper n g) u) (omega arith)))
+      rw (step-fits n (gateOf n g) (a .0) x w (le-trans k m))
+      (ap next (steps-fit-from G s m l (a .1) (unitary-act n (gateOf n g) (proper n g) u) (omega arith)))
 
-  -- every list of at most G codes fits at every step
-  pub steps-fit : (G : ℕ) → 2 ^ G < suc limit * suc limit → G ≤ mostK → (l : List ℕ) → length l ≤ G → steps n l ≡ allFit
+  -- every list of at most G such codes fits at every step
+  pub steps-fit : (G : ℕ) → 2 ^ G < suc limit * suc limit → G ≤ mostK → (l : List ℕ) → AllPlain n l → length l ≤ G → steps n l ≡ allFit
   unfolding steps
-  steps-fit G s m l h = steps-fit-from G s m l (unitary-identity n) (omega arith)
+  steps-fit G s m l a h = steps-fit-from G s m l a (unitary-identity n) (omega arith)
 
-  -- 2^13 is below 127², and 2^29 below 32767²
-  pub thirteen : (l : List ℕ) → length l ≤ 13 → steps n l ≡ allFit
+  -- 2^13 is below 127², and 2^29 below 32767²: of lists of a basis
+  pub thirteen : (l : List ℕ) → AllPlain n l → length l ≤ 13 → steps n l ≡ allFit
   thirteen = steps-fit 13 (below-square limit 13 (omega arith)) (omega arith)
 
-  pub twenty-nine : (g : ℕ) (l : List ℕ) → length l < 29
+  pub twenty-nine : (g : ℕ) → Plain (gateOf n g) → (l : List ℕ) → AllPlain n l → length l < 29
       → AllWithin n 32767 (raw (gateOf n g) (product n l) .e) × (raw (gateOf n g) (product n l) .k ≤ 29)
   twenty-nine = steps-within 32767 29 (below-square 32767 29 (omega arith))
 
-  -- after steps that fit, from the identity on, the exponent of the next raw result is not past 65535 (SPECIFICATION 3.4)
-  pub k-never-met : n ≤ 5 → (l : List ℕ) → steps n l ≡ allFit → (g : ℕ) → raw (gateOf n g) (product n l) .k ≤ mostK
-  k-never-met h l e g =
-      let k = k-never n h (unitary-product n l) (product-small n l e) in
-      let r = raise-most (gateOf n g) (product n l .k) in
-      omega arith
+  -- after steps that fit, from the identity on, the exponent never decides: a step that fits by its coefficients fits (SPECIFICATION 3.4)
+  pub k-never-met : n ≤ 5 → (l : List ℕ) → steps n l ≡ allFit → (g : ℕ) → stepFits n (gateOf n g) (product n l) ≡ within n (gateOf n g) (product n l)
+  k-never-met h l e g = coefficients-decide n h (unitary-product n l) (product-small n l e) (gateOf n g) (proper n g)

@@ -97,3 +97,12 @@ module _ (ks : List ℕ) (k : ℕ) where
 
   pub moved-lt : (n : ℕ) → k < n → (r : ℕ) → r < 2 ^ n → moved r < 2 ^ n
   moved-lt n h r p = pick-ind (λ (s : ℕ). s < 2 ^ n) (ones ks r) (λ e. flip-lt n k r h p) (λ e. p)
+
+  pub moved-ones : Lacks k ks → (r : ℕ) → ones ks (moved r) ≡ ones ks r
+  moved-ones w r = pick-ind (λ (s : ℕ). ones ks s ≡ ones ks r) (ones ks r) (λ e. ones-other k ks r w) (λ e. refl)
+
+  pub moved-on : (r : ℕ) → ones ks r ≡ true → moved r ≡ flip k r
+  moved-on r e = rw e
+
+  pub moved-off : (r : ℕ) → ones ks r ≡ false → moved r ≡ r
+  moved-off r e = rw e

@@ -8,13 +8,13 @@ use native.Mathlib.Omega.{arith}
 use lib.ListN.{length}
 use Rattle.circuit.specs.Pairs.{inverse, disjoint}
 use Rattle.exact.specs.Matrix.{Exact, Lowest, identity, PowerOf}
-use Rattle.exact.proofs.Words.{Equal}
+use Rattle.exact.proofs.Words.{Equal, Plain}
 use Rattle.exact.specs.Rows.{Gate, raw, act, gateOf}
 use Rattle.exact.specs.Lists.{after, product}
 use Rattle.exact.proofs.Linear.{raise-most}
 use Rattle.exact.proofs.Values.{equal-sym, equal-same, lower-k}
 use Rattle.exact.proofs.Acts.{act-lowest, act-equal, act-swap, act-back-lowest, act-power}
-use Rattle.exact.proofs.Coded.{proper, inverse-undoes, disjoint-apart}
+use Rattle.exact.proofs.Coded.{proper, inverse-undoes, disjoint-apart, AllPlain}
 
 module _ (n : ℕ) where
   -- ---- a list in parts
@@ -63,17 +63,17 @@ module _ (n : ℕ) where
       rw (product-append l (g ∷ h ∷ m), product-append l m)
       (after-equal m (act-back-lowest n (proper n h) (inverse-undoes n h g e) (product-lowest l)))
 
-  -- ---- the exponent
-  pub act-k : (g : Gate) (x : Exact) → act n g x .k ≤ suc (x .k)
-  act-k g x = omega (arith, lower-k n (raw g x), raise-most g (x .k))
+  -- ---- the exponent, of lists whose codes are each one row operation
+  pub act-k : (g : Gate) → Plain g → (x : Exact) → act n g x .k ≤ suc (x .k)
+  act-k g t x = omega (arith, lower-k n (raw g x), raise-most g t (x .k))
 
-  pub after-k : (x : Exact) (l : List ℕ) → after n x l .k ≤ x .k + length l
-  after-k x [] = omega arith
-  after-k x (g ∷ l) = omega (arith, after-k (act n (gateOf n g) x) l, act-k (gateOf n g) x)
+  pub after-k : (x : Exact) (l : List ℕ) → AllPlain n l → after n x l .k ≤ x .k + length l
+  after-k x [] t = omega arith
+  after-k x (g ∷ l) t = omega (arith, after-k (act n (gateOf n g) x) l (t .1), act-k (gateOf n g) (t .0) x)
 
-  pub product-k : (l : List ℕ) → product n l .k ≤ length l
+  pub product-k : (l : List ℕ) → AllPlain n l → product n l .k ≤ length l
   unfolding product
-  product-k l = omega (arith, after-k identity l)
+  product-k l t = omega (arith, after-k identity l t)
 
-  pub raw-k : (g : Gate) (l : List ℕ) → raw g (product n l) .k ≤ suc (length l)
-  raw-k g l = omega (arith, raise-most g (product n l .k), product-k l)
+  pub raw-k : (g : Gate) → Plain g → (l : List ℕ) → AllPlain n l → raw g (product n l) .k ≤ suc (length l)
+  raw-k g t l u = omega (arith, raise-most g t (product n l .k), product-k l u)

@@ -15,6 +15,7 @@ use Rattle.exact.specs.Matrix.{Exact, identity}
 use Rattle.exact.specs.Rows.{act, gateOf}
 use Rattle.exact.specs.Lists.{after, product}
 use Rattle.exact.specs.Fits.{Steps, allFit, unfitAt, next, stepFits, stepsFrom, steps, stepWithin, FirstPast}
+use Rattle.exact.proofs.Coded.{proper}
 use Rattle.exact.proofs.Unitaries.{unitary-product}
 use Rattle.exact.proofs.Bounds.{coefficients-decide, product-small}
 
@@ -94,7 +95,7 @@ module _ (n : ℕ) where
     -- after steps that fit, the coefficients alone decide
     decides : (j : ℕ) → j ≤ length l → ((i : ℕ) → i < j → stepOf l i ≡ true) → stepOf l j ≡ stepWithin n l j
     unfolding stepWithin
-    decides j q f = coefficients-decide n h (unitary-product n (take j l)) (product-small n (take j l) (prefix-fits l j q f)) (gateOf n (getD l j 0))
+    decides j q f = coefficients-decide n h (unitary-product n (take j l)) (product-small n (take j l) (prefix-fits l j q f)) (gateOf n (getD l j 0)) (proper n (getD l j 0))
 
     -- one step more
     fit-more : (i : ℕ) → i < length l → stepWithin n l i ≡ true → ((j : ℕ) → j < i → stepOf l j ≡ true) → (j : ℕ) → j < suc i → stepOf l j ≡ true

@@ -11,20 +11,20 @@ use lib.Dec.{eqb}
 use borrow.Author.Tests.{eqb-true, eq-eqb, ne-eqb}
 use Rattle.ints.specs.Bits.{bit}
 use Rattle.ints.specs.Lists.{pick}
-use Rattle.ints.proofs.Bools.{iff}
+use Rattle.ints.proofs.Bools.{iff, clash}
 use Rattle.cyclotomic.specs.Zomega.{Zω, zeroω, oneω, addω, subω, mulω, turn, sqrt2}
-use Rattle.cyclotomic.proofs.Four.{Four, same4, zeroE, addE, turnE, X, of1}
-use Rattle.cyclotomic.proofs.Sums.{add-comm}
+use Rattle.cyclotomic.proofs.Four.{Four, same4, zeroE, addE, turnE, sqrt2E, X, of1}
+use Rattle.cyclotomic.proofs.Sums.{add-comm, add-zero}
 use Rattle.cyclotomic.proofs.Turns.{turn-none, turn-zero, sub-is}
 use Rattle.cyclotomic.proofs.Division.{sqrt2-zero, sqrt2-sqrt2}
 use Rattle.cyclotomic.proofs.Product.{mul-zero, mul-one, mul-add, add-mul}
 use Rattle.exact.specs.Matrix.{Exact, sqrt2s, SameValue, lower, identity, turned, PowerOf}
-use Rattle.exact.specs.Rows.{flip, ones, Gate, phase, exchange, had, column, raw, act, gateOf}
+use Rattle.exact.specs.Rows.{flip, ones, Gate, phase, exchange, had, then, column, raw, act, gateOf}
 use Rattle.exact.proofs.Words.{Lacks, Proper}
 use Rattle.exact.specs.Lists.{after, product}
 use Rattle.exact.specs.Paper.{sumω}
 use Rattle.exact.specs.Unitary.{conj, inner, natω, Unitary}
-use Rattle.exact.proofs.Flips.{flip-flip, bit-own, bit-differs, flip-lt, moved, moved-back, moved-lt}
+use Rattle.exact.proofs.Flips.{bit-own, bit-differs, moved, moved-back, moved-lt, moved-ones, moved-on, moved-off}
 use Rattle.exact.proofs.Values.{sqrt2s-sqrt2, sqrt2s-comm, sqrt2s-cancel, sqrt2s-add, lower-same}
 use Rattle.exact.proofs.Acts.{power-sym}
 use Rattle.exact.proofs.Coded.{proper}
@@ -153,6 +153,40 @@ had-cases false false x y f g = rw (f refl) (same4 (of1 x) (fourE 0 0 X zeroE) (
 had-cases true false x y f g = rw (g refl) (same4 (of1 y) (fourE 4 0 zeroE X) (addE zeroE zeroE) tt)
 had-cases false true x y f g = rw (g refl) (same4 (of1 y) (fourE 0 4 zeroE X) (addE zeroE zeroE) tt)
 
+all-zero : (p q s t : ℕ) → addω (addω (turn p zeroω) (turn q zeroω)) (addω (turn s zeroω) (turn t zeroω)) ≡ addω zeroω zeroω
+all-zero p q s t =
+    (λ i. addω (addω (turn-zero p i) (turn-zero q i)) (addω (turn-zero s i) (turn-zero t i))) ∙ (λ i. addω (add-zero zeroω i) (add-zero zeroω i))
+
+-- each row as two turned rows: itself and its partner where the controls are 1, twice itself where they are not, since √2 = omega + omega⁷
+abbrev own-turn : Bool → Bool → ℕ
+own-turn o b = pick o (sign b) 1
+
+abbrev partner-turn : Bool → ℕ
+partner-turn o = pick o 0 7
+
+sqrt2-turns : (x : Zω) → sqrt2 x ≡ addω (turn 1 x) (turn 7 x)
+unfolding sqrt2 addω turn
+sqrt2-turns x = same4 (of1 x) (sqrt2E X) (addE (turnE 1 X) (turnE 7 X)) tt
+
+row-form : (o b : Bool) (v : ℕ → Zω) (r s : ℕ)
+    → pick o (pick b (subω (v s) (v r)) (addω (v r) (v s))) (sqrt2 (v r)) ≡ addω (turn (own-turn o b) (v r)) (turn (partner-turn o) (v (pick o s r)))
+row-form true b v r s = had-row b (v r) (v s)
+row-form false b v r s = sqrt2-turns (v r)
+
+row-cases : (o b p c : Bool) (x y : Zω) → (o ≡ true → p ≡ true → b ≡ c → y ≡ zeroω) → (b ≡ not c → x ≡ zeroω) → (p ≡ false → y ≡ x) → (o ≡ not p → (x ≡ zeroω) × (y ≡ zeroω))
+    → addω (addω (turn (own-turn o b + 7 * own-turn p c) x) (turn (partner-turn o + 7 * own-turn p c) y))
+    (addω (turn (own-turn o b + 7 * partner-turn p) y) (turn (partner-turn o + 7 * partner-turn p) x)) ≡ addω x x
+unfolding addω turn
+row-cases true b true c x y f g h m = had-cases b c x y (f refl refl) g
+row-cases false b false c x y f g h m =
+    rw (h refl) (same4 (of1 x) (addE (addE (turnE (1 + 7 * 1) X) (turnE (7 + 7 * 1) X)) (addE (turnE (1 + 7 * 7) X) (turnE (7 + 7 * 7) X))) (addE X X) tt)
+row-cases true b false c x y f g h m = let z = m refl in rw (z .0, z .1) (all-zero (sign b + 7 * 1) (0 + 7 * 1) (sign b + 7 * 7) (0 + 7 * 7))
+row-cases false b true c x y f g h m = let z = m refl in rw (z .0, z .1) (all-zero (1 + 7 * sign c) (7 + 7 * sign c) (1 + 7 * 0) (7 + 7 * 0))
+
+not-own : (b : Bool) → b ≡ not b → ⊥
+not-own true e = clash refl e
+not-own false e = clash e refl
+
 -- ---- a matrix is unitary where each two rows give delta
 
 abbrev Rows : ℕ → Exact → Type 0
@@ -221,31 +255,44 @@ module _ (n : ℕ) where
       rows u (moved ks k i) (moved ks k j) (moved-lt ks k n h i a) (moved-lt ks k n h j b)
       ∙ delta-same (moved ks k) (moved-back ks k w) (x .k) i j)
 
-  module _ (k : ℕ) (h : k < n) {x : Exact} (u : Unitary n x) where
-    had-rows : Rows n (raw (had k) x)
+  module _ (ks : List ℕ) (k : ℕ) (h : k < n) (w : Lacks k ks) {x : Exact} (u : Unitary n x) where
+    abbrev own-by : ℕ → ℕ
+    own-by r = own-turn (ones ks r) (bit r k)
+
+    abbrev partner-by : ℕ → ℕ
+    partner-by r = partner-turn (ones ks r)
+
+    had-rows : Rows n (raw (had ks k) x)
     unfolding column
     had-rows i j a b =
-        let s = sign (bit i k) in
-        let t = sign (bit j k) in
-        let a′ = flip-lt n k i h a in
-        let b′ = flip-lt n k j h b in
-        pair-same (2 ^ n) (λ c l. had-row (bit i k) (x .e i c) (x .e (flip k i) c)) (λ c l. had-row (bit j k) (x .e j c) (x .e (flip k j) c))
-        ∙ pair-four (2 ^ n) (λ c. turn s (x .e i c)) (λ c. turn 0 (x .e (flip k i) c)) (λ c. turn t (x .e j c)) (λ c. turn 0 (x .e (flip k j) c))
+        let i′ = moved ks k i in
+        let j′ = moved ks k j in
+        let a′ = moved-lt ks k n h i a in
+        let b′ = moved-lt ks k n h j b in
+        pair-same (2 ^ n) (λ c l. row-form (ones ks i) (bit i k) (λ r. x .e r c) i (flip k i)) (λ c l. row-form (ones ks j) (bit j k) (λ r. x .e r c) j (flip k j))
+        ∙ pair-four (2 ^ n) (λ c. turn (own-by i) (x .e i c)) (λ c. turn (partner-by i) (x .e i′ c)) (λ c. turn (own-by j) (x .e j c)) (λ c. turn (partner-by j) (x .e j′ c))
         ∙ (λ z. addω
-        (addω (rows-turn u s t i j a b z) (rows-turn u 0 t (flip k i) j a′ b z))
-        (addω (rows-turn u s 0 i (flip k j) a b′ z) (rows-turn u 0 0 (flip k i) (flip k j) a′ b′ z)))
+        (addω (rows-turn u (own-by i) (own-by j) i j a b z) (rows-turn u (partner-by i) (own-by j) i′ j a′ b z))
+        (addω (rows-turn u (own-by i) (partner-by j) i j′ a b′ z) (rows-turn u (partner-by i) (partner-by j) i′ j′ a′ b′ z)))
         ∙ (λ z. addω
-        (addω (turn (s + 7 * t) (delta (x .k) i j)) (turn (0 + 7 * t) (delta-cross (flip k) (flip-flip k) (x .k) i j z)))
-        (addω (turn (s + 7 * 0) (delta (x .k) i (flip k j))) (turn (0 + 7 * 0) (delta-same (flip k) (flip-flip k) (x .k) i j z))))
-        ∙ had-cases (bit i k) (bit j k) (delta (x .k) i j) (delta (x .k) i (flip k j))
-        (λ e. delta-other (x .k) i (flip k j) (λ f. bit-differs k j (sym e ∙ ap (λ (r : ℕ). bit r k) f)))
+        (addω (turn (own-by i + 7 * own-by j) (delta (x .k) i j)) (turn (partner-by i + 7 * own-by j) (delta-cross (moved ks k) (moved-back ks k w) (x .k) i j z)))
+        (addω (turn (own-by i + 7 * partner-by j) (delta (x .k) i j′)) (turn (partner-by i + 7 * partner-by j) (delta-same (moved ks k) (moved-back ks k w) (x .k) i j z))))
+        ∙ row-cases (ones ks i) (bit i k) (ones ks j) (bit j k) (delta (x .k) i j) (delta (x .k) i j′)
+        (λ p q e. delta-other (x .k) i j′ (λ f. bit-differs k j (sym e ∙ ap (λ (r : ℕ). bit r k) (f ∙ moved-on ks k j q))))
         (λ e. delta-other (x .k) i j (λ f. bit-differs k j (sym (ap (λ (r : ℕ). bit r k) f) ∙ e ∙ sym (bit-own k j))))
+        (λ q. ap (delta (x .k) i) (moved-off ks k j q))
+        (λ e. (
+          delta-other (x .k) i j (λ f. not-own (ones ks j) (sym (ap (ones ks) f) ∙ e)),
+          delta-other (x .k) i j′ (λ f. not-own (ones ks j) (sym (moved-ones ks k w j) ∙ sym (ap (ones ks) f) ∙ e)),
+        ))
         ∙ sym (delta-double (x .k) i j)
 
   pub unitary-raw : (g : Gate) {x : Exact} → Proper n g → Unitary n x → Unitary n (raw g x)
+  unfolding column
   unitary-raw (phase ks p) w u = unitary-phase ks p u
   unitary-raw (exchange ks k) w u = unitary-exchange ks k (w .0) (w .2) u
-  unitary-raw (had k) {x} w u = unitary (raw (had k) x) (had-rows k w u)
+  unitary-raw (had ks k) {x} w u = unitary (raw (had ks k) x) (had-rows ks k (w .0) (w .2) u)
+  unitary-raw (then g h) w u = unitary-raw h (w .1) (unitary-raw g (w .0) u)
 
   pub unitary-act : (g : Gate) {x : Exact} → Proper n g → Unitary n x → Unitary n (act n g x)
   unitary-act g w u = unitary-lower (unitary-raw g w u)

@@ -3,22 +3,39 @@
 use mathlib.Core.Path.{_≡_}
 use mathlib.Core.Bool.{Bool, true, false, _&&_}
 use mathlib.Core.List.{List, [], _∷_}
-use Prim.Native.Nat.{ℕ, suc, _^_, _<_}
+use Prim.Native.Nat.{ℕ, suc, _<_}
 use lib.Dec.{leb}
 use lib.ListN.{length, getD, take}
 use Rattle.ints.specs.Lists.{pick}
-use Rattle.cyclotomic.specs.Zomega.{Zω, limit, fits, WithinBound}
+use Rattle.cyclotomic.specs.Zomega.{fits}
 use Rattle.exact.specs.Matrix.{Exact, allEntries, identity}
-use Rattle.exact.specs.Rows.{Gate, raw, act, gateOf}
+use Rattle.exact.specs.Rows.{Gate, phase, exchange, had, then, raw, act, gateOf}
 use Rattle.exact.specs.Lists.{product}
 
 -- the largest exponent that fits (SPECIFICATION 3.4)
 abbrev pub mostK : ℕ
 mostK = 65535
 
--- the step fits: the raw result has no coefficient past the limit, and an exponent of at most `mostK` (SPECIFICATION 3.4)
+-- every coefficient of every entry is within the limit
+abbrev pub allFits : ℕ → Exact → Bool
+allFits n x = allEntries n (λ r c. fits (x .e r c))
+
+-- Each row operation of a gate has a raw result that passes a test. Of operations one after the other the second starts from what the first
+-- left, lowered: so of Sx the raw results of both H are tested; of Ch, one operation, all rows, those multiplied by sqrt(2) among them
+-- (SPECIFICATION 3.4)
+abbrev pub eachRaw : ℕ → (Exact → Bool) → Gate → Exact → Bool
+eachRaw n test (phase ks p) x = test (raw (phase ks p) x)
+eachRaw n test (exchange ks k) x = test (raw (exchange ks k) x)
+eachRaw n test (had ks k) x = test (raw (had ks k) x)
+eachRaw n test (then g h) x = eachRaw n test g x && eachRaw n test h (act n g x)
+
+-- the step fits: no raw result has a coefficient past the limit or an exponent above `mostK` (SPECIFICATION 3.4)
 unfoldable pub stepFits : ℕ → Gate → Exact → Bool
-stepFits n g x = leb (raw g x .k) mostK && allEntries n (λ r c. fits (raw g x .e r c))
+stepFits n g x = eachRaw n (λ y. leb (y .k) mostK && allFits n y) g x
+
+-- the coefficients alone: no raw result of the step has one past the limit
+abbrev pub within : ℕ → Gate → Exact → Bool
+within n g x = eachRaw n (allFits n) g x
 
 -- every step of a list fits, or the position of the first that does not (SPECIFICATION 3.6)
 pub data Steps : Type 0 where
@@ -39,10 +56,10 @@ stepsFrom n x (g ∷ l) = pick (stepFits n (gateOf n g) x) (next (stepsFrom n (a
 unfoldable pub steps : ℕ → List ℕ → Steps
 steps n l = stepsFrom n identity l
 
--- the step by gate j of a list, taken from the product of those before it, keeps every raw coefficient within the limit; where it does not, it
--- passes the limit. The exponent plays no part here (SPECIFICATION 8.2)
+-- the step by gate j of a list, taken from the product of those before it, keeps every raw coefficient of each of its row operations within the
+-- limit; where it does not, it passes the limit. The exponent plays no part here (SPECIFICATION 8.2)
 unfoldable pub stepWithin : ℕ → List ℕ → ℕ → Bool
-stepWithin n l j = allEntries n (λ r c. fits (raw (gateOf n (getD l j 0)) (product n (take j l)) .e r c))
+stepWithin n l j = within n (gateOf n (getD l j 0)) (product n (take j l))
 
 -- gate i is the first whose step passes the limit (SPECIFICATION 8.2)
 pub record FirstPast (n : ℕ) (l : List ℕ) (i : ℕ) : Type 0 where

@@ -1,13 +1,13 @@
 -- The gates as Giles and Selinger have them: matrices by their entries, and the product of matrices as a finite sum. The row operations of
 -- Rows.antt are shown to be products with these, so that their meaning is the paper's and not the code's (SPECIFICATION 3.1). Assumes nothing.
-use mathlib.Core.Bool.{Bool, true, false, _&&_, _||_}
+use mathlib.Core.Bool.{Bool, true, false, not, _&&_, _||_}
 use mathlib.Core.List.{List, [], _∷_}
 use Prim.Native.Nat.{ℕ, zero, suc, _+_, _^_}
 use lib.Dec.{eqb}
 use Rattle.ints.specs.Bits.{bit}
 use Rattle.ints.specs.Lists.{pick}
 use Rattle.cyclotomic.specs.Zomega.{Zω, zeroω, oneω, addω, mulω, turn}
-use Rattle.circuit.specs.Kinds.{Kind, H, X, Z, S, Sdg, T, Tdg, Cx, Cz, Ccx, Ccz, Other}
+use Rattle.circuit.specs.Kinds.{Kind, H, X, Z, S, Sdg, T, Tdg, Cx, Cz, Ccx, Ccz, Y, Sx, Swap, Cy, Ch, Cswap, Other}
 use Rattle.circuit.specs.Codes.{kindOf, first, second, third, valid}
 use Rattle.exact.specs.Matrix.{Exact, sqrt2s, identity}
 use Rattle.exact.specs.Rows.{flip, ones, bitOf}
@@ -22,14 +22,34 @@ abbrev pub hadamard : Single
 hadamard = record { k = 1; u = λ i j. pick (i && j) (turn 4 oneω) oneω }
 
 -- X = (0 1; 1 0)
-abbrev pub swap : Bool → Bool → Zω
-swap true true = zeroω
-swap true false = oneω
-swap false true = oneω
-swap false false = zeroω
+abbrev pub pauliXEntry : Bool → Bool → Zω
+pauliXEntry true true = zeroω
+pauliXEntry true false = oneω
+pauliXEntry false true = oneω
+pauliXEntry false false = zeroω
 
 abbrev pub pauliX : Single
-pauliX = record { k = 0; u = swap }
+pauliX = record { k = 0; u = pauliXEntry }
+
+-- Y = (0 -i; i 0), with i = omega²
+abbrev pub pauliYEntry : Bool → Bool → Zω
+pauliYEntry true true = zeroω
+pauliYEntry true false = turn 2 oneω
+pauliYEntry false true = turn 6 oneω
+pauliYEntry false false = zeroω
+
+abbrev pub pauliY : Single
+pauliY = record { k = 0; u = pauliYEntry }
+
+-- Sx = 1/2 (1+i 1-i; 1-i 1+i): the square root of X
+abbrev pub rootEntry : Bool → Bool → Zω
+rootEntry true true = addω oneω (turn 2 oneω)
+rootEntry true false = addω oneω (turn 6 oneω)
+rootEntry false true = addω oneω (turn 6 oneω)
+rootEntry false false = addω oneω (turn 2 oneω)
+
+abbrev pub rootX : Single
+rootX = record { k = 2; u = rootEntry }
 
 -- (1 0; 0 omega^p): T by 1, S by 2, Z by 4, Sdg by 6, Tdg by 7
 abbrev pub diagonal : ℕ → Bool → Bool → Zω
@@ -40,6 +60,11 @@ diagonal p false false = oneω
 
 abbrev pub phaseGate : ℕ → Single
 phaseGate p = record { k = 0; u = diagonal p }
+
+-- the two bits differ
+abbrev pub differs : Bool → Bool → Bool
+differs true b = not b
+differs false b = b
 
 -- the rows r and s have the same bits, bit t left aside: there they may differ or not
 abbrev pub agree : ℕ → ℕ → ℕ → Bool
@@ -54,7 +79,15 @@ controlled g ks t r s =
 abbrev pub matrixOf : Single → List ℕ → ℕ → Exact
 matrixOf g ks t = record { k = g .k; e = controlled g ks t }
 
--- the matrix of each kind: the last operand is the target, the others are controls
+-- the row with its bits j and k exchanged, where the bits ks are 1; otherwise the row itself
+unfoldable pub swapped : List ℕ → ℕ → ℕ → ℕ → ℕ
+swapped ks j k r = pick (ones ks r && differs (bit r j) (bit r k)) (flip j (flip k r)) r
+
+-- a permutation of the rows as a matrix
+abbrev pub permutation : (ℕ → ℕ) → Exact
+permutation f = record { k = 0; e = λ r s. pick (eqb s (f r)) oneω zeroω }
+
+-- the matrix of each kind: the last operand is the target, of Swap and Cswap the last two are the pair, and the others are controls
 abbrev pub paperGate : ℕ → Kind → ℕ → ℕ → ℕ → Exact
 paperGate n H a b c = matrixOf hadamard [] (bitOf n a)
 paperGate n X a b c = matrixOf pauliX [] (bitOf n a)
@@ -67,6 +100,12 @@ paperGate n Cx a b c = matrixOf pauliX (bitOf n a ∷ []) (bitOf n b)
 paperGate n Cz a b c = matrixOf (phaseGate 4) (bitOf n a ∷ []) (bitOf n b)
 paperGate n Ccx a b c = matrixOf pauliX (bitOf n a ∷ bitOf n b ∷ []) (bitOf n c)
 paperGate n Ccz a b c = matrixOf (phaseGate 4) (bitOf n a ∷ bitOf n b ∷ []) (bitOf n c)
+paperGate n Y a b c = matrixOf pauliY [] (bitOf n a)
+paperGate n Sx a b c = matrixOf rootX [] (bitOf n a)
+paperGate n Swap a b c = permutation (swapped [] (bitOf n a) (bitOf n b))
+paperGate n Cy a b c = matrixOf pauliY (bitOf n a ∷ []) (bitOf n b)
+paperGate n Ch a b c = matrixOf hadamard (bitOf n a ∷ []) (bitOf n b)
+paperGate n Cswap a b c = permutation (swapped (bitOf n a ∷ []) (bitOf n b) (bitOf n c))
 paperGate n Other a b c = identity
 
 -- the matrix of a code; one that is not valid at the width stands for the identity

@@ -1,24 +1,22 @@
 -- The generators are exactly the codes that are valid at the width and of a kind in the basis, in rising order, at every width up to 16.
 -- Assumes nothing.
-use mathlib.Core.Path.{_≡_, refl, ap, _∙_}
+use mathlib.Core.Path.{_≡_, refl, sym, ap, _∙_}
 use mathlib.Core.Logic.{⊎-elim}
 use mathlib.Core.Bool.{Bool, true, false, _&&_}
 use mathlib.Core.List.{List, [], _∷_, List·Memᴰ, List·Memᴰ·head, List·Memᴰ·tail, List·Memᴰ·not-nil, List·Memᴰ·cases-cons, List·Memᴰ·eq-of-singleton}
 use Prim.Native.Nat.{ℕ, zero, suc, _+_, _*_, _≤_, _<_}
 use native.Mathlib.Nat.{zero-add}
 use native.Mathlib.Omega.{arith}
-use native.Mathlib.Decide.{decLt}
 use borrow.Author.Tests.{eqb-true, ltb-true}
 use lib.Dec.{eqb, ltb}
 use lib.ListN.{take, drop}
 use Rattle.ints.specs.Lists.{pick, range, all, distinct, Run}
-use Rattle.ints.proofs.Bools.{clash, and-left, and-right}
+use Rattle.ints.proofs.Bools.{and-left, and-right}
 use Rattle.ints.proofs.Runs.{run-to, run-each, range-in, each-in, each-mem}
-use Rattle.circuit.specs.Kinds.{kindAt, arity, sorted, isKind}
-use Rattle.circuit.specs.Sets.{member}
+use Rattle.circuit.specs.Kinds.{kindAt, arity, sorted, isKind, ofTables}
 use Rattle.circuit.specs.Codes.{codeOf, kindNumber, kindOf, first, second, third, placed, ordered, valid, validFor}
-use Rattle.circuit.proofs.ByNumber.{kind-past, kind-used}
-use Rattle.circuit.proofs.Coded.{code-whole}
+use Rattle.circuit.proofs.ByNumber.{kind-used, table-kind}
+use Rattle.circuit.proofs.Coded.{code-whole, code-valid, code-table}
 use Rattle.generators.specs.Generators.{kept, thirds, seconds, firsts, generators, Lists}
 
 -- ---- in rising order
@@ -87,13 +85,8 @@ code-in n basis k a b c hk ha hb hc v =
     (each-in (range 0 n) (thirds n basis k a) b g (range-in n 0 b (omega arith) (omega arith))
     (each-in (range 0 n) (λ c. kept n basis (codeOf k a b c)) c g (range-in n 0 c (omega arith) (omega arith)) (kept-in n basis g v))))
 
-kind-below : (i : ℕ) → isKind (kindAt i) ≡ true → i < 12
-unfolding isKind
-kind-below i h = by (decLt i 12)
-  where
-    by : Dec (i < 12) → i < 12
-    by (yes l) = l
-    by (no l) = clash h (ap isKind (kind-past i (omega arith)))
+kind-below : (i : ℕ) → ofTables (kindAt i) ≡ true → i < 12
+kind-below i h = ltb-true i 12 (and-left (ltb i 12) (isKind (kindAt i)) (sym (table-kind i) ∙ h))
 
 -- where the first m of the numbers are below n and the others are 0, each is below n
 each-below : (n m : ℕ) (xs : List ℕ) → 0 < n → all (λ q. ltb q n) (take m xs) ≡ true → all (λ q. eqb q 0) (drop m xs) ≡ true → (q : ℕ) → List·Memᴰ q xs → q < n
@@ -119,15 +112,15 @@ operands-below n (suc m) a b c u h =
     each-below n (suc m) xs (omega arith) p (and-right apart rest (and-right used (apart && rest) h))
 
 generator-in : (n basis g : ℕ) → validFor n basis g ≡ true → List·Memᴰ g (generators n basis)
-unfolding valid validFor
+unfolding valid
 generator-in n basis g h =
     let k = kindOf g in
     let a = first g in
     let b = second g in
     let c = third g in
-    let v = and-right (member basis (kindNumber g)) (valid n g) h in
+    let v = code-valid n basis g h in
     let is = and-left (isKind k) (placed n (arity k) a b c && ordered (sorted k) a b c) v in
-    let l = kind-below (kindNumber g) is in
+    let l = kind-below (kindNumber g) (code-table n basis g h) in
     let p = and-left (placed n (arity k) a b c) (ordered (sorted k) a b c) (and-right (isKind k) (placed n (arity k) a b c && ordered (sorted k) a b c) v) in
     let o = operands-below n (arity k) a b c (kind-used k is) p in
     rw code-whole at

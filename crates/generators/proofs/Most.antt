@@ -12,9 +12,9 @@ use lib.ListN.{length}
 use Rattle.ints.specs.Lists.{pick, range, each, all, elem, distinct}
 use Rattle.ints.proofs.Bools.{all-range}
 use Rattle.ints.proofs.Runs.{each-length-le}
-use Rattle.circuit.specs.Kinds.{kindAt, arity, sorted, isKind}
+use Rattle.circuit.specs.Kinds.{kindAt, arity, sorted, isKind, ofTables}
 use Rattle.circuit.specs.Sets.{member}
-use Rattle.circuit.specs.Codes.{codeOf, kindNumber, placed, rises, valid, validFor}
+use Rattle.circuit.specs.Codes.{codeOf, kindNumber, kindOf, placed, rises, valid, validFor}
 use Rattle.generators.specs.Generators.{most, kept, thirds, seconds, firsts, generators}
 
 -- the code, if it is valid at the width
@@ -27,12 +27,14 @@ unbound n = each (range 0 12) (λ k. each (range 0 n) (λ a. each (range 0 n) (�
 
 kept-le : (n basis g : ℕ) → length (kept n basis g) ≤ length (good n g)
 unfolding kept good validFor
-kept-le n basis g = by (member basis (kindNumber g)) (valid n g)
+kept-le n basis g = by (member basis (kindNumber g)) (ofTables (kindOf g)) (valid n g)
   where
-    by : (s t : Bool) → length (pick (s && t) (g ∷ []) []) ≤ length (pick t (g ∷ []) [])
-    by true t = omega arith
-    by false true = omega arith
-    by false false = omega arith
+    by : (s o t : Bool) → length (pick (s && (o && t)) (g ∷ []) []) ≤ length (pick t (g ∷ []) [])
+    by true true t = omega arith
+    by true false true = omega arith
+    by true false false = omega arith
+    by false o true = omega arith
+    by false o false = omega arith
 
 abbrev enough : ℕ → Bool
 enough n = leb (length (unbound n)) most

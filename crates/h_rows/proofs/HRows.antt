@@ -1,5 +1,5 @@
--- H by rows: the test of the sizes, a pair of rows that becomes its sums and differences, and the sweep over all pairs, each worked at its
--- lower row. Assumes nothing.
+-- H and Ch by rows: the tests, a pair of rows that becomes its sums and differences or is multiplied by √2, and the sweep over all pairs, each
+-- worked at its lower row. Assumes nothing.
 use mathlib.Core.Path.{_≡_, refl, sym, ap, _∙_, subst}
 use mathlib.Core.Bool.{Bool, true, false, not, _||_}
 use mathlib.Core.List.{List}
@@ -13,18 +13,20 @@ use lib.IntN.{ℤ, natAbs}
 use lib.ListN.{length}
 use lib.Pow.{pow-pos, pow-lt, high}
 use Rattle.ints.specs.Bits.{digit}
+use Rattle.ints.specs.Lists.{pick}
 use Rattle.ints.proofs.Bits.{digit-lt, ext, and-digit, or-digit}
 use Rattle.ints.proofs.Bools.{clash}
-use Rattle.cyclotomic.specs.Zomega.{Zω, limit, addω, subω, Small, sizesPass}
+use Rattle.cyclotomic.specs.Zomega.{Zω, limit, subω, sqrt2, Small, sizesPass}
 use Rattle.cyclotomic.proofs.Sizes.{SizesSmall, sizes-sum, sizes-difference, both-sizes}
 use Rattle.exact.proofs.Words.{AllSmall}
 use Rattle.exact.specs.Places.{entry, read}
 use Rattle.places.specs.Places.{places, put, Same, Kept}
 use Rattle.rows.specs.Rows.{has, hRows}
-use Rattle.h_rows.specs.Work.{Summed, SizesFit, SumsFit, PairFits, PairSummed, Tells}
+use Rattle.h_rows.specs.Work.{lowOf, highOf, Summed, SizesFit, SumsFit, PairFits, PairSummed, Tells}
 use Rattle.places.proofs.Placed.{length-put, entry-put-same, entry-put-other, row-inside, row-le, row-before, rows-apart, kept-refl, kept-trans, kept-same, kept-entries}
 use Rattle.rows.specs.Work.{at}
 use Rattle.rows.proofs.ByMask.{and-one}
+use Rattle.rows.proofs.Pairs.{same-control}
 
 -- ---- the test of the sizes, place by place
 
@@ -48,7 +50,7 @@ pub sizes-to : {l : List ℤ} {p q c d : ℕ} {b : Bool} → Tells (SizesFit l p
 sizes-to {c = c} {d = d} w a b = let e : c ≡ d = omega arith in rw e at w
 
 -- sizes of places, and sums and differences of entries: each follows from the other
-pub sizes-sums : {l : List ℤ} {e f c : ℕ} → SizesFit l (4 * e) (4 * f) (4 * c) → SumsFit l e f c
+pub sizes-sums : {l : List ℤ} {e f c : ℕ} → SizesFit l (4 * e) (4 * f) (4 * c) → SumsFit true l e f c
 unfolding entry
 sizes-sums {l} {e} {f} {c} w =
     record { sum-fits = λ k h. sizes-sum _ _ (four k h); difference-fits = λ k h. sizes-difference _ _ (four k h) }
@@ -64,7 +66,7 @@ sizes-sums {l} {e} {f} {c} w =
       d-sizes = one (4 * k + 3) _ _ (omega arith) (omega arith) (omega arith);
     }
 
-pub sums-sizes : {l : List ℤ} {e f c : ℕ} → SumsFit l e f c → SizesFit l (4 * e) (4 * f) (4 * c)
+pub sums-sizes : {l : List ℤ} {e f c : ℕ} → SumsFit true l e f c → SizesFit l (4 * e) (4 * f) (4 * c)
 unfolding entry
 sums-sizes {l} {e} {f} {c} w = record { fit = λ i h. by i (i / 4) (i % 4) (omega arith) (omega arith) (both i h) }
   where
@@ -82,13 +84,26 @@ sums-sizes {l} {e} {f} {c} w = record { fit = λ i h. by i (i / 4) (i % 4) (omeg
     by i k (suc (suc (suc zero))) p b s = one _ _ (4 * k + 3) i (omega arith) (omega arith) (omega arith) (s .d-sizes)
     by i k (suc (suc (suc (suc j)))) p b s = absurd (omega arith)
 
--- ---- a run of entries and a later one that become their sums and their differences
+-- ---- the test, entry by entry
 
-pub summed-none : (l : List ℤ) (e f : ℕ) → Summed l l e f 0
-summed-none l e f =
+module _ (active : Bool) (l : List ℤ) (e f : ℕ) where
+  pub sums-none : SumsFit active l e f 0
+  sums-none = record { sum-fits = λ k b. absurd (omega arith); difference-fits = λ k b. absurd (omega arith) }
+
+  pub sums-more : (c : ℕ) → SumsFit active l e f c → Small (lowOf active (entry l (e + c)) (entry l (f + c))) → Small (highOf active (entry l (e + c)) (entry l (f + c)))
+      → SumsFit active l e f (c + 1)
+  sums-more c w x y = record { sum-fits = below-more _ c (w .sum-fits) x; difference-fits = below-more _ c (w .difference-fits) y }
+
+  pub sums-to : {c d : ℕ} → SumsFit active l e f c → c ≤ d → d ≤ c → SumsFit active l e f d
+  sums-to {c} {d} w a b = let q : c ≡ d = omega arith in rw q at w
+
+-- ---- a run of entries and a later one that become what comes of them
+
+pub summed-none : (active : Bool) (l : List ℤ) (e f : ℕ) → Summed active l l e f 0
+summed-none active l e f =
     record { long = refl; sums = λ k b. absurd (omega arith); differences = λ k b. absurd (omega arith); other = λ k a b. refl }
 
-module _ {l l1 : List ℤ} {e f c len : ℕ} (w : Summed l l1 e f c) (s : e + len ≤ f) (b : c < len) where
+module _ {active : Bool} {l l1 : List ℤ} {e f c len : ℕ} (w : Summed active l l1 e f c) (s : e + len ≤ f) (b : c < len) where
   -- the entries that come next are still as they were
   pub summed-low : entry l1 (e + c) ≡ entry l (e + c)
   summed-low = w .other (e + c) (λ i k q. omega arith) (λ i k q. omega arith)
@@ -96,8 +111,8 @@ module _ {l l1 : List ℤ} {e f c len : ℕ} (w : Summed l l1 e f c) (s : e + le
   pub summed-high : entry l1 (f + c) ≡ entry l (f + c)
   summed-high = w .other (f + c) (λ i k q. omega arith) (λ i k q. omega arith)
 
-  pub summed-more : {l2 l3 : List ℤ} {x y : Zω} → length l ≡ places → f + len ≤ 1024 → x ≡ addω (entry l (e + c)) (entry l (f + c))
-      → y ≡ subω (entry l (e + c)) (entry l (f + c)) → l2 ≡ put l1 (e + c) x → l3 ≡ put l2 (f + c) y → Summed l l3 e f (c + 1)
+  pub summed-more : {l2 l3 : List ℤ} {x y : Zω} → length l ≡ places → f + len ≤ 1024 → x ≡ lowOf active (entry l (e + c)) (entry l (f + c))
+      → y ≡ highOf active (entry l (e + c)) (entry l (f + c)) → l2 ≡ put l1 (e + c) x → l3 ≡ put l2 (f + c) y → Summed active l l3 e f (c + 1)
   summed-more {l2} {l3} {x} {y} n g ex ey p q = record {
     long = ap length q ∙ length-put l2 (f + c) y ∙ first ∙ w .long;
     sums =
@@ -118,7 +133,7 @@ module _ {l l1 : List ℤ} {e f c len : ℕ} (w : Summed l l1 e f c) (s : e + le
       keep : (k : ℕ) → (k ≡ e + c → ⊥) → (k ≡ f + c → ⊥) → entry l3 k ≡ entry l1 k
       keep k a o = second k o ∙ ap (λ (m : List ℤ). entry m k) p ∙ entry-put-other l1 (e + c) x k a
 
-pub summed-to : {l l′ : List ℤ} {e f c d : ℕ} → Summed l l′ e f c → c ≤ d → d ≤ c → Summed l l′ e f d
+pub summed-to : {active : Bool} {l l′ : List ℤ} {e f c d : ℕ} → Summed active l l′ e f c → c ≤ d → d ≤ c → Summed active l l′ e f d
 summed-to {c = c} {d = d} w a b = let q : c ≡ d = omega arith in rw q at w
 
 -- ---- a row and the row that has a bit besides
@@ -186,94 +201,102 @@ by-pairs n t P f s b = by (has s (2 ^ t)) refl
     by true h = let p = is-partner t s h in subst P (p .1) (f (s - 2 ^ t) (omega arith) (p .0) .1)
     by false h = f s b h .0
 
--- ---- what H makes of a pair
+-- ---- what comes of a pair
 
-module _ (t : ℕ) (x : ℕ → ℕ → Zω) (s c : ℕ) (h : has s (2 ^ t) ≡ false) where
-  h-low : hRows (2 ^ t) x s c ≡ addω (x s c) (x (bitOr s (2 ^ t)) c)
+module _ (control t : ℕ) (x : ℕ → ℕ → Zω) (s c : ℕ) (h : has s (2 ^ t) ≡ false) where
+  h-low : hRows control (2 ^ t) x s c ≡ lowOf (has s control) (x s c) (x (bitOr s (2 ^ t)) c)
   unfolding hRows
   h-low = rw h
 
-  h-high : hRows (2 ^ t) x (bitOr s (2 ^ t)) c ≡ subω (x s c) (x (bitOr s (2 ^ t)) c)
+  h-high : bitAnd control (2 ^ t) ≡ 0 → hRows control (2 ^ t) x (bitOr s (2 ^ t)) c ≡ highOf (has s control) (x s c) (x (bitOr s (2 ^ t)) c)
   unfolding hRows
-  h-high =
+  h-high z =
       let e : bitOr s (2 ^ t) - 2 ^ t ≡ s = omega (arith, or-sum t s h) in
-      rw (has-or s (2 ^ t)) (ap (λ (r : ℕ). subω (x r c) (x (bitOr s (2 ^ t)) c)) e)
+      rw (same-control s (2 ^ t) control z, has-or s (2 ^ t))
+      (ap (λ (r : ℕ). pick (has s control) (subω (x r c) (x (bitOr s (2 ^ t)) c)) (sqrt2 (x (bitOr s (2 ^ t)) c))) e)
 
 -- ---- the test of all pairs
 
--- the test of one pair's sizes tells whether it fits
-pub pair-tells : {n b r d : ℕ} {l : List ℤ} {ok : Bool} → d ≡ 2 ^ n → has r b ≡ false → Tells (SizesFit l (4 * (r * d)) (4 * (bitOr r b * d)) (4 * d)) ok
-    → Tells (PairFits n b l r) ok
-pair-tells e h w = record {
-  holds = λ q. record { pair = λ _. sizes-sums (rw e at (w .holds q)) };
-  fails = λ q p. w .fails q (rw e (sums-sizes (p .pair h)));
-}
+-- the test of one pair tells whether it fits: by sizes where the rows are active, else by entries
+module _ {n control b r d : ℕ} {l : List ℤ} {ok : Bool} (e : d ≡ 2 ^ n) (h : has r b ≡ false) where
+  pub pair-tells : has r control ≡ true → Tells (SizesFit l (4 * (r * d)) (4 * (bitOr r b * d)) (4 * d)) ok → Tells (PairFits n control b l r) ok
+  pair-tells a w = record {
+    holds = λ q. record { pair = λ _. rw a (sizes-sums (rw e at (w .holds q))) };
+    fails = λ q p. w .fails q (rw e (sums-sizes (rw a at (p .pair h))));
+  }
+
+  pub roots-tell : has r control ≡ false → Tells (SumsFit false l (r * d) (bitOr r b * d) d) ok → Tells (PairFits n control b l r) ok
+  roots-tell a w = record {
+    holds = λ q. record { pair = λ _. rw a (rw e at (w .holds q)) };
+    fails = λ q p. w .fails q (rw e (rw a at (p .pair h)));
+  }
 
 -- the pairs of the rows below r fit
-pub record FitsTo (n bit : ℕ) (l : List ℤ) (r : ℕ) : Type 0 where
-  pub below : (s : ℕ) → s < r → PairFits n bit l s
+pub record FitsTo (n control bit : ℕ) (l : List ℤ) (r : ℕ) : Type 0 where
+  pub below : (s : ℕ) → s < r → PairFits n control bit l s
 
-module _ {n bit : ℕ} {l : List ℤ} where
-  pub fits-none : FitsTo n bit l 0
+module _ {n control bit : ℕ} {l : List ℤ} where
+  pub fits-none : FitsTo n control bit l 0
   fits-none = record { below = λ s b. absurd (omega arith) }
 
-  pub fits-more : {r : ℕ} → FitsTo n bit l r → PairFits n bit l r → FitsTo n bit l (r + 1)
+  pub fits-more : {r : ℕ} → FitsTo n control bit l r → PairFits n control bit l r → FitsTo n control bit l (r + 1)
   fits-more {r} w p = record { below = below-more _ r (w .below) p }
 
--- where every pair fits, the whole result does, and conversely
-pub fits-all : (t : ℕ) {n : ℕ} {l : List ℤ} {r : ℕ} → FitsTo n (2 ^ t) l r → 2 ^ n ≤ r → AllSmall n (hRows (2 ^ t) (read n l))
-fits-all t {n} {l} {r} w g =
-    record { small = λ s c hs hc. by-pairs n t (λ s. Small (hRows (2 ^ t) (read n l) s c)) (λ s b h. one s c b hc h) s hs }
-  where
-    one : (s c : ℕ) → s < 2 ^ n → c < 2 ^ n → has s (2 ^ t) ≡ false
-        → Small (hRows (2 ^ t) (read n l) s c) × Small (hRows (2 ^ t) (read n l) (bitOr s (2 ^ t)) c)
-    one s c hs hc h =
-        let p = w .below s (omega arith) .pair h in
-        (subst Small (sym (h-low t (read n l) s c h)) (p .sum-fits c hc), subst Small (sym (h-high t (read n l) s c h)) (p .difference-fits c hc))
+module _ (control t : ℕ) (z : bitAnd control (2 ^ t) ≡ 0) {n : ℕ} {l : List ℤ} {r : ℕ} where
+  -- where every pair fits, the whole result does, and conversely
+  pub fits-all : FitsTo n control (2 ^ t) l r → 2 ^ n ≤ r → AllSmall n (hRows control (2 ^ t) (read n l))
+  fits-all w g =
+      record { small = λ s c hs hc. by-pairs n t (λ s. Small (hRows control (2 ^ t) (read n l) s c)) (λ s b h. one s c b hc h) s hs }
+    where
+      one : (s c : ℕ) → s < 2 ^ n → c < 2 ^ n → has s (2 ^ t) ≡ false
+          → Small (hRows control (2 ^ t) (read n l) s c) × Small (hRows control (2 ^ t) (read n l) (bitOr s (2 ^ t)) c)
+      one s c hs hc h =
+          let p = w .below s (omega arith) .pair h in
+          (subst Small (sym (h-low control t (read n l) s c h)) (p .sum-fits c hc), subst Small (sym (h-high control t (read n l) s c h z)) (p .difference-fits c hc))
 
-pub all-pair : (t : ℕ) {n : ℕ} {l : List ℤ} {r : ℕ} → AllSmall n (hRows (2 ^ t) (read n l)) → t < n → r < 2 ^ n → PairFits n (2 ^ t) l r
-all-pair t {n} {l} {r} w ht hr = record {
-  pair = λ h. record {
-    sum-fits = λ c hc. subst Small (h-low t (read n l) r c h) (w .small r c hr hc);
-    difference-fits = λ c hc. subst Small (h-high t (read n l) r c h) (w .small (bitOr r (2 ^ t)) c (or-lt n r (2 ^ t) hr (pow-lt ht)) hc);
-  };
-}
+  pub all-pair : AllSmall n (hRows control (2 ^ t) (read n l)) → t < n → r < 2 ^ n → PairFits n control (2 ^ t) l r
+  all-pair w ht hr = record {
+    pair = λ h. record {
+      sum-fits = λ c hc. subst Small (h-low control t (read n l) r c h) (w .small r c hr hc);
+      difference-fits = λ c hc. subst Small (h-high control t (read n l) r c h z) (w .small (bitOr r (2 ^ t)) c (or-lt n r (2 ^ t) hr (pow-lt ht)) hc);
+    };
+  }
 
 -- ---- the sweep
 
--- row s and its partner are their sums and their differences; they are as they were
-pub record PairWorked (n bit : ℕ) (l l′ : List ℤ) (s : ℕ) : Type 0 where
-  pub low : (c : ℕ) → c < 2 ^ n → read n l′ s c ≡ addω (read n l s c) (read n l (bitOr s bit) c)
-  pub high : (c : ℕ) → c < 2 ^ n → read n l′ (bitOr s bit) c ≡ subω (read n l s c) (read n l (bitOr s bit) c)
+-- row s and its partner are what comes of them; they are as they were
+pub record PairWorked (n control bit : ℕ) (l l′ : List ℤ) (s : ℕ) : Type 0 where
+  pub low : (c : ℕ) → c < 2 ^ n → read n l′ s c ≡ lowOf (has s control) (read n l s c) (read n l (bitOr s bit) c)
+  pub high : (c : ℕ) → c < 2 ^ n → read n l′ (bitOr s bit) c ≡ highOf (has s control) (read n l s c) (read n l (bitOr s bit) c)
 
 pub record Still (n bit : ℕ) (l l′ : List ℤ) (s : ℕ) : Type 0 where
   pub low : (c : ℕ) → c < 2 ^ n → read n l′ s c ≡ read n l s c
   pub high : (c : ℕ) → c < 2 ^ n → read n l′ (bitOr s bit) c ≡ read n l (bitOr s bit) c
 
 -- the pairs whose lower row is below r are worked, the others are as they were, and so are the places past the matrix
-pub record Halfway (n bit : ℕ) (l l′ : List ℤ) (r : ℕ) : Type 0 where
+pub record Halfway (n control bit : ℕ) (l l′ : List ℤ) (r : ℕ) : Type 0 where
   pub long : length l′ ≡ length l
-  pub done : (s : ℕ) → s < r → has s bit ≡ false → PairWorked n bit l l′ s
+  pub done : (s : ℕ) → s < r → has s bit ≡ false → PairWorked n control bit l l′ s
   pub rest : (s : ℕ) → r ≤ s → has s bit ≡ false → Still n bit l l′ s
   pub kept : Kept n l l′
 
-pub half-start : (n bit : ℕ) (l : List ℤ) → Halfway n bit l l 0
-half-start n bit l =
+pub half-start : (n control bit : ℕ) (l : List ℤ) → Halfway n control bit l l 0
+half-start n control bit l =
     record { long = refl; done = λ s b. absurd (omega arith); rest = λ s b h. record { low = λ c hc. refl; high = λ c hc. refl }; kept = kept-refl n l }
 
-module _ (t : ℕ) {n : ℕ} {l l1 : List ℤ} {r : ℕ} (w : Halfway n (2 ^ t) l l1 r) where
+module _ (control t : ℕ) {n : ℕ} {l l1 : List ℤ} {r : ℕ} (w : Halfway n control (2 ^ t) l l1 r) where
   -- the pair that comes next fits as it did at the start
-  pub half-fits : PairFits n (2 ^ t) l r → PairFits n (2 ^ t) l1 r
+  pub half-fits : PairFits n control (2 ^ t) l r → PairFits n control (2 ^ t) l1 r
   half-fits p = record { pair = λ h. by (p .pair h) (w .rest r (omega arith) h) }
     where
-      by : SumsFit l (r * 2 ^ n) (bitOr r (2 ^ t) * 2 ^ n) (2 ^ n) → Still n (2 ^ t) l l1 r → SumsFit l1 (r * 2 ^ n) (bitOr r (2 ^ t) * 2 ^ n) (2 ^ n)
+      by : SumsFit (has r control) l (r * 2 ^ n) (bitOr r (2 ^ t) * 2 ^ n) (2 ^ n) → Still n (2 ^ t) l l1 r → SumsFit (has r control) l1 (r * 2 ^ n) (bitOr r (2 ^ t) * 2 ^ n) (2 ^ n)
       by s k = record {
         sum-fits = λ c hc. rw (k .low c hc, k .high c hc) (s .sum-fits c hc);
         difference-fits = λ c hc. rw (k .low c hc, k .high c hc) (s .difference-fits c hc);
       }
 
   -- a pair other than that of row r is kept
-  keep : {l2 : List ℤ} → has r (2 ^ t) ≡ false → Summed l1 l2 (r * 2 ^ n) (bitOr r (2 ^ t) * 2 ^ n) (2 ^ n)
+  keep : {l2 : List ℤ} → has r (2 ^ t) ≡ false → Summed (has r control) l1 l2 (r * 2 ^ n) (bitOr r (2 ^ t) * 2 ^ n) (2 ^ n)
       → (s : ℕ) → (s ≡ r → ⊥) → has s (2 ^ t) ≡ false → Still n (2 ^ t) l1 l2 s
   keep {l2} hr p s ne hs =
       record {
@@ -288,13 +311,13 @@ module _ (t : ℕ) {n : ℕ} {l l1 : List ℤ} {r : ℕ} (w : Halfway n (2 ^ t) 
           p .other (s * 2 ^ n + c) (λ i k q. a (rows-apart n r s c i hc k q)) (λ i k q. b (rows-apart n (bitOr r (2 ^ t)) s c i hc k q))
 
   -- the next row: its pair is worked, or it has the bit and nothing changes
-  pub half-more : {l2 : List ℤ} → t < n → r < 2 ^ n → PairSummed n (2 ^ t) l1 l2 r → Halfway n (2 ^ t) l l2 (r + 1)
+  pub half-more : {l2 : List ℤ} → t < n → r < 2 ^ n → PairSummed n control (2 ^ t) l1 l2 r → Halfway n control (2 ^ t) l l2 (r + 1)
   half-more {l2} ht lt p = by (has r (2 ^ t)) refl
     where
-      by : (q : Bool) → has r (2 ^ t) ≡ q → Halfway n (2 ^ t) l l2 (r + 1)
+      by : (q : Bool) → has r (2 ^ t) ≡ q → Halfway n control (2 ^ t) l l2 (r + 1)
       by true hr = record {
         long = ap length (p .alone hr) ∙ w .long;
-        done = below-more _ r (λ s b h. subst (λ (m : List ℤ). PairWorked n (2 ^ t) l m s) (sym (p .alone hr)) (w .done s b h)) (λ h. clash hr h);
+        done = below-more _ r (λ s b h. subst (λ (m : List ℤ). PairWorked n control (2 ^ t) l m s) (sym (p .alone hr)) (w .done s b h)) (λ h. clash hr h);
         rest = λ s b h. subst (λ (m : List ℤ). Still n (2 ^ t) l m s) (sym (p .alone hr)) (w .rest s (omega arith) h);
         kept = kept-trans n (w .kept) (kept-same n (p .alone hr));
       }
@@ -305,29 +328,29 @@ module _ (t : ℕ) {n : ℕ} {l l1 : List ℤ} {r : ℕ} (w : Halfway n (2 ^ t) 
         kept = kept-trans n (w .kept) (past (p .pair hr));
       }
         where
-          worked : {s : ℕ} → Still n (2 ^ t) l1 l2 s → PairWorked n (2 ^ t) l l1 s → PairWorked n (2 ^ t) l l2 s
+          worked : {s : ℕ} → Still n (2 ^ t) l1 l2 s → PairWorked n control (2 ^ t) l l1 s → PairWorked n control (2 ^ t) l l2 s
           worked k d = record { low = λ c hc. k .low c hc ∙ d .low c hc; high = λ c hc. k .high c hc ∙ d .high c hc }
 
           still : {s : ℕ} → Still n (2 ^ t) l1 l2 s → Still n (2 ^ t) l l1 s → Still n (2 ^ t) l l2 s
           still k d = record { low = λ c hc. k .low c hc ∙ d .low c hc; high = λ c hc. k .high c hc ∙ d .high c hc }
 
-          past : Summed l1 l2 (r * 2 ^ n) (bitOr r (2 ^ t) * 2 ^ n) (2 ^ n) → Kept n l1 l2
+          past : Summed (has r control) l1 l2 (r * 2 ^ n) (bitOr r (2 ^ t) * 2 ^ n) (2 ^ n) → Kept n l1 l2
           past s =
               kept-entries n
               (λ k h. s .other k (λ i b q. omega (arith, row-inside n r lt)) (λ i b q. omega (arith, row-inside n (bitOr r (2 ^ t)) (or-lt n r (2 ^ t) lt (pow-lt ht)))))
 
-          new : Summed l1 l2 (r * 2 ^ n) (bitOr r (2 ^ t) * 2 ^ n) (2 ^ n) → Still n (2 ^ t) l l1 r → PairWorked n (2 ^ t) l l2 r
+          new : Summed (has r control) l1 l2 (r * 2 ^ n) (bitOr r (2 ^ t) * 2 ^ n) (2 ^ n) → Still n (2 ^ t) l l1 r → PairWorked n control (2 ^ t) l l2 r
           new s k = record {
-            low = λ c hc. s .sums c hc ∙ (λ i. addω (k .low c hc i) (k .high c hc i));
-            high = λ c hc. s .differences c hc ∙ (λ i. subω (k .low c hc i) (k .high c hc i));
+            low = λ c hc. s .sums c hc ∙ (λ i. lowOf (has r control) (k .low c hc i) (k .high c hc i));
+            high = λ c hc. s .differences c hc ∙ (λ i. highOf (has r control) (k .low c hc i) (k .high c hc i));
           }
 
-  pub half-end : 2 ^ n ≤ r → Same n (read n l1) (hRows (2 ^ t) (read n l))
-  half-end g =
-      record { at = λ s c hs hc. by-pairs n t (λ s. read n l1 s c ≡ hRows (2 ^ t) (read n l) s c) (λ s b h. one s c b hc h) s hs }
+  pub half-end : bitAnd control (2 ^ t) ≡ 0 → 2 ^ n ≤ r → Same n (read n l1) (hRows control (2 ^ t) (read n l))
+  half-end z g =
+      record { at = λ s c hs hc. by-pairs n t (λ s. read n l1 s c ≡ hRows control (2 ^ t) (read n l) s c) (λ s b h. one s c b hc h) s hs }
     where
       one : (s c : ℕ) → s < 2 ^ n → c < 2 ^ n → has s (2 ^ t) ≡ false
-          → (read n l1 s c ≡ hRows (2 ^ t) (read n l) s c) × (read n l1 (bitOr s (2 ^ t)) c ≡ hRows (2 ^ t) (read n l) (bitOr s (2 ^ t)) c)
+          → (read n l1 s c ≡ hRows control (2 ^ t) (read n l) s c) × (read n l1 (bitOr s (2 ^ t)) c ≡ hRows control (2 ^ t) (read n l) (bitOr s (2 ^ t)) c)
       one s c hs hc h =
           let d = w .done s (omega arith) h in
-          (d .low c hc ∙ sym (h-low t (read n l) s c h), d .high c hc ∙ sym (h-high t (read n l) s c h))
+          (d .low c hc ∙ sym (h-low control t (read n l) s c h), d .high c hc ∙ sym (h-high control t (read n l) s c h z))

@@ -10,27 +10,23 @@ use lib.Seq.{drop-cons, take-suc, take-all}
 use Rattle.ints.specs.Lists.{pick, all}
 use Rattle.exact.specs.Matrix.{Exact, identity}
 use Rattle.exact.proofs.Words.{Equal}
-use Rattle.exact.specs.Rows.{Gate, act, gateOf}
+use Rattle.exact.specs.Rows.{act, gateOf}
 use Rattle.exact.specs.Lists.{product}
 use Rattle.exact.specs.Fits.{Steps, allFit, unfitAt, next, stepsFrom, steps}
 use Rattle.exact.proofs.Values.{equal-sym, equal-trans}
-use Rattle.exact.proofs.Acts.{act-lowest}
 use Rattle.exact.proofs.Listed.{product-snoc}
 use Rattle.exact.proofs.Coded.{proper}
 use Rattle.exact.proofs.Answered.{step-given, step-refused, given-list, refused-list}
-use Rattle.exact.proofs.Keeps.{step-equal, act-equal', equal-lowest}
+use Rattle.exact.proofs.Keeps.{step-equal, act-equal', made-equal}
 use Rattle.exact.specs.Places.{held}
 use Rattle.matrix.specs.Step.{Holds, Ready, Stepped}
-use Rattle.matrix.specs.declared.Applied.{Applied}
 use Rattle.matrix.specs.declared.Applied.the-variants.{Done, DoesNotFit}
+use Rattle.matrix.proofs.Steps.{ready-next}
 use Rattle.lists.specs.Walk.{HoldsProduct, Ended}
 use Rattle.lists.specs.declared.Walked.{Walked}
 use Rattle.lists.specs.declared.Walked.the-variants.{Fits, UnfitAt}
 
 -- the answer is known by an equation
-pub at-answer : {n k : ℕ} {g : Gate} {l l′ : List ℤ} {r s : Applied} → r ≡ s → Stepped n k g l l′ r → Stepped n k g l l′ s
-at-answer {n} {k} {g} {l} {l′} e w = subst (λ (x : Applied). Stepped n k g l l′ x) e w
-
 pub ended-at : {n : ℕ} {codes : List ℕ} {l : List ℤ} {r s : Walked} → r ≡ s → Ended n codes l r → Ended n codes l s
 ended-at {n} {codes} {l} e w = subst (λ (x : Walked). Ended n codes l x) e w
 
@@ -88,7 +84,7 @@ module _ (n : ℕ) (codes : List ℕ) where
         subst (λ (z : ℕ). Walking n codes z j l′) one
         (record {
           within = h;
-          ready = record { long = held′ .long; small = held′ .small; lowest = equal-lowest n (equal-sym n (held′ .equal)) (act-lowest n (gateOf n code) (held n k l)) };
+          ready = ready-next s;
           ahead = ahead-here ∙ ap (λ b. later i (pick b (next (stepsFrom n (act n (gateOf n code) (held n k l)) (drop (suc i) codes))) (unfitAt 0))) fit
               ∙ ap (λ (z : Steps). later i (next z)) (steps-equal n (drop (suc i) codes) (equal-sym n (held′ .equal)));
           so-far = rw (take-suc codes i 0 h, product-snoc n) (equal-trans n (held′ .equal) (act-equal' n (gateOf n code) (w .so-far) (proper n code)));
@@ -101,7 +97,11 @@ module _ (n : ℕ) (codes : List ℕ) where
           (ahead-here
           ∙ ap (λ b. later i (pick b (next (stepsFrom n (act n (gateOf n code) (held n k l)) (drop (suc i) codes))) (unfitAt 0))) (step-refused n (gateOf n code) (held n k l) (s .answer))
           ∙ later-unfit i 0 ∙ ap unfitAt (omega arith));
-      end = rw (s .left) (walked-holds w);
+      end = record {
+        long = s .left .long;
+        equal = record { exponent = refl; entries = λ r c i j. s .left .equal .entries r c i j ∙ made-equal n (gateOf n code) (w .so-far) (proper n code) .entries r c i j };
+        small = s .left .small;
+      };
     }
 
   pub walking-end : {i k : ℕ} {l : List ℤ} → Walking n codes i k l → length codes ≤ i → Ended n codes l (Fits k)

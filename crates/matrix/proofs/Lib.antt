@@ -2,3 +2,4 @@ pub mod Lowering
 pub mod Filling
 pub mod Steps
 pub mod Masks
+pub mod Several

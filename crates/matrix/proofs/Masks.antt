@@ -1,24 +1,25 @@
 -- Masks of one, two and three bits as the code forms them, and that a target is no control. Assumes nothing.
 use mathlib.Core.Path.{_≡_, refl, sym, ap, _∙_, subst}
-use mathlib.Core.Bool.{true, not}
+use mathlib.Core.Bool.{Bool, true, not, _||_}
 use mathlib.Core.List.{List, [], _∷_}
 use Prim.Native.Nat.{ℕ, _^_, _≤_, _<_}
 use native.Mathlib.Omega.{arith}
 use native.Mathlib.Decide.{decLt}
 use borrow.Author.Tests.{eqb-true, ne-eqb}
+use lib.Dec.{eqb}
 use lib.Bits.{bitAnd, bitOr, or-zero-r}
-use Rattle.ints.specs.Lists.{all, elem}
-use Rattle.ints.proofs.Bools.{and-both, clash}
+use Rattle.ints.specs.Lists.{all, elem, range}
+use Rattle.ints.proofs.Bools.{and-both, clash, all-range}
 use Rattle.circuit.specs.Codes.{kindNumber, first, second, third, valid}
 use Rattle.circuit.specs.Pairs.{maskOf}
 use Rattle.circuit.proofs.ByNumber.{kind-past}
 use Rattle.circuit.proofs.Sets.{mask-apart}
 use Rattle.circuit.specs.Kinds.{kindAt, isKind}
-use Rattle.exact.specs.Rows.{exchange, had, gate, gateOf}
+use Rattle.exact.specs.Rows.{Gate, phase, exchange, had, then, exchanges3, gate, gateOf}
 use Rattle.exact.proofs.Words.{Lacks, Proper}
 use Rattle.exact.proofs.Coded.{proper}
 use lib.IntN.{ℤ}
-use Rattle.matrix.specs.Step.{Stepped, ExchangesRows}
+use Rattle.matrix.specs.Step.{Stepped, Controlled}
 use Rattle.matrix.specs.declared.Applied.{Applied}
 
 pub mask-none : 0 ≡ maskOf []
@@ -60,6 +61,13 @@ pub three-bits : {x y z s t u i j h : ℕ} → x ≡ 2 ^ s → s ≡ i → y ≡
 three-bits {i = i} {j = j} {h = h} d e d' e' d'' e'' =
     (λ k. bitOr ((d ∙ ap (λ (j : ℕ). 2 ^ j) e) k) (bitOr ((d' ∙ ap (λ (j : ℕ). 2 ^ j) e') k) ((d'' ∙ ap (λ (j : ℕ). 2 ^ j) e'') k))) ∙ mask-three i j h
 
+pub mask-cons : {x y : ℕ} (s : ℕ) (ks : List ℕ) → x ≡ 2 ^ s → y ≡ maskOf ks → bitOr x y ≡ maskOf (s ∷ ks)
+unfolding maskOf
+mask-cons s ks d e = λ i. bitOr (d i) (e i)
+
+pub none-apart : (t : ℕ) → bitAnd 0 (2 ^ t) ≡ 0
+none-apart t = ap (λ (x : ℕ). bitAnd x (2 ^ t)) mask-none ∙ target-apart t [] tt
+
 -- ---- what a step asks and leaves, where its target is known by an equation
 
 pub exchange-needs : {n : ℕ} (ks : List ℕ) {t control j : ℕ} → t ≡ j → control ≡ maskOf ks → Proper n (exchange ks j)
@@ -67,12 +75,18 @@ pub exchange-needs : {n : ℕ} (ks : List ℕ) {t control j : ℕ} → t ≡ j �
 exchange-needs ks {j = j} e m p = rw (e, m) (p .0, target-apart j ks (p .2))
 
 module _ {n k : ℕ} {l l′ : List ℤ} {r : Applied} where
-  pub h-at : {t j : ℕ} → t ≡ j → Stepped n k (had t) l l′ r → Stepped n k (had j) l l′ r
-  h-at e w = subst (λ (x : ℕ). Stepped n k (had x) l l′ r) e w
+  pub controlled-at : (g : ℕ → List ℕ → Gate) (ks : List ℕ) {control t j : ℕ} → t ≡ j → control ≡ maskOf ks → Proper n (g j ks) → Controlled n k control (g t) l l′ r
+      → Stepped n k (g j ks) l l′ r
+  controlled-at g ks {control} e m p w = subst (λ (x : ℕ). Controlled n k control (g x) l l′ r) e w .by ks m p
 
-  pub exchange-at : (ks : List ℕ) {control t j : ℕ} → t ≡ j → control ≡ maskOf ks → Proper n (exchange ks j) → ExchangesRows n k control t l l′ r
-      → Stepped n k (exchange ks j) l l′ r
-  exchange-at ks {control} e m p w = subst (λ (x : ℕ). ExchangesRows n k control x l l′ r) e w .by ks m p
+  pub controlled-at2 : (g : ℕ → ℕ → List ℕ → Gate) (ks : List ℕ) {control s t i j : ℕ} → s ≡ i → t ≡ j → control ≡ maskOf ks → Proper n (g i j ks)
+      → Controlled n k control (g s t) l l′ r → Stepped n k (g i j ks) l l′ r
+  controlled-at2 g ks {control} {t = t} {i = i} d e m p w =
+      subst (λ (y : ℕ). Controlled n k control (g i y) l l′ r) e (subst (λ (x : ℕ). Controlled n k control (g x t) l l′ r) d w) .by ks m p
+
+  pub sx-at : {t j : ℕ} → t ≡ j → Stepped n k (then (had [] t) (then (phase (t ∷ []) 2) (had [] t))) l l′ r
+      → Stepped n k (then (had [] j) (then (phase (j ∷ []) 2) (had [] j))) l l′ r
+  sx-at e w = subst (λ (x : ℕ). Stepped n k (then (had [] x) (then (phase (x ∷ []) 2) (had [] x))) l l′ r) e w
 
   -- the kind is known by an equation
   pub kind-at : (a b c : ℕ) {x y : ℕ} → x ≡ y → Stepped n k (gate n (kindAt y) a b c) l l′ r → Stepped n k (gate n (kindAt x) a b c) l l′ r
@@ -81,17 +95,34 @@ module _ {n k : ℕ} {l l′ : List ℤ} {r : Applied} where
 pub proper-at : (n a b c : ℕ) {x y : ℕ} → x ≡ y → Proper n (gate n (kindAt x) a b c) → Proper n (gate n (kindAt y) a b c)
 proper-at n a b c e w = subst (λ (x : ℕ). Proper n (gate n (kindAt x) a b c)) e w
 
--- a kind from 7 on that is not 8, 9 or 10 is the last
-pub last-kind : (k : ℕ) → isKind (kindAt k) ≡ true → 7 ≤ k → (k ≡ 8 → ⊥) → (k ≡ 9 → ⊥) → (k ≡ 10 → ⊥) → k ≡ 11
+-- a kind from 7 to 11 that is not 8, 9 or 10 is 11
+pub last-kind : (k : ℕ) → isKind (kindAt k) ≡ true → k < 12 → 7 ≤ k → (k ≡ 8 → ⊥) → (k ≡ 9 → ⊥) → (k ≡ 10 → ⊥) → k ≡ 11
 unfolding kindAt isKind
-last-kind k h p a b c = by (decLt k 12)
+last-kind k h q p a b c = omega (arith, not-seven)
   where
     not-seven : k ≡ 7 → ⊥
     not-seven e = clash h (ap (λ (x : ℕ). isKind (kindAt x)) e)
 
-    by : Dec (k < 12) → k ≡ 11
-    by (yes q) = omega (arith, not-seven)
+-- a kind from 12 on is one of six
+abbrev oneOfSix : ℕ → Bool
+oneOfSix k = not (isKind (kindAt k)) || (eqb k 15 || (eqb k 16 || (eqb k 19 || (eqb k 20 || (eqb k 25 || eqb k 26)))))
+
+pub last-of-six : (k : ℕ) → isKind (kindAt k) ≡ true → 12 ≤ k → (k ≡ 15 → ⊥) → (k ≡ 16 → ⊥) → (k ≡ 19 → ⊥) → (k ≡ 20 → ⊥) → (k ≡ 25 → ⊥) → k ≡ 26
+unfolding kindAt isKind all range
+last-of-six k h p a b c d e = by (decLt k 27)
+  where
+    by : Dec (k < 27) → k ≡ 26
+    by (yes q) =
+        eqb-true k 26
+        (rw (h, ne-eqb k 15 a, ne-eqb k 16 b, ne-eqb k 19 c, ne-eqb k 20 d, ne-eqb k 25 e) at (all-range oneOfSix 15 12 refl k p (omega arith)))
     by (no q) = clash h (ap isKind (kind-past k (omega arith)))
+
+-- what a swap asks: each of its exchanges has its target apart from its controls
+pub swap-needs : {n : ℕ} (ks : List ℕ) {s t control i j : ℕ} → s ≡ i → t ≡ j → control ≡ maskOf ks → Proper n (exchanges3 ks i j)
+    → (s < n) × (t < n) × (bitAnd (2 ^ t) (2 ^ s) ≡ 0) × (bitAnd (bitOr (2 ^ s) control) (2 ^ t) ≡ 0)
+unfolding maskOf
+swap-needs ks {i = i} {j = j} d e m p =
+    rw (d, e, m) (p .0 .0, p .1 .0 .0, ap (λ (x : ℕ). bitAnd x (2 ^ i)) (mask-one j) ∙ target-apart i (j ∷ []) (p .0 .2), target-apart j (i ∷ ks) (p .1 .0 .2))
 
 -- ---- the gate of a valid code
 

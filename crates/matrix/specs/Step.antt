@@ -5,10 +5,10 @@ use Prim.Native.Nat.{ℕ}
 use lib.IntN.{ℤ}
 use lib.ListN.{length}
 use Rattle.exact.specs.Matrix.{Exact, Lowest}
-use Rattle.exact.proofs.Words.{Equal, Proper, AllSmall, stepAnswer}
+use Rattle.exact.proofs.Words.{Equal, Proper, AllSmall, stepAnswer, made}
 use Rattle.cyclotomic.specs.Told.{doesNotFit}
 use Rattle.circuit.specs.Pairs.{maskOf}
-use Rattle.exact.specs.Rows.{Gate, phase, exchange, act}
+use Rattle.exact.specs.Rows.{Gate, phase, act}
 use Rattle.exact.specs.Answers.{Answer, given, refused}
 use Rattle.exact.specs.Places.{read, held}
 use Rattle.places.specs.Places.{places, Kept}
@@ -39,10 +39,11 @@ abbrev pub toldApplied : Applied → Answer
 toldApplied (Done k) = given k
 toldApplied DoesNotFit = refused doesNotFit 0
 
--- what a step by the gate g leaves: its exact result, with the exponent told, or, where it does not fit, all places as they were
+-- what a step by the gate g leaves: its exact result, with the exponent told, or, where it does not fit, what its row operations before the first
+-- that does not fit have made; of a gate of one operation that is the matrix as it was, and of the others only Sx can fail to fit
 abbrev pub Left : (n k : ℕ) → Gate → List ℤ → List ℤ → Applied → Type 0
 Left n k g l l′ (Done j) = Holds n j l′ (act n g (held n k l))
-Left n k g l l′ DoesNotFit = l′ ≡ l
+Left n k g l l′ DoesNotFit = Holds n (made n g (held n k l) .k) l′ (made n g (held n k l))
 
 -- with the answer that the definition gives, and the places past the matrix as they were
 pub record Stepped (n k : ℕ) (g : Gate) (l l′ : List ℤ) (r : Applied) : Type 0 where
@@ -50,9 +51,10 @@ pub record Stepped (n k : ℕ) (g : Gate) (l l′ : List ℤ) (r : Applied) : Ty
   pub left : Left n k g l l′ r
   pub kept : Kept n l l′
 
--- the same for a turn and for an exchange, whose bits are given as a mask
+-- the same for a turn, whose bits are given as a mask
 pub record TurnsRows (n k mask p : ℕ) (l l′ : List ℤ) (r : Applied) : Type 0 where
   pub by : (ks : List ℕ) → mask ≡ maskOf ks → Stepped n k (phase ks p) l l′ r
 
-pub record ExchangesRows (n k control t : ℕ) (l l′ : List ℤ) (r : Applied) : Type 0 where
-  pub by : (ks : List ℕ) → control ≡ maskOf ks → Proper n (exchange ks t) → Stepped n k (exchange ks t) l l′ r
+-- and for a gate whose controls are given as a mask
+pub record Controlled (n k control : ℕ) (g : List ℕ → Gate) (l l′ : List ℤ) (r : Applied) : Type 0 where
+  pub by : (ks : List ℕ) → control ≡ maskOf ks → Proper n (g ks) → Stepped n k (g ks) l l′ r

@@ -2,17 +2,18 @@
 // `normalize_denominator`, `apply_gate_left`.
 ghost use mathlib.Core.Path.{_≡_};
 ghost use mathlib.Core.Bool.{true};
+ghost use mathlib.Core.List.{[], _∷_};
 ghost use Prim.Native.Nat.{_^_, _<_, _≤_};
-ghost use lib.Bits.{bitAnd};
+ghost use lib.Bits.{bitAnd, bitOr};
 ghost use lib.ListN.{length};
 ghost use Rattle.circuit.specs.Kinds.{kindAt, isKind};
 ghost use Rattle.circuit.specs.Codes.{valid};
 ghost use Rattle.exact.specs.Matrix.{lower, identity};
-ghost use Rattle.exact.specs.Rows.{had, bitOf, gate, gateOf};
+ghost use Rattle.exact.specs.Rows.{phase, exchange, had, then, turnedExchange, exchanges3, bitOf, gate, gateOf};
 ghost use Rattle.exact.proofs.Words.{Proper, AllSmall};
 ghost use Rattle.exact.specs.Places.{read, held};
 ghost use Rattle.places.specs.Places.{places, Kept, Blank};
-ghost use Rattle.matrix.specs.Step.{IsMatrix, Holds, Ready, Stepped, TurnsRows, ExchangesRows};
+ghost use Rattle.matrix.specs.Step.{IsMatrix, Holds, Ready, Stepped, TurnsRows, Controlled};
 use circuit::LibraryGate;
 use cyclotomic::Coefficient;
 use cyclotomic::Cyclotomic;
@@ -99,25 +100,105 @@ fn exchange_step(m: &mut [Coefficient; 4096], n: usize, control: usize, t: usize
     requires { ⌜ (n ≤ 5) × (t < n) ⌝ }
     requires { ⌜ bitAnd control (2 ^ t) ≡ 0 ⌝ }
     requires { ⌜ Ready n k (now m) ⌝ }
-    ensures { λ r. ⌜ ExchangesRows n k control t (now (m .entry)) (now (m .exit)) r ⌝ }
+    ensures { λ r. ⌜ Controlled n k control (λ ks. exchange ks t) (now (m .entry)) (now (m .exit)) r ⌝ }
 {
     rows::apply_controlled_x_left(m, n, control, t);
     Applied::Done(k)
 }
 
-// H on bit t.
+// H on bit t. Beside `ch_step`, which has it as the case without a control, so that the compiler makes it without one.
 fn h_step(m: &mut [Coefficient; 4096], n: usize, t: usize, k: u16) -> Applied
     requires { ⌜ (n ≤ 5) × (t < n) ⌝ }
     requires { ⌜ Ready n k (now m) ⌝ }
-    ensures { λ r. ⌜ Stepped n k (had t) (now (m .entry)) (now (m .exit)) r ⌝ }
+    ensures { λ r. ⌜ Controlled n k 0 (λ ks. had ks t) (now (m .entry)) (now (m .exit)) r ⌝ }
 {
     if k == MOST_K {
         return Applied::DoesNotFit;
     }
-    if !h_rows::apply_h_left(m, n, t) {
+    if !h_rows::apply_h_left(m, n, 0, t) {
         return Applied::DoesNotFit;
     }
     Applied::Done(normalize_denominator(m, n, k + 1))
+}
+
+// H on bit t, where all bits of control are 1; the other rows are multiplied by sqrt(2).
+fn ch_step(m: &mut [Coefficient; 4096], n: usize, control: usize, t: usize, k: u16) -> Applied
+    requires { ⌜ (n ≤ 5) × (t < n) ⌝ }
+    requires { ⌜ bitAnd control (2 ^ t) ≡ 0 ⌝ }
+    requires { ⌜ Ready n k (now m) ⌝ }
+    ensures { λ r. ⌜ Controlled n k control (λ ks. had ks t) (now (m .entry)) (now (m .exit)) r ⌝ }
+{
+    if k == MOST_K {
+        return Applied::DoesNotFit;
+    }
+    if !h_rows::apply_h_left(m, n, control, t) {
+        return Applied::DoesNotFit;
+    }
+    let raised = k + 1;
+    Applied::Done(normalize_denominator(m, n, raised))
+}
+
+// Y on bit t, or Cy: Sdg on the target, the exchange where all bits of control are 1, S on the target.
+fn y_step(m: &mut [Coefficient; 4096], n: usize, control: usize, t: usize, k: u16) -> Applied
+    requires { ⌜ (n ≤ 5) × (t < n) ⌝ }
+    requires { ⌜ bitAnd control (2 ^ t) ≡ 0 ⌝ }
+    requires { ⌜ Ready n k (now m) ⌝ }
+    ensures { λ r. ⌜ Controlled n k control (λ ks. turnedExchange ks t) (now (m .entry)) (now (m .exit)) r ⌝ }
+{
+    let bit = places::mask(t);
+    rows::apply_phase_left(m, n, bit, 6);
+    rows::apply_controlled_x_left(m, n, control, t);
+    rows::apply_phase_left(m, n, bit, 2);
+    Applied::Done(k)
+}
+
+// Swap of the bits s and t, or Cswap: three exchanges, the middle one where all bits of control are 1.
+fn swap_step(
+    m: &mut [Coefficient; 4096],
+    n: usize,
+    control: usize,
+    s: usize,
+    t: usize,
+    k: u16,
+) -> Applied
+    requires { ⌜ n ≤ 5 ⌝ }
+    requires { ⌜ (s < n) × (t < n) × (bitAnd (2 ^ t) (2 ^ s) ≡ 0) × (bitAnd (bitOr (2 ^ s) control) (2 ^ t) ≡ 0) ⌝ }
+    requires { ⌜ Ready n k (now m) ⌝ }
+    ensures { λ r. ⌜ Controlled n k control (λ ks. exchanges3 ks s t) (now (m .entry)) (now (m .exit)) r ⌝ }
+{
+    let bit_s = places::mask(s);
+    let bit_t = places::mask(t);
+    rows::apply_controlled_x_left(m, n, bit_t, s);
+    rows::apply_controlled_x_left(m, n, bit_s | control, t);
+    rows::apply_controlled_x_left(m, n, bit_t, s);
+    Applied::Done(k)
+}
+
+// Sx on bit t: H, S, H. Where the second H does not fit, the first was made.
+fn sx_step(m: &mut [Coefficient; 4096], n: usize, t: usize, k: u16) -> Applied
+    requires { ⌜ (n ≤ 5) × (t < n) ⌝ }
+    requires { ⌜ Ready n k (now m) ⌝ }
+    ensures { λ r. ⌜ Stepped n k (then (had [] t) (then (phase (t ∷ []) 2) (had [] t))) (now (m .entry)) (now (m .exit)) r ⌝ }
+{
+    let target = places::mask(t);
+    match h_step(m, n, t, k) {
+        Applied::DoesNotFit => Applied::DoesNotFit,
+        Applied::Done(j) => {
+            rows::apply_phase_left(m, n, target, 2);
+            h_step(m, n, t, j)
+        }
+    }
+}
+
+// The same answer, taken apart and made anew. Where a function is called and not compiled in place, as H is, its answer lies in memory in two parts;
+// handed on as it lies, it is read as one word, and so are then the answers of turns and exchanges, which makes each gate wait.
+fn made_anew(answer: Applied) -> Applied
+    ensures { λ r. ⌜ r ≡ answer ⌝ }
+{
+    match answer {
+        Applied::Done(k) => Applied::Done(k),
+        Applied::DoesNotFit => Applied::DoesNotFit,
+    }
 }
 
 // The bit of a row's number that stands for qubit q: qubit 0 is the highest (SPECIFICATION 1.6).
@@ -131,7 +212,7 @@ fn row_bit(n: usize, q: u32) -> usize
     n - 1 - i
 }
 
-// The gate of a kind on the qubits a, b, c.
+// The gate of a table's kind on the qubits a, b, c.
 fn kind_step(
     m: &mut [Coefficient; 4096],
     n: usize,
@@ -142,7 +223,7 @@ fn kind_step(
     k: u16,
 ) -> Applied
     requires { ⌜ n ≤ 5 ⌝ }
-    requires { ⌜ isKind (kindAt kind) ≡ true ⌝ }
+    requires { ⌜ (isKind (kindAt kind) ≡ true) × (kind < 12) ⌝ }
     requires { ⌜ Proper n (gate n (kindAt kind) a b c) ⌝ }
     requires { ⌜ Ready n k (now m) ⌝ }
     ensures { λ r. ⌜ Stepped n k (gate n (kindAt kind) a b c) (now (m .entry)) (now (m .exit)) r ⌝ }
@@ -168,6 +249,36 @@ fn kind_step(
     }
 }
 
+// The gate of one of the six further kinds on the qubits a, b, c.
+fn more_kind_step(
+    m: &mut [Coefficient; 4096],
+    n: usize,
+    kind: u32,
+    a: u32,
+    b: u32,
+    c: u32,
+    k: u16,
+) -> Applied
+    requires { ⌜ n ≤ 5 ⌝ }
+    requires { ⌜ (isKind (kindAt kind) ≡ true) × (12 ≤ kind) ⌝ }
+    requires { ⌜ Proper n (gate n (kindAt kind) a b c) ⌝ }
+    requires { ⌜ Ready n k (now m) ⌝ }
+    ensures { λ r. ⌜ Stepped n k (gate n (kindAt kind) a b c) (now (m .entry)) (now (m .exit)) r ⌝ }
+{
+    let s = row_bit(n, a);
+    let t = row_bit(n, b);
+    let u = row_bit(n, c);
+    let bit_s = places::mask(s);
+    match kind {
+        15 => y_step(m, n, 0, s, k),
+        16 => sx_step(m, n, s, k),
+        19 => swap_step(m, n, 0, s, t, k),
+        20 => y_step(m, n, bit_s, t, k),
+        25 => ch_step(m, n, bit_s, t, k),
+        _ => swap_step(m, n, bit_s, t, u, k),
+    }
+}
+
 // The gate of a valid code, applied on the left.
 pub fn apply_gate_left(m: &mut [Coefficient; 4096], n: usize, gate: LibraryGate, k: u16) -> Applied
     requires { ⌜ n ≤ 5 ⌝ }
@@ -175,13 +286,12 @@ pub fn apply_gate_left(m: &mut [Coefficient; 4096], n: usize, gate: LibraryGate,
     requires { ⌜ Ready n k (now m) ⌝ }
     ensures { λ r. ⌜ Stepped n k (gateOf n (gate .0)) (now (m .entry)) (now (m .exit)) r ⌝ }
 {
-    kind_step(
-        m,
-        n,
-        gate.kind(),
-        gate.first(),
-        gate.second(),
-        gate.third(),
-        k,
-    )
+    let kind = gate.kind();
+    let a = gate.first();
+    let b = gate.second();
+    let c = gate.third();
+    if kind < 12 {
+        return kind_step(m, n, kind, a, b, c, k);
+    }
+    made_anew(more_kind_step(m, n, kind, a, b, c, k))
 }

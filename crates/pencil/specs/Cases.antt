@@ -1,17 +1,21 @@
 -- The cases that the checker computes, as one table: in each row what the definitions give, and what the specification states
 -- (SPECIFICATION 11.1). Assumes nothing.
-use mathlib.Core.Bool.{Bool, true, false}
+use mathlib.Core.Bool.{Bool, true, false, _&&_}
 use mathlib.Core.List.{List, [], _∷_}
 use Prim.Native.Nat.{ℕ, zero, suc, _*_, _^_}
+use lib.Dec.{eqb}
 use lib.IntN.{ℤ, pos, negsuc}
 use lib.ListN.{length, replicate}
-use Rattle.cyclotomic.specs.Zomega.{Zω, mk, addω, subω, turn, divisible, overSqrt2, phase}
+use Rattle.ints.specs.Lists.{pick}
+use Rattle.cyclotomic.specs.Zomega.{Zω, mk, zeroω, oneω, addω, subω, turn, sqrt2, divisible, overSqrt2, phase}
 use Rattle.cyclotomic.specs.Told.{Told, entry, refused, checked}
 use Rattle.circuit.specs.Sets.{supported}
-use Rattle.circuit.specs.Codes.{valid}
+use Rattle.circuit.specs.Codes.{valid, validFor}
 use Rattle.generators.specs.Generators.{generators}
 use Rattle.exact.specs.Matrix.{Exact}
+use Rattle.exact.specs.Rows.{act, gateOf}
 use Rattle.exact.specs.Lists.{product}
+use Rattle.exact.specs.Fits.{stepFits}
 use Rattle.exact.specs.Phase.{flat, phaseOf}
 use Rattle.exact.specs.Answers.{Answer}
 use Rattle.exact.specs.Answers as e
@@ -53,6 +57,13 @@ shown n x = matrix (x .k) (listing (2 ^ n * 2 ^ n) (flat n (x .e)))
 abbrev row : ℤ → ℤ → ℤ → ℤ → List Zω → List Zω
 row a b c d l = int a ∷ int b ∷ int c ∷ int d ∷ l
 
+-- a matrix of width 1 by its entries, and one of any width with one entry that is not 0, in column 0; both have k 0
+abbrev square : Zω → Zω → Zω → Zω → Exact
+square x y z w = record { k = 0; e = λ r c. pick (eqb r 0) (pick (eqb c 0) x y) (pick (eqb c 0) z w) }
+
+abbrev alone : ℕ → Zω → Exact
+alone i x = record { k = 0; e = λ r c. pick (eqb r i && eqb c 0) x zeroω }
+
 abbrev pub cases : List Case
 cases =
     -- turns by 1 and by 4; the second takes -127 to 127, which is within the limit (SPECIFICATION 1.2)
@@ -74,6 +85,44 @@ cases =
     -- 32784 is Cx with control 0 and target 1: at width 2 it exchanges the rows whose high bit is 1 (SPECIFICATION 1.6, 3.2)
     ∷ (shown 2 (product 2 (32784 ∷ []))
     is matrix 0 (row (pos 1) (pos 0) (pos 0) (pos 0) (row (pos 0) (pos 1) (pos 0) (pos 0) (row (pos 0) (pos 0) (pos 0) (pos 1) (row (pos 0) (pos 0) (pos 1) (pos 0) [])))))
+    -- the kinds that lists alone take. Y, 61440, is (0 -i; i 0); Sx, 65536, is 1/√2 (omega omega^7; omega^7 omega), and twice it is X
+    ∷ (shown 1 (product 1 (61440 ∷ [])) is matrix 0 (zeroω ∷ turn 6 oneω ∷ turn 2 oneω ∷ zeroω ∷ []))
+    ∷ (shown 1 (product 1 (65536 ∷ [])) is matrix 1 (turn 1 oneω ∷ turn 7 oneω ∷ turn 7 oneω ∷ turn 1 oneω ∷ []))
+    ∷ (shown 1 (product 1 (65536 ∷ 65536 ∷ [])) is matrix 0 (row (pos 0) (pos 1) (pos 1) (pos 0) []))
+    -- at width 2, with control 0 and target 1: Cy is 81936; Ch is 102416, whose first two rows are multiplied by √2; Swap is 77840
+    ∷ (shown 2 (product 2 (81936 ∷ []))
+    is matrix 0 (row (pos 1) (pos 0) (pos 0) (pos 0) (row (pos 0) (pos 1) (pos 0) (pos 0) (zeroω ∷ zeroω ∷ zeroω ∷ turn 6 oneω ∷ zeroω ∷ zeroω ∷ turn 2 oneω ∷ zeroω ∷ []))))
+    ∷ (shown 2 (product 2 (102416 ∷ []))
+    is matrix 1 (sqrt2 oneω ∷ zeroω ∷ zeroω ∷ zeroω ∷ zeroω ∷ sqrt2 oneω ∷ zeroω ∷ zeroω ∷ row (pos 0) (pos 0) (pos 1) (pos 1) (row (pos 0) (pos 0) (pos 1) (negsuc 0) [])))
+    ∷ (shown 2 (product 2 (77840 ∷ []))
+    is matrix 0 (row (pos 1) (pos 0) (pos 0) (pos 0) (row (pos 0) (pos 0) (pos 1) (pos 0) (row (pos 0) (pos 1) (pos 0) (pos 0) (row (pos 0) (pos 0) (pos 0) (pos 1) [])))))
+    -- at width 3 Cswap, 106514, with control 0 and the pair 1 and 2: rows 5 and 6 change places, row 1, whose control is 0, stays
+    ∷ (element (product 3 (106514 ∷ []) .e 5 6) is element oneω)
+    ∷ (element (product 3 (106514 ∷ []) .e 6 5) is element oneω)
+    ∷ (element (product 3 (106514 ∷ []) .e 1 1) is element oneω)
+    -- Swap and Cswap take their pair in either order (SPECIFICATION 2.4)
+    ∷ (test (valid 2 77840) is test true)
+    ∷ (test (valid 2 78080) is test true)
+    ∷ (test (valid 3 106514) is test true)
+    ∷ (test (valid 3 106529) is test true)
+    -- and a control may be above its target: Cy 1 0, Ch 1 0, Cswap 2 0 1
+    ∷ (test (valid 2 82176) is test true)
+    ∷ (test (valid 2 102656) is test true)
+    ∷ (test (valid 3 107009) is test true)
+    -- Ch is valid for no basis, not even for one with its bit (SPECIFICATION 2.5)
+    ∷ (test (validFor 2 33554432 102416) is test false)
+    -- what fits (SPECIFICATION 3.4). Of Ch a row without its control counts: √2 times it may be 127, and may not be 128. H, 0, takes the same
+    -- matrix as it is
+    ∷ (test (stepFits 2 (gateOf 2 102416) (alone 0 (mk (pos 0) (pos 64) (pos 0) (negsuc 62)))) is test true)
+    ∷ (test (stepFits 2 (gateOf 2 102416) (alone 0 (mk (pos 0) (pos 64) (pos 0) (negsuc 63)))) is test false)
+    ∷ (test (stepFits 2 (gateOf 2 0) (alone 0 (mk (pos 0) (pos 64) (pos 0) (negsuc 63)))) is test true)
+    -- of Sx both H count: the first comes to 127 and fits, the second to 128
+    ∷ (test (stepFits 1 (gateOf 1 0) (square (int (pos 64)) (int (pos 1)) (mk (pos 63) (pos 0) (pos 1) (pos 0)) zeroω)) is test true)
+    ∷ (test (stepFits 1 (gateOf 1 65536) (square (int (pos 64)) (int (pos 1)) (mk (pos 63) (pos 0) (pos 1) (pos 0)) zeroω)) is test false)
+    ∷ (test (stepFits 1 (gateOf 1 65536) (square (int (pos 64)) (int (pos 1)) (mk (pos 63) (pos 0) (pos 0) (pos 0)) zeroω)) is test true)
+    -- and where the first comes to 128 Sx does not fit, though lowered it would be within the limit, and the second H after it too
+    ∷ (test (stepFits 1 (gateOf 1 65536) (square (int (pos 64)) zeroω (int (pos 64)) zeroω)) is test false)
+    ∷ (test (stepFits 1 (gateOf 1 0) (act 1 (gateOf 1 0) (square (int (pos 64)) zeroω (int (pos 64)) zeroω))) is test true)
     -- Cz on qubits 0 and 1 in rising order is valid, in the other order it is not (SPECIFICATION 2.1, 2.4)
     ∷ (test (valid 2 36880) is test true)
     ∷ (answer (listed 2 (37120 ∷ []) (replicate (byteCount 2) (pos 0)) .answer) is answer (e.refused 7 0))

@@ -14,7 +14,7 @@ use Rattle.ints.specs.Lists.{pick, all}
 use Rattle.ints.proofs.Bits.{digit-lt, below, ext, and-digit, or-digit}
 use Rattle.ints.proofs.Bools.{iff, and-both, and-left, and-right}
 use Rattle.circuit.specs.Pairs.{maskOf}
-use Rattle.cyclotomic.specs.Zomega.{Zω, addω, subω}
+use Rattle.cyclotomic.specs.Zomega.{Zω, addω, subω, sqrt2}
 use Rattle.exact.specs.Rows.{flip, ones, phase, exchange, had, column}
 use Rattle.rows.specs.Rows.{has, phaseRows, sourceRow, exchangeRows, hRows}
 
@@ -113,6 +113,7 @@ exchange-rows ks k x r c = ap (λ (s : ℕ). x s c) (rw (has-mask ks r) (ap (λ 
     same true = refl
     same false = refl
 
-pub h-rows : (k : ℕ) (x : ℕ → ℕ → Zω) (r c : ℕ) → hRows (2 ^ k) x r c ≡ column (had k) (λ s. x s c) r
+pub h-rows : (ks : List ℕ) (k : ℕ) (x : ℕ → ℕ → Zω) (r c : ℕ) → hRows (maskOf ks) (2 ^ k) x r c ≡ column (had ks k) (λ s. x s c) r
 unfolding hRows column
-h-rows k x r c = partner (λ s. subω (x s c) (x r c)) (λ s. addω (x r c) (x s c)) k r
+h-rows ks k x r c =
+    rw (has-mask ks r) (ap (λ (z : Zω). pick (ones ks r) z (sqrt2 (x r c))) (partner (λ s. subω (x s c) (x r c)) (λ s. addω (x r c) (x s c)) k r))

@@ -17,7 +17,7 @@ use lib.Seq.{getD-set-same, getD-set-other}
 use Rattle.ints.specs.Bits.{digit, bit}
 use Rattle.ints.specs.Lists.{pick}
 use Rattle.ints.proofs.Bits.{digit-lt, below, and-digit, or-digit}
-use Rattle.ints.proofs.Bools.{clash}
+use Rattle.ints.proofs.Bools.{clash, iff}
 use Rattle.cyclotomic.proofs.Number.{each}
 use Rattle.exact.proofs.Flips.{bit-own}
 use Rattle.exact.specs.Places.{entry, read}
@@ -175,6 +175,9 @@ or-had r b m z h =
 
     none : (k : ℕ) → min (digit m k) (digit b k) ≡ 0
     none k = sym (and-digit m b k) ∙ ap (λ (x : ℕ). digit x k) z ∙ ap (λ (x : ℕ). x % 2) (div-eq-of-lt (pow-pos k))
+
+pub same-control : (r b m : ℕ) → bitAnd m b ≡ 0 → has (bitOr r b) m ≡ has r m
+same-control r b m z = iff _ _ (λ h. eq-eqb _ _ (or-had r b m z (eqb-true _ _ h))) (λ h. eq-eqb _ _ (or-keeps r b m (eqb-true _ _ h)))
 
 -- ---- the row that comes to a row
 

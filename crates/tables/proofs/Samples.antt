@@ -17,7 +17,7 @@ use Rattle.cyclotomic.specs.Zomega.{Zω, zeroω, oneω, addω, mulω, isZero, t
 use Rattle.words.specs.Words
 use Rattle.words.specs.Words.{rotated, word}
 use Rattle.circuit.specs.Sets.{subset}
-use Rattle.circuit.specs.Kinds.{kindAt, number, arity, sorted, isKind, dual}
+use Rattle.circuit.specs.Kinds.{kindAt, number, arity, sorted, isKind, dual, ofTables}
 use Rattle.circuit.specs.Codes.{placed, rises, valid, validFor}
 use Rattle.circuit.specs.Pairs.{inverse, qubits, disjoint}
 use Rattle.generators.specs.Generators.{kept, generators}
@@ -48,10 +48,10 @@ use Rattle.tables.specs.Checks.{firstRow, Limits, limitRows, Arrays, pla
 use Rattle.tables.specs.Tables.{recordOf, builtTo, buildRows, Query, matrixOf, listRow, synthesized}
 use Rattle.tables.specs.Built.{Built}
 use Rattle.tables.specs.Demand3.{Gives, GivesNone, Refuses, NotRefused, NoSmaller, Reaches, Complete}
-use Rattle.tables.specs.Samples.{xLimits, largerLimits, Places, askX, askT, askZero, lent, damaged, mistaken, circular, forgotten, Samples}
+use Rattle.tables.specs.Samples.{xLimits, largerLimits, chLimits, Places, askX, askT, askZero, lent, damaged, mistaken, circular, foreign, forgotten, Samples}
 use Rattle.tables.proofs.Rows.{numbered-limits, numbered-query, first-here, first-past, firstRow-append}
 use Rattle.tables.proofs.Accepted.{room-is}
-use Rattle.tables.proofs.FromBuild.{build-fills}
+use Rattle.tables.proofs.FromBuild.{build-fills, build-refusal}
 use Rattle.tables.proofs.Joined.{toldOption}
 use Rattle.tables.proofs.Replies.{rowOfAnswer, row-refuses}
 use Rattle.tables.proofs.OfBuilt.{not-refusal, rows-are, told-walk}
@@ -86,7 +86,8 @@ unfolding inner conj mulω addω zeroω entry
 zero-not-unitary u = clash (ap (λ (z : Zω). eqZ (z .a) (pos 1)) (u .own 0 (omega arith))) refl
 
 record Computed : Type 0 where
-  -- no row refuses the limits or the queries
+  -- no row refuses the limits or the queries, and row 3 refuses the basis with Ch
+  ch-limits : (a : Arrays) → firstRow (buildRows chLimits a) ≡ 3
   x-limits : firstRow (limitRows xLimits) ≡ 0
   larger-limits : firstRow (limitRows largerLimits) ≡ 0
   x-passes : firstRow (queryRows 1 0 (askX .bytes)) ≡ 0
@@ -99,14 +100,16 @@ record Computed : Type 0 where
   damaged-x : Gives (recordOf xLimits) damaged askX lent (4096 ∷ [])
   mistaken-t : GivesNone (recordOf xLimits) mistaken askT lent
   circular-x : Refuses (recordOf xLimits) circular askX lent 13
+  foreign-x : Refuses (recordOf xLimits) foreign askX lent 13
   forgotten-x : GivesNone (recordOf xLimits) forgotten askX lent
   root-print : eqb 7 (fingerprint 1 identity) ≡ false
   -- X is of the basis
   x-of : ListOf 1 2 (4096 ∷ [])
 
 computed : Computed
-unfolding synthesized recordOf firstRow subset anyBelow answerOf lowestFrom chainOf marked rechecked steps answerBy recheck upToPhase eqω product walk depths deeper layer tryAll try skipped samePrint fingerprint mix fold Words.product rotated word pivot phaseOf leastUpTo less turn zeroω oneω isZero gateOf column flip lower stepFits fits valid validFor placed rises all elem distinct range each kept generators kindAt arity sorted isKind number dual inverse qubits disjoint bit entry
+unfolding ofTables synthesized recordOf firstRow subset anyBelow answerOf lowestFrom chainOf marked rechecked steps answerBy recheck upToPhase eqω product walk depths deeper layer tryAll try skipped samePrint fingerprint mix fold Words.product rotated word pivot phaseOf leastUpTo less turn zeroω oneω isZero gateOf column flip lower stepFits fits valid validFor placed rises all elem distinct range each kept generators kindAt arity sorted isKind number dual inverse qubits disjoint bit entry
 computed = record {
+  ch-limits = λ a. refl;
   x-limits = refl;
   larger-limits = refl;
   x-passes = refl;
@@ -117,6 +120,7 @@ computed = record {
   damaged-x = refl;
   mistaken-t = refl;
   circular-x = refl;
+  foreign-x = refl;
   forgotten-x = refl;
   root-print = refl;
   x-of = refl;
@@ -270,6 +274,8 @@ samples = record {
   damaged-right = damaged-right;
   mistaken-t = computed .mistaken-t;
   circular-x = computed .circular-x;
+  foreign-x = computed .foreign-x;
+  ch-basis = λ a. build-refusal chLimits a 3 (omega arith) (computed .ch-limits a);
   forgotten-x = computed .forgotten-x;
   not-complete = not-complete;
   zero-not-unitary = zero-not-unitary;

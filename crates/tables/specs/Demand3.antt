@@ -80,7 +80,7 @@ pub record Demand3 : Type 0 where
   -- lent list (SPECIFICATION 8.4)
   pub larger : (t t′ : Table) (a a′ : Arrays) → Built t a → Built t′ a′ → NoSmaller (t .limits) (t′ .limits) → (q : Query) (out out′ l : List ℕ)
       → Gives t a q out l → Gives t′ a′ q out′ l ⊎ Refuses t′ a′ q out′ 12
-  -- (c) up to 13 gates, where every step fits, and with no clash at the query's width (SPECIFICATION 8.5, 8.14)
+  -- (c) up to 13 gates, where every step of a list of the basis fits, and with no clash at the query's width (SPECIFICATION 8.5, 8.14)
   pub complete : (t : Table) (a : Arrays) → Built t a → t .limits .gates ≤ 13
       → (q : Query) → NoSharedPrint (q .width) (t .limits .basis) (t .limits .gates) → Complete t a q
   -- (d) a query that gets a list is unitary, and one that is not gets none; a built table is never refused by 13 (SPECIFICATION 7.8)

@@ -15,7 +15,7 @@ use Rattle.exact.specs.Fingerprint.{fingerprint}
 use Rattle.walk.specs.AtWidth.{NoSharedPrint}
 use Rattle.walk.specs.Known.{SkippedRightly}
 use Rattle.tables.specs.Checks.{Limits, Arrays, arrays}
-use Rattle.tables.specs.Tables.{walkOf, recordOf, builtTo, table, left, buildOf, Query, query, matrixOf}
+use Rattle.tables.specs.Tables.{walkOf, recordOf, builtTo, table, refusal, left, buildOf, Query, query, matrixOf}
 use Rattle.tables.specs.Built.{Built}
 use Rattle.tables.specs.Demand3.{Gives, GivesNone, Refuses, NotRefused, NoSmaller, Reaches, Complete}
 
@@ -28,6 +28,10 @@ xLimits = record { qubits = 1; gates = 8; entries = 2; basis = 2 }
 -- Q, G and E are each larger; the basis is the same
 abbrev pub largerLimits : Limits
 largerLimits = record { qubits = 2; gates = 9; entries = 3; basis = 2 }
+
+-- the basis has bit 25, that of Ch, besides: a kind that lists alone take
+abbrev pub chLimits : Limits
+chLimits = record { qubits = 1; gates = 8; entries = 2; basis = 33554434 }
 
 -- each array has m places or more; they may hold anything
 pub record Places (m : ℕ) (a : Arrays) : Type 0 where
@@ -73,6 +77,10 @@ mistaken = arrays (7 ∷ fingerprint 1 (matrixOf askT) ∷ []) (mark ∷ 0 ∷ [
 abbrev pub circular : Arrays
 circular = arrays (7 ∷ fingerprint 1 (matrixOf askX) ∷ []) (mark ∷ 1 ∷ []) (mark ∷ 4096 ∷ [])
 
+-- node 1 has the fingerprint of X and the code of Y, 61440
+abbrev pub foreign : Arrays
+foreign = arrays (7 ∷ fingerprint 1 (matrixOf askX) ∷ []) (mark ∷ 0 ∷ []) (mark ∷ 61440 ∷ [])
+
 -- both fingerprints are 7
 abbrev pub forgotten : Arrays
 forgotten = arrays (7 ∷ 7 ∷ []) (mark ∷ 0 ∷ []) (mark ∷ 4096 ∷ [])
@@ -109,6 +117,9 @@ pub record Samples : Type 0 where
   -- a list whose product is another is not answered; a parent that is not below its node is refused by 13
   pub mistaken-t : GivesNone (recordOf xLimits) mistaken askT lent
   pub circular-x : Refuses (recordOf xLimits) circular askX lent 13
+  -- a kind that lists alone take is refused by 13 in a chain, and by 3 in a basis, whatever the arrays are
+  pub foreign-x : Refuses (recordOf xLimits) foreign askX lent 13
+  pub ch-basis : (a : Arrays) → buildOf chLimits a ≡ left (refusal 3 0) a
   -- (c) is of built tables: X gets none where its fingerprint is not there
   pub forgotten-x : GivesNone (recordOf xLimits) forgotten askX lent
   pub not-complete : Complete (recordOf xLimits) forgotten askX → ⊥

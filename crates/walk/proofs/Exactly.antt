@@ -11,8 +11,7 @@ use lib.ListN.{length, getD, length-reverse}
 use Rattle.ints.specs.Lists.{all}
 use Rattle.ints.proofs.Bools.{clash, and-left, and-right, and-both}
 use Rattle.cyclotomic.specs.Zomega.{limit}
-use Rattle.circuit.specs.Sets.{member}
-use Rattle.circuit.specs.Codes.{kindNumber, valid, validFor}
+use Rattle.circuit.specs.Codes.{validFor}
 use Rattle.generators.specs.Generators.{generators}
 use Rattle.generators.proofs.Generated.{lists}
 use Rattle.exact.specs.Matrix.{Exact, Lowest, PowerOf}
@@ -21,7 +20,8 @@ use Rattle.exact.specs.Lists.{product}
 use Rattle.exact.specs.Fingerprint.{fingerprint}
 use Rattle.exact.proofs.Values.{equal-same}
 use Rattle.exact.proofs.Acts.{act-lowest, act-swap, act-back, power-of, power-refl, power-sym, power-trans, act-power}
-use Rattle.exact.proofs.Coded.{proper, inverse-undoes, disjoint-apart, valid-below}
+use Rattle.exact.proofs.Coded.{proper, plain, basis-plain, basis-below, inverse-undoes, disjoint-apart}
+use Rattle.circuit.proofs.Coded.{code-table}
 use Rattle.exact.proofs.Listed.{product-nil, product-snoc}
 use Rattle.exact.proofs.Phases.{power-of-test, test-of-power}
 use Rattle.exact.proofs.Prints.{fingerprint-power}
@@ -66,8 +66,7 @@ module _ (n basis : ℕ) (small : n ≤ 5) where
   code-generator g v = lists n basis (omega arith) .complete g v
 
   generator-below : (g : ℕ) → List·Memᴰ g (generators n basis) → g < 49152
-  unfolding validFor
-  generator-below g m = valid-below n g (and-right (member basis (kindNumber g)) (valid n g) (generator-code g m))
+  generator-below g m = basis-below n basis g (generator-code g m)
 
   -- ---- the laws
 
@@ -131,8 +130,9 @@ module _ (n basis : ℕ) (small : n ≤ 5) where
   pub all-fit : (G : ℕ) → G ≤ 13 → AllFit (atWidth n basis) G
   all-fit G le g l m o h =
       let q : length (reverse l) < 13 = omega (arith, length-reverse l) in
-      let r = steps-within n limit 13 (below-square limit 13 (omega arith)) g (reverse l) q in
-      ap (λ (x : Exact). atWidth n basis .fits g x) (sym (product-is l)) ∙ step-fits n (gateOf n g) (product n (reverse l)) (r .0) (le-trans (r .1) (omega arith))
+      let t = plain n g (code-table n basis g (generator-code g m)) in
+      let r = steps-within n limit 13 (below-square limit 13 (omega arith)) g t (reverse l) (basis-plain n basis (reverse l) (over-list (reverse l) (over-reverse l o))) q in
+      ap (λ (x : Exact). atWidth n basis .fits g x) (sym (product-is l)) ∙ step-fits n (gateOf n g) t (product n (reverse l)) (r .0) (le-trans (r .1) (omega arith))
 
   pub no-clash : (G : ℕ) → NoSharedPrint n basis G → NoClash (atWidth n basis) (PowerOf n) G
   no-clash G h l m a b p q e =

@@ -10,7 +10,7 @@ use Rattle.ints.specs.Lists.{range, each, all, elem, distinct}
 use Rattle.cyclotomic.specs.Zomega.{zeroω, oneω, isZero, turn, less, leastUpTo, fits, eqω}
 use Rattle.words.specs.Words
 use Rattle.words.specs.Words.{rotated, word}
-use Rattle.circuit.specs.Kinds.{kindAt, number, arity, sorted, isKind, dual}
+use Rattle.circuit.specs.Kinds.{kindAt, number, arity, sorted, isKind, dual, ofTables}
 use Rattle.circuit.specs.Codes.{placed, rises, valid, validFor}
 use Rattle.circuit.specs.Pairs.{inverse, qubits, disjoint}
 use Rattle.generators.specs.Generators.{kept, generators}
@@ -51,7 +51,7 @@ pub record WalkSamples : Type 0 where
   pub x-not-t : answered 1 2 8 2 (product 1 (20480 ∷ [])) ≡ none
 
 pub samples : WalkSamples
-unfolding answerBy recheck upToPhase eqω product walk depths deeper layer tryAll try skipped samePrint fingerprint mix fold Words.product rotated word pivot phaseOf leastUpTo less turn zeroω oneω isZero gateOf column flip lower stepFits fits valid validFor placed rises all elem distinct range each kept generators kindAt arity sorted isKind number dual inverse qubits disjoint bit
+unfolding ofTables answerBy recheck upToPhase eqω product walk depths deeper layer tryAll try skipped samePrint fingerprint mix fold Words.product rotated word pivot phaseOf leastUpTo less turn zeroω oneω isZero gateOf column flip lower stepFits fits valid validFor placed rises all elem distinct range each kept generators kindAt arity sorted isKind number dual inverse qubits disjoint bit
 samples = record {
   worked = refl;
   worked-z = refl;

@@ -1,4 +1,4 @@
--- `is_kind` meets its contract: the eleven kinds are those with an operand. Assumes nothing.
+-- `is_kind` meets its contract: the kinds are those with an operand. Assumes nothing.
 use mathlib.Core.Path.{ap, _∙_}
 use mathlib.Core.Bool.{not}
 use Prim.Native.Nat.{ℕ}

@@ -3,6 +3,7 @@ use Prim.Native.Nat.{_+_, _-_, _≤_, _<_}
 use native.Mathlib.Omega.{arith}
 use borrow.Author.Needs.{needs}
 use mathlib.Core.Path.{_≡_, refl, _∙_}
+use mathlib.Core.Bool.{true}
 use Rattle.exact.specs.Places.{entry}
 use Rattle.h_rows.specs.Work.{Summed}
 use Rattle.h_rows.proofs.HRows.{summed-none, summed-low, summed-high, summed-more, summed-to}
@@ -10,7 +11,7 @@ use Rattle.h_rows.proofs.sum_row.Statement.{statement}
 use Rattle.h_rows.proofs.sum_row.Tie as tie
 
 abbrev Inv-loop : tie.InvT-loop
-Inv-loop m₀ e f c i₀ m i = (i ≤ c) × Summed m₀ m e f i
+Inv-loop m₀ e f c i₀ m i = (i ≤ c) × Summed true m₀ m e f i
 
 abbrev μ-loop : tie.MeasureT-loop
 μ-loop m₀ e f c i₀ m i = c - i
@@ -67,7 +68,7 @@ sum-row-spec =
     (tie.spec
     Inv-loop
     μ-loop
-    (λ c. (search needs, summed-none _ _ _))
+    (λ c. (search needs, summed-none _ _ _ _))
     (λ c. search needs)
     get-requires
     (λ c. search needs)

@@ -7,7 +7,8 @@ use borrow.Author.Needs.{needs}
 use Rattle.places.specs.Places.{Kept}
 use Rattle.places.proofs.Placed.{kept-refl, kept-trans}
 use Rattle.ints.proofs.Bools.{all-at}
-use Rattle.lists.proofs.Walking.{Walking, at-answer, walking-first, walking-more, walking-unfit, walking-end}
+use Rattle.matrix.proofs.Steps.{at-answer}
+use Rattle.lists.proofs.Walking.{Walking, walking-first, walking-more, walking-unfit, walking-end}
 use Rattle.lists.proofs.apply_gates.Statement.{statement}
 use Rattle.lists.proofs.apply_gates.Tie as tie
 

@@ -1,16 +1,18 @@
 -- `kind_step` meets its contract: each arm is the gate of its kind. Assumes nothing.
-
 use mathlib.Core.List.{[], _∷_}
 use borrow.Author.Needs.{needs}
 use Rattle.circuit.specs.Kinds.{kindAt}
+use Rattle.exact.specs.Rows.{exchange, had}
 use Rattle.cyclotomic.proofs.Number.{past}
-use Rattle.matrix.proofs.Masks.{mask-none, one-bit, two-bits, three-bits, exchange-needs, h-at, exchange-at, kind-at, proper-at, last-kind}
+use Rattle.matrix.proofs.Masks.{mask-none, one-bit, two-bits, three-bits, exchange-needs, controlled-at, kind-at, proper-at, last-kind}
 use Rattle.matrix.proofs.kind_step.Statement.{statement}
 use Rattle.matrix.proofs.kind_step.Tie as tie
 
 h-step-requires : tie.Need-h-step-requires
 unfolding kindAt
-h-step-requires c κs = ((c .before .before .before .before .before .before .before .before .pre .0, rw (c .before .before .before .before .before .before .before .row-bit .ensures) (proper-at (c .before .before .before .before .before .before .before .before .args .n) (c .before .before .before .before .before .before .before .before .args .a) (c .before .before .before .before .before .before .before .before .args .b) (c .before .before .before .before .before .before .before .before .args .c) (c .before .match .keys1) (c .before .before .before .before .before .before .before .before .pre .1 .1 .0))), c .before .before .before .before .before .before .before .before .pre .1 .1 .1)
+h-step-requires c κs =
+    let w = exchange-needs ([]) (c .before .before .before .before .before .before .before .row-bit .ensures) mask-none (proper-at (c .before .before .before .before .before .before .before .before .args .n) (c .before .before .before .before .before .before .before .before .args .a) (c .before .before .before .before .before .before .before .before .args .b) (c .before .before .before .before .before .before .before .before .args .c) (c .before .match .keys1) (c .before .before .before .before .before .before .before .before .pre .1 .1 .0)) in
+    ((c .before .before .before .before .before .before .before .before .pre .0, w .0), c .before .before .before .before .before .before .before .before .pre .1 .1 .1)
 
 exchange-step-requires : tie.Need-exchange-step-requires
 unfolding kindAt
@@ -32,11 +34,11 @@ exchange-step-requires-3 c κs =
 
 returns : tie.Need-returns
 unfolding kindAt
-returns c = kind-at (c .before .before .before .before .before .before .before .before .before .args .a) (c .before .before .before .before .before .before .before .before .before .args .b) (c .before .before .before .before .before .before .before .before .before .args .c) (c .before .before .match .keys1) (h-at (c .before .before .before .before .before .before .before .before .row-bit .ensures) (c .h-step .ensures))
+returns c = kind-at (c .before .before .before .before .before .before .before .before .before .args .a) (c .before .before .before .before .before .before .before .before .before .args .b) (c .before .before .before .before .before .before .before .before .before .args .c) (c .before .before .match .keys1) (controlled-at (λ t ks. had ks t) ([]) (c .before .before .before .before .before .before .before .before .row-bit .ensures) mask-none (proper-at (c .before .before .before .before .before .before .before .before .before .args .n) (c .before .before .before .before .before .before .before .before .before .args .a) (c .before .before .before .before .before .before .before .before .before .args .b) (c .before .before .before .before .before .before .before .before .before .args .c) (c .before .before .match .keys1) (c .before .before .before .before .before .before .before .before .before .pre .1 .1 .0)) (c .h-step .ensures))
 
 returns-2 : tie.Need-returns-2
 unfolding kindAt
-returns-2 c = kind-at (c .before .before .before .before .before .before .before .before .before .args .a) (c .before .before .before .before .before .before .before .before .before .args .b) (c .before .before .before .before .before .before .before .before .before .args .c) (c .before .before .match .keys2) (exchange-at ([]) (c .before .before .before .before .before .before .before .before .row-bit .ensures) mask-none (proper-at (c .before .before .before .before .before .before .before .before .before .args .n) (c .before .before .before .before .before .before .before .before .before .args .a) (c .before .before .before .before .before .before .before .before .before .args .b) (c .before .before .before .before .before .before .before .before .before .args .c) (c .before .before .match .keys2) (c .before .before .before .before .before .before .before .before .before .pre .1 .1 .0)) (c .exchange-step .ensures))
+returns-2 c = kind-at (c .before .before .before .before .before .before .before .before .before .args .a) (c .before .before .before .before .before .before .before .before .before .args .b) (c .before .before .before .before .before .before .before .before .before .args .c) (c .before .before .match .keys2) (controlled-at (λ t ks. exchange ks t) ([]) (c .before .before .before .before .before .before .before .before .row-bit .ensures) mask-none (proper-at (c .before .before .before .before .before .before .before .before .before .args .n) (c .before .before .before .before .before .before .before .before .before .args .a) (c .before .before .before .before .before .before .before .before .before .args .b) (c .before .before .before .before .before .before .before .before .before .args .c) (c .before .before .match .keys2) (c .before .before .before .before .before .before .before .before .before .pre .1 .1 .0)) (c .exchange-step .ensures))
 
 returns-3 : tie.Need-returns-3
 unfolding kindAt
@@ -60,7 +62,7 @@ returns-7 c = kind-at (c .before .before .before .before .before .before .before
 
 returns-8 : tie.Need-returns-8
 unfolding kindAt
-returns-8 c = kind-at (c .before .before .before .before .before .before .before .before .before .args .a) (c .before .before .before .before .before .before .before .before .before .args .b) (c .before .before .before .before .before .before .before .before .before .args .c) (c .before .before .match .keys8) (exchange-at (_ ∷ []) (c .before .before .before .before .before .before .before .row-bit2 .ensures) (one-bit (c .before .before .before .before .before .mask .ensures) (c .before .before .before .before .before .before .before .before .row-bit .ensures)) (proper-at (c .before .before .before .before .before .before .before .before .before .args .n) (c .before .before .before .before .before .before .before .before .before .args .a) (c .before .before .before .before .before .before .before .before .before .args .b) (c .before .before .before .before .before .before .before .before .before .args .c) (c .before .before .match .keys8) (c .before .before .before .before .before .before .before .before .before .pre .1 .1 .0)) (c .exchange-step2 .ensures))
+returns-8 c = kind-at (c .before .before .before .before .before .before .before .before .before .args .a) (c .before .before .before .before .before .before .before .before .before .args .b) (c .before .before .before .before .before .before .before .before .before .args .c) (c .before .before .match .keys8) (controlled-at (λ t ks. exchange ks t) (_ ∷ []) (c .before .before .before .before .before .before .before .row-bit2 .ensures) (one-bit (c .before .before .before .before .before .mask .ensures) (c .before .before .before .before .before .before .before .before .row-bit .ensures)) (proper-at (c .before .before .before .before .before .before .before .before .before .args .n) (c .before .before .before .before .before .before .before .before .before .args .a) (c .before .before .before .before .before .before .before .before .before .args .b) (c .before .before .before .before .before .before .before .before .before .args .c) (c .before .before .match .keys8) (c .before .before .before .before .before .before .before .before .before .pre .1 .1 .0)) (c .exchange-step2 .ensures))
 
 returns-9 : tie.Need-returns-9
 unfolding kindAt
@@ -68,11 +70,11 @@ returns-9 c = kind-at (c .before .before .before .before .before .before .before
 
 returns-10 : tie.Need-returns-10
 unfolding kindAt
-returns-10 c = kind-at (c .before .before .before .before .before .before .before .before .before .args .a) (c .before .before .before .before .before .before .before .before .before .args .b) (c .before .before .before .before .before .before .before .before .before .args .c) (c .before .before .match .keys10) (exchange-at (_ ∷ _ ∷ []) (c .before .before .before .before .before .before .row-bit3 .ensures) (two-bits (c .before .before .before .before .before .mask .ensures) (c .before .before .before .before .before .before .before .before .row-bit .ensures) (c .before .before .before .before .mask2 .ensures) (c .before .before .before .before .before .before .before .row-bit2 .ensures)) (proper-at (c .before .before .before .before .before .before .before .before .before .args .n) (c .before .before .before .before .before .before .before .before .before .args .a) (c .before .before .before .before .before .before .before .before .before .args .b) (c .before .before .before .before .before .before .before .before .before .args .c) (c .before .before .match .keys10) (c .before .before .before .before .before .before .before .before .before .pre .1 .1 .0)) (c .exchange-step3 .ensures))
+returns-10 c = kind-at (c .before .before .before .before .before .before .before .before .before .args .a) (c .before .before .before .before .before .before .before .before .before .args .b) (c .before .before .before .before .before .before .before .before .before .args .c) (c .before .before .match .keys10) (controlled-at (λ t ks. exchange ks t) (_ ∷ _ ∷ []) (c .before .before .before .before .before .before .row-bit3 .ensures) (two-bits (c .before .before .before .before .before .mask .ensures) (c .before .before .before .before .before .before .before .before .row-bit .ensures) (c .before .before .before .before .mask2 .ensures) (c .before .before .before .before .before .before .before .row-bit2 .ensures)) (proper-at (c .before .before .before .before .before .before .before .before .before .args .n) (c .before .before .before .before .before .before .before .before .before .args .a) (c .before .before .before .before .before .before .before .before .before .args .b) (c .before .before .before .before .before .before .before .before .before .args .c) (c .before .before .match .keys10) (c .before .before .before .before .before .before .before .before .before .pre .1 .1 .0)) (c .exchange-step3 .ensures))
 
 returns-11 : tie.Need-returns-11
 unfolding kindAt
-returns-11 c = kind-at (c .before .before .before .before .before .before .before .before .before .args .a) (c .before .before .before .before .before .before .before .before .before .args .b) (c .before .before .before .before .before .before .before .before .before .args .c) (last-kind _ (c .before .before .before .before .before .before .before .before .before .pre .1 .0) (past _ 7 (c .before .before .match .rest .0 .0 .0)) (c .before .before .match .rest .0 .0 .1) (c .before .before .match .rest .0 .1) (c .before .before .match .rest .1)) (c .phase-step7 .ensures .by (_ ∷ _ ∷ _ ∷ []) (three-bits (c .before .before .before .before .before .mask .ensures) (c .before .before .before .before .before .before .before .before .row-bit .ensures) (c .before .before .before .before .mask2 .ensures) (c .before .before .before .before .before .before .before .row-bit2 .ensures) (c .before .before .before .mask3 .ensures) (c .before .before .before .before .before .before .row-bit3 .ensures)))
+returns-11 c = kind-at (c .before .before .before .before .before .before .before .before .before .args .a) (c .before .before .before .before .before .before .before .before .before .args .b) (c .before .before .before .before .before .before .before .before .before .args .c) (last-kind _ (c .before .before .before .before .before .before .before .before .before .pre .1 .0 .0) (c .before .before .before .before .before .before .before .before .before .pre .1 .0 .1) (past _ 7 (c .before .before .match .rest .0 .0 .0)) (c .before .before .match .rest .0 .0 .1) (c .before .before .match .rest .0 .1) (c .before .before .match .rest .1)) (c .phase-step7 .ensures .by (_ ∷ _ ∷ _ ∷ []) (three-bits (c .before .before .before .before .before .mask .ensures) (c .before .before .before .before .before .before .before .before .row-bit .ensures) (c .before .before .before .before .mask2 .ensures) (c .before .before .before .before .before .before .before .row-bit2 .ensures) (c .before .before .before .mask3 .ensures) (c .before .before .before .before .before .before .row-bit3 .ensures)))
 
 pub kind-step-spec : {M : Type 1} → statement M
 kind-step-spec =

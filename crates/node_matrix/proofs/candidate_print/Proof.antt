@@ -1,12 +1,11 @@
 -- `candidate_print` meets its contract: the gate's step on the copy, and its result's fingerprint. Assumes nothing.
-use mathlib.Core.Path.{ap, _∙_}
+use mathlib.Core.Path.{_∙_}
 use native.Mathlib.Omega.{arith}
-use lib.ListN.{length}
 use borrow.Author.Needs.{needs}
 use Rattle.exact.proofs.Answered.{step-given, step-refused}
 use Rattle.exact.proofs.Prints.{fingerprint-equal}
 use Rattle.places.proofs.Placed.{area-le}
-use Rattle.lists.proofs.Walking.{at-answer}
+use Rattle.matrix.proofs.Steps.{at-answer}
 use Rattle.node_matrix.proofs.Copies.{copied-ready, copied-given, copied-refused}
 use Rattle.node_matrix.proofs.candidate_print.Statement.{statement}
 use Rattle.node_matrix.proofs.candidate_print.Tie as tie
@@ -26,7 +25,7 @@ returns c =
     let a = c .before .before in
     let m = a .before .before in
     let s = at-answer (c .enum-told .given .1) (a .apply-gate-left .ensures) in
-    (copied-refused _ _ _ (m .copy-matrix .ensures) (step-refused _ _ _ (s .answer)), ap length (s .left) ∙ m .copy-matrix .ensures .long ∙ m .before .before .pre .1 .1 .1)
+    (copied-refused _ _ _ (m .copy-matrix .ensures) (step-refused _ _ _ (s .answer)), s .left .long)
 
 unitary-fingerprint-requires : tie.Need-unitary-fingerprint-requires
 unitary-fingerprint-requires c κs =

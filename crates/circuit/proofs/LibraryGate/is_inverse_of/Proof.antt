@@ -3,14 +3,14 @@ use mathlib.Core.Path.{_≡_, sym, ap, _∙_}
 use Prim.Native.Nat.{ℕ}
 use borrow.Author.Needs.{needs}
 use borrow.Author.Tests.{eq-eqb, ne-eqb, not-true, not-false}
-use Rattle.circuit.specs.Kinds.{kindAt, number, isKind, dual}
+use Rattle.circuit.specs.Kinds.{kindAt, number, ofTables, dual}
 use Rattle.circuit.specs.Codes.{kindNumber, kindOf}
 use Rattle.circuit.specs.Pairs.{inverse}
 use Rattle.circuit.proofs.LibraryGate.is_inverse_of.Statement.{statement}
 use Rattle.circuit.proofs.LibraryGate.is_inverse_of.Tie as tie
 
-known : (c : tie.After-is-kind) → c .is-kind .result ≡ isKind (kindOf (c .before .before .args .other .0))
-known c = c .is-kind .ensures ∙ ap (λ (k : ℕ). isKind (kindAt k)) (c .before .kind .ensures)
+known : (c : tie.After-is-table-kind) → c .is-table-kind .result ≡ ofTables (kindOf (c .before .before .args .other .0))
+known c = c .is-table-kind .ensures ∙ ap (λ (k : ℕ). ofTables (kindAt k)) (c .before .kind .ensures)
 
 undoing : (c : tie.After-dual-kind) → c .dual-kind .result ≡ number (dual (kindOf (c .before .before .before .before .before .args .other .0)))
 undoing c = c .dual-kind .ensures ∙ ap (λ (k : ℕ). number (dual (kindAt k))) (c .before .before .before .before .kind .ensures)

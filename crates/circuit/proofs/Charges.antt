@@ -1,7 +1,7 @@
 -- The T charge of a list, gate by gate. Assumes nothing.
 use mathlib.Core.Path.{_≡_, ap}
 use mathlib.Core.List.{List, [], _∷_}
-use Prim.Native.Nat.{ℕ, suc, _+_, _≤_, _<_}
+use Prim.Native.Nat.{ℕ, suc, _+_, _*_, _≤_, _<_}
 use native.Mathlib.Omega.{arith}
 use lib.ListN.{length, getD, drop}
 use lib.Seq.{drop-cons}
@@ -9,7 +9,7 @@ use Rattle.circuit.specs.Kinds.{Kind, H, X, Z, S, Sdg, T, Tdg, Cx, Cz, C
 use Rattle.circuit.specs.Codes.{kindOf}
 use Rattle.circuit.specs.Charge.{kindCharge, charge}
 
-kind-most : (k : Kind) → kindCharge k ≤ 1
+kind-most : (k : Kind) → kindCharge k ≤ 7
 unfolding kindCharge
 kind-most H = omega arith
 kind-most X = omega arith
@@ -30,8 +30,8 @@ kind-most Ch = omega arith
 kind-most Cswap = omega arith
 kind-most Other = omega arith
 
--- no more than one for each gate
-pub charge-most : (gs : List ℕ) → charge gs ≤ length gs
+-- no more than seven for each gate
+pub charge-most : (gs : List ℕ) → charge gs ≤ 7 * length gs
 unfolding charge
 charge-most [] = omega arith
 charge-most (g ∷ gs) = omega (arith, kind-most (kindOf g), charge-most gs)

@@ -3,11 +3,11 @@ use mathlib.Core.Path.{_≡_, refl, sym, ap, _∙_}
 use mathlib.Core.Bool.{Bool, true, false, not, _&&_, _||_}
 use Prim.Native.Nat.{ℕ, _≤_, _<_}
 use native.Mathlib.Omega.{arith}
-use borrow.Author.Tests.{eqb-true, eqb-false, ne-eqb, not-true, le-ltb}
+use borrow.Author.Tests.{eqb-true, eqb-false, ne-eqb, not-true, le-ltb, leb-true}
 use native.Mathlib.Decide.{decLt}
 use Rattle.ints.specs.Lists.{all, range}
-use Rattle.ints.proofs.Bools.{all-range, or-false}
-use lib.Dec.{eqb, ltb}
+use Rattle.ints.proofs.Bools.{all-range, or-false, both-true}
+use lib.Dec.{eqb, ltb, leb}
 use lib.ListN.{List·getD-eq-default}
 use Rattle.circuit.specs.Kinds.{Kind, H, X, Z, S, Sdg, T, Tdg, Cx, Cz, Ccx, Ccz, Y, Sx, Swap, Cy, Ch, Cswap, Other, kinds, kindAt, number, arity, sorted, isKind, ofTables}
 
@@ -39,53 +39,6 @@ no-operands k p a b c d e f = by (decLt k 27)
         ∙ rw (ne-eqb k 15 a, ne-eqb k 16 b, ne-eqb k 19 c, ne-eqb k 20 d, ne-eqb k 25 e, ne-eqb k 26 f) at (all-range operandless 15 12 refl k p (omega arith)))
     by (no q) = ap arity (kind-past k (omega arith))
 
--- the kinds are those with an operand
-pub kind-placed : (k : Kind) → not (eqb (arity k) 0) ≡ isKind k
-unfolding arity isKind
-kind-placed H = refl
-kind-placed X = refl
-kind-placed Z = refl
-kind-placed S = refl
-kind-placed Sdg = refl
-kind-placed T = refl
-kind-placed Tdg = refl
-kind-placed Cx = refl
-kind-placed Cz = refl
-kind-placed Ccx = refl
-kind-placed Ccz = refl
-kind-placed Y = refl
-kind-placed Sx = refl
-kind-placed Swap = refl
-kind-placed Cy = refl
-kind-placed Ch = refl
-kind-placed Cswap = refl
-kind-placed Other = refl
-
-pub kind-used : (k : Kind) → isKind k ≡ true → 0 < arity k
-kind-used k h = let e = eqb-false (arity k) 0 (not-true (eqb (arity k) 0) (kind-placed k ∙ h)) in omega arith
-
--- a kind has at most three operands, and wants at most three in rising order
-pub arity-most : (k : Kind) → (arity k ≤ 3) × (sorted k ≤ 3)
-unfolding arity sorted
-arity-most H = (omega arith, omega arith)
-arity-most X = (omega arith, omega arith)
-arity-most Z = (omega arith, omega arith)
-arity-most S = (omega arith, omega arith)
-arity-most Sdg = (omega arith, omega arith)
-arity-most T = (omega arith, omega arith)
-arity-most Tdg = (omega arith, omega arith)
-arity-most Cx = (omega arith, omega arith)
-arity-most Cz = (omega arith, omega arith)
-arity-most Ccx = (omega arith, omega arith)
-arity-most Ccz = (omega arith, omega arith)
-arity-most Y = (omega arith, omega arith)
-arity-most Sx = (omega arith, omega arith)
-arity-most Swap = (omega arith, omega arith)
-arity-most Cy = (omega arith, omega arith)
-arity-most Ch = (omega arith, omega arith)
-arity-most Cswap = (omega arith, omega arith)
-arity-most Other = (omega arith, omega arith)
-
 -- a kind's number is its place
 pub kind-number : (k : Kind) → kindAt (number k) ≡ k
 unfolding kindAt number
@@ -108,7 +61,18 @@ kind-number Ch = refl
 kind-number Cswap = refl
 kind-number Other = refl
 
--- the kinds of tables are those below 12
+-- a test that every place of `kinds` passes is passed by every kind
+pub every-kind : (t : Kind → Bool) → all (λ i. t (kindAt i)) (range 0 27) ≡ true → (k : Kind) → t k ≡ true
+unfolding kindAt
+every-kind t h k = by (decLt (number k) 27)
+  where
+    at-place : (i : ℕ) → i < 27 → t (kindAt i) ≡ true
+    at-place i q = all-range (λ i. t (kindAt i)) 27 0 h i (omega arith) (omega arith)
+
+    by : Dec (number k < 27) → t k ≡ true
+    by (yes q) = sym (ap t (kind-number k)) ∙ at-place (number k) q
+    by (no q) = sym (ap t (kind-number k)) ∙ ap t (kind-past (number k) (omega arith)) ∙ at-place 7 (omega arith)
+
 abbrev told-alike : Bool → Bool → Bool
 told-alike true b = b
 told-alike false b = not b
@@ -119,6 +83,22 @@ alike true false h = sym h
 alike false true h = h
 alike false false h = refl
 
+-- the kinds are those with an operand
+pub kind-placed : (k : Kind) → not (eqb (arity k) 0) ≡ isKind k
+unfolding all range kindAt arity isKind
+kind-placed k = alike _ _ (every-kind (λ k. told-alike (not (eqb (arity k) 0)) (isKind k)) refl k)
+
+pub kind-used : (k : Kind) → isKind k ≡ true → 0 < arity k
+kind-used k h = let e = eqb-false (arity k) 0 (not-true (eqb (arity k) 0) (kind-placed k ∙ h)) in omega arith
+
+-- a kind has at most three operands, and wants at most three in rising order
+pub arity-most : (k : Kind) → (arity k ≤ 3) × (sorted k ≤ 3)
+unfolding all range kindAt arity sorted
+arity-most k =
+    let t = both-true (leb (arity k) 3) (leb (sorted k) 3) (every-kind (λ k. leb (arity k) 3 && leb (sorted k) 3) refl k) in
+    (leb-true (arity k) 3 (t .0), leb-true (sorted k) 3 (t .1))
+
+-- the kinds of tables are those below 12
 computed : all (λ k. told-alike (ofTables (kindAt k)) (ltb k 12 && isKind (kindAt k))) (range 0 27) ≡ true
 unfolding all range ofTables isKind kindAt
 computed = refl

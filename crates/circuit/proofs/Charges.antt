@@ -1,34 +1,21 @@
 -- The T charge of a list, gate by gate. Assumes nothing.
-use mathlib.Core.Path.{_≡_, ap}
+use mathlib.Core.Path.{_≡_, refl, ap}
 use mathlib.Core.List.{List, [], _∷_}
 use Prim.Native.Nat.{ℕ, suc, _+_, _*_, _≤_, _<_}
 use native.Mathlib.Omega.{arith}
+use borrow.Author.Tests.{leb-true}
+use lib.Dec.{leb}
 use lib.ListN.{length, getD, drop}
 use lib.Seq.{drop-cons}
-use Rattle.circuit.specs.Kinds.{Kind, H, X, Z, S, Sdg, T, Tdg, Cx, Cz, Ccx, Ccz, Y, Sx, Swap, Cy, Ch, Cswap, Other}
+use Rattle.ints.specs.Lists.{all, range}
+use Rattle.circuit.specs.Kinds.{Kind, kindAt}
 use Rattle.circuit.specs.Codes.{kindOf}
 use Rattle.circuit.specs.Charge.{kindCharge, charge}
+use Rattle.circuit.proofs.ByNumber.{every-kind}
 
 kind-most : (k : Kind) → kindCharge k ≤ 7
-unfolding kindCharge
-kind-most H = omega arith
-kind-most X = omega arith
-kind-most Z = omega arith
-kind-most S = omega arith
-kind-most Sdg = omega arith
-kind-most T = omega arith
-kind-most Tdg = omega arith
-kind-most Cx = omega arith
-kind-most Cz = omega arith
-kind-most Ccx = omega arith
-kind-most Ccz = omega arith
-kind-most Y = omega arith
-kind-most Sx = omega arith
-kind-most Swap = omega arith
-kind-most Cy = omega arith
-kind-most Ch = omega arith
-kind-most Cswap = omega arith
-kind-most Other = omega arith
+unfolding all range kindAt kindCharge
+kind-most k = leb-true (kindCharge k) 7 (every-kind (λ k. leb (kindCharge k) 7) refl k)
 
 -- no more than seven for each gate
 pub charge-most : (gs : List ℕ) → charge gs ≤ 7 * length gs

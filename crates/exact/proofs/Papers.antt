@@ -55,7 +55,7 @@ module _ (g : Single) (ks : List ℕ) (t r : ℕ) where
       (λ s q e f. ap (λ (z : Zω). mulω z (v s)) (elsewhere s e f) ∙ zero-mul (v s))
       ∙ (λ i. addω (mulω (own i) (v r)) (mulω (across i) (v (flip t r))))
 
--- ---- the three kinds of row operation
+-- ---- the three row operations, and those that come one after the other
 
 one-zero : (x y : Zω) → addω (mulω oneω x) (mulω zeroω y) ≡ x
 one-zero x y = (λ i. addω (one-mul x i) (zero-mul y i)) ∙ add-zero x
@@ -208,10 +208,10 @@ paper-nothing n x = multiply-identity n x
 
 -- ---- the gate of a code
 
--- each kind's row operation is the product with the paper's matrix, on any operands that are bits of the width, the target no control
-pub paper-kind : (n : ℕ) (k : Kind) (a b c : ℕ) (x : Exact) → Proper n (gate n k a b c) → AllDiffer (map (bitOf n) (take (arity k) (a ∷ b ∷ c ∷ [])))
+-- each kind's row operations are the product with the paper's matrix, on any operands that are bits of the width, the target no control; of Cswap
+-- the control is none of the pair, of which `Proper` has only one half
+pub paper-kind : (n : ℕ) (k : Kind) (a b c : ℕ) (x : Exact) → Proper n (gate n k a b c) → (k ≡ Cswap → bitOf n b ≡ bitOf n a → ⊥)
     → Equal n (multiply n (paperGate n k a b c) x) (raw (gate n k a b c) x)
-unfolding arity
 paper-kind n H a b c x w d = paper-had n (bitOf n a) x (w .0) []
 paper-kind n X a b c x w d = paper-exchange n (bitOf n a) x (w .0) []
 paper-kind n Z a b c x w d = paper-phase n (bitOf n a) x (w .0) [] 4
@@ -225,21 +225,23 @@ paper-kind n Ccx a b c x w d = paper-exchange n (bitOf n c) x (w .0) (bitOf n a 
 paper-kind n Ccz a b c x w d = paper-phase n (bitOf n c) x (w .1 .1 .0) (bitOf n a ∷ bitOf n b ∷ []) 4
 paper-kind n Y a b c x w d = paper-y n (bitOf n a) x (w .0 .0) []
 paper-kind n Sx a b c x w d = paper-root n (bitOf n a) x (w .0 .0)
-paper-kind n Swap a b c x w d = paper-swap n [] (bitOf n a) (bitOf n b) x (w .0 .0) (w .1 .0 .0) (d .0 .0) tt
+paper-kind n Swap a b c x w d = paper-swap n [] (bitOf n a) (bitOf n b) x (w .0 .0) (w .1 .0 .0) (w .0 .2 .0) tt
 paper-kind n Cy a b c x w d = paper-y n (bitOf n b) x (w .0 .0) (bitOf n a ∷ [])
 paper-kind n Ch a b c x w d = paper-had n (bitOf n b) x (w .0) (bitOf n a ∷ [])
 paper-kind n Cswap a b c x w d =
-    paper-swap n (bitOf n a ∷ []) (bitOf n b) (bitOf n c) x (w .0 .0) (w .1 .0 .0) (d .1 .0 .0) (λ e. d .0 .0 (sym e), tt)
+    paper-swap n (bitOf n a ∷ []) (bitOf n b) (bitOf n c) x (w .0 .0) (w .1 .0 .0) (w .0 .2 .0) (λ e. d refl (sym e), tt)
 paper-kind n Other a b c x w d = paper-nothing n x
 
 pub paper-gate : (n g : ℕ) (x : Exact) → Equal n (multiply n (paperOf n g) x) (raw (gateOf n g) x)
-unfolding paperOf gateOf
+unfolding paperOf gateOf arity
 paper-gate n g x = by (valid n g) refl (proper n g)
   where
     by : (v : Bool) → valid n g ≡ v → Proper n (pick v (gate n (kindOf g) (first g) (second g) (third g)) (phase [] 0))
         → Equal n (multiply n (pick v (paperGate n (kindOf g) (first g) (second g) (third g)) identity) x)
         (raw (pick v (gate n (kindOf g) (first g) (second g) (third g)) (phase [] 0)) x)
-    by true v w = paper-kind n (kindOf g) (first g) (second g) (third g) x w (differ n g v)
+    by true v w =
+        paper-kind n (kindOf g) (first g) (second g) (third g) x w
+        (λ e. subst (λ (k : Kind). AllDiffer (map (bitOf n) (take (arity k) (first g ∷ second g ∷ third g ∷ [])))) e (differ n g v) .0 .0)
     by false v w = paper-nothing n x
 
 paper-after : (n : ℕ) (l : List ℕ) {x y : Exact} → SameValue n x y → SameValue n (paperAfter n x l) (after n y l)
@@ -252,3 +254,14 @@ paper-after n (g ∷ l) {x} {y} s =
 pub paper-value : (n : ℕ) (l : List ℕ) → SameValue n (paperProduct n l) (product n l)
 unfolding product
 paper-value n l = paper-after n l (same-refl n identity)
+
+-- the pair of Swap and of Cswap may stand in either order: it is one matrix
+differs-comm : (a b : Bool) → differs a b ≡ differs b a
+differs-comm true true = refl
+differs-comm true false = refl
+differs-comm false true = refl
+differs-comm false false = refl
+
+pub swapped-either : (ks : List ℕ) (j k r : ℕ) → swapped ks j k r ≡ swapped ks k j r
+unfolding swapped
+swapped-either ks j k r = λ i. pick (ones ks r && differs-comm (bit r j) (bit r k) i) (flip-comm j k r i) r

@@ -56,8 +56,8 @@ stepsFrom n x (g ∷ l) = pick (stepFits n (gateOf n g) x) (next (stepsFrom n (a
 unfoldable pub steps : ℕ → List ℕ → Steps
 steps n l = stepsFrom n identity l
 
--- the step by gate j of a list, taken from the product of those before it, keeps every raw coefficient within the limit; where it does not, it
--- passes the limit. The exponent plays no part here (SPECIFICATION 8.2)
+-- the step by gate j of a list, taken from the product of those before it, keeps every raw coefficient of each of its row operations within the
+-- limit; where it does not, it passes the limit. The exponent plays no part here (SPECIFICATION 8.2)
 unfoldable pub stepWithin : ℕ → List ℕ → ℕ → Bool
 stepWithin n l j = within n (gateOf n (getD l j 0)) (product n (take j l))
 

@@ -43,11 +43,12 @@ raise (exchange ks j) k = k
 raise (had ks j) k = suc k
 raise (then g h) k = raise h (raise g k)
 
--- the raw result: the row operation, before lowering (SPECIFICATION 3.2)
+-- the row operations, without lowering (SPECIFICATION 3.2); of one operation it is the raw result. What fits is said of each operation by itself,
+-- in Fits.antt
 abbrev pub raw : Gate → Exact → Exact
 raw g x = record { k = raise g (x .k); e = λ r c. column g (λ s. x .e s c) r }
 
--- a step: the row operation, then lowering (SPECIFICATION 3.3)
+-- a step: the row operations, then lowering (SPECIFICATION 3.3)
 abbrev pub act : ℕ → Gate → Exact → Exact
 act n g x = lower n (raw g x)
 

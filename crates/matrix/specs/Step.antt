@@ -40,7 +40,7 @@ toldApplied (Done k) = given k
 toldApplied DoesNotFit = refused doesNotFit 0
 
 -- what a step by the gate g leaves: its exact result, with the exponent told, or, where it does not fit, what its row operations before the first
--- that does not fit have made; of a gate of one operation, and so of all but Sx, that is the matrix as it was
+-- that does not fit have made; of a gate of one operation that is the matrix as it was, and of the others only Sx can fail to fit
 abbrev pub Left : (n k : ℕ) → Gate → List ℤ → List ℤ → Applied → Type 0
 Left n k g l l′ (Done j) = Holds n j l′ (act n g (held n k l))
 Left n k g l l′ DoesNotFit = Holds n (made n g (held n k l) .k) l′ (made n g (held n k l))

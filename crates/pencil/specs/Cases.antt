@@ -13,7 +13,7 @@ use Rattle.circuit.specs.Sets.{supported}
 use Rattle.circuit.specs.Codes.{valid, validFor}
 use Rattle.generators.specs.Generators.{generators}
 use Rattle.exact.specs.Matrix.{Exact}
-use Rattle.exact.specs.Rows.{gateOf}
+use Rattle.exact.specs.Rows.{act, gateOf}
 use Rattle.exact.specs.Lists.{product}
 use Rattle.exact.specs.Fits.{stepFits}
 use Rattle.exact.specs.Phase.{flat, phaseOf}
@@ -96,11 +96,19 @@ cases =
     is matrix 1 (sqrt2 oneω ∷ zeroω ∷ zeroω ∷ zeroω ∷ zeroω ∷ sqrt2 oneω ∷ zeroω ∷ zeroω ∷ row (pos 0) (pos 0) (pos 1) (pos 1) (row (pos 0) (pos 0) (pos 1) (negsuc 0) [])))
     ∷ (shown 2 (product 2 (77840 ∷ []))
     is matrix 0 (row (pos 1) (pos 0) (pos 0) (pos 0) (row (pos 0) (pos 0) (pos 1) (pos 0) (row (pos 0) (pos 1) (pos 0) (pos 0) (row (pos 0) (pos 0) (pos 0) (pos 1) [])))))
+    -- at width 3 Cswap, 106514, with control 0 and the pair 1 and 2: rows 5 and 6 change places, row 1, whose control is 0, stays
+    ∷ (element (product 3 (106514 ∷ []) .e 5 6) is element oneω)
+    ∷ (element (product 3 (106514 ∷ []) .e 6 5) is element oneω)
+    ∷ (element (product 3 (106514 ∷ []) .e 1 1) is element oneω)
     -- Swap and Cswap take their pair in either order (SPECIFICATION 2.4)
     ∷ (test (valid 2 77840) is test true)
     ∷ (test (valid 2 78080) is test true)
     ∷ (test (valid 3 106514) is test true)
     ∷ (test (valid 3 106529) is test true)
+    -- and a control may be above its target: Cy 1 0, Ch 1 0, Cswap 2 0 1
+    ∷ (test (valid 2 82176) is test true)
+    ∷ (test (valid 2 102656) is test true)
+    ∷ (test (valid 3 107009) is test true)
     -- Ch is valid for no basis, not even for one with its bit (SPECIFICATION 2.5)
     ∷ (test (validFor 2 33554432 102416) is test false)
     -- what fits (SPECIFICATION 3.4). Of Ch a row without its control counts: √2 times it may be 127, and may not be 128. H, 0, takes the same
@@ -112,6 +120,9 @@ cases =
     ∷ (test (stepFits 1 (gateOf 1 0) (square (int (pos 64)) (int (pos 1)) (mk (pos 63) (pos 0) (pos 1) (pos 0)) zeroω)) is test true)
     ∷ (test (stepFits 1 (gateOf 1 65536) (square (int (pos 64)) (int (pos 1)) (mk (pos 63) (pos 0) (pos 1) (pos 0)) zeroω)) is test false)
     ∷ (test (stepFits 1 (gateOf 1 65536) (square (int (pos 64)) (int (pos 1)) (mk (pos 63) (pos 0) (pos 0) (pos 0)) zeroω)) is test true)
+    -- and where the first comes to 128 Sx does not fit, though lowered it would be within the limit, and the second H after it too
+    ∷ (test (stepFits 1 (gateOf 1 65536) (square (int (pos 64)) zeroω (int (pos 64)) zeroω)) is test false)
+    ∷ (test (stepFits 1 (gateOf 1 0) (act 1 (gateOf 1 0) (square (int (pos 64)) zeroω (int (pos 64)) zeroω))) is test true)
     -- Cz on qubits 0 and 1 in rising order is valid, in the other order it is not (SPECIFICATION 2.1, 2.4)
     ∷ (test (valid 2 36880) is test true)
     ∷ (answer (listed 2 (37120 ∷ []) (replicate (byteCount 2) (pos 0)) .answer) is answer (e.refused 7 0))

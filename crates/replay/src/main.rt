@@ -28,12 +28,12 @@ fn line_end() {
     io::write_all(STDOUT_FILENO, b"\n");
 }
 
-// `codes N` and every code of a table's kinds that is valid at width N; the library is asked about all numbers below 49152.
+// `codes N` and every code that is valid at width N; the library is asked about all numbers below 114688, which is past the last kind.
 fn codes_line(width: u32) {
     io::write_all(STDOUT_FILENO, b"codes");
     spaced(width);
     let mut code: u32 = 0;
-    while code < 49152 {
+    while code < 114688 {
         if LibraryGate(code).is_valid(width) {
             spaced(code);
         }
@@ -44,7 +44,7 @@ fn codes_line(width: u32) {
 
 // `valid N K` and the validity of every code of the kind whose unused operands are 0, one step apart.
 fn valid_line(width: u32, kind: u32, step: u32)
-    requires { ⌜ (kind < 12) × (0 < step) × (step ≤ 256) ⌝ }
+    requires { ⌜ (kind < 27) × (0 < step) × (step ≤ 256) ⌝ }
 {
     io::write_all(STDOUT_FILENO, b"valid");
     spaced(width);
@@ -59,27 +59,21 @@ fn valid_line(width: u32, kind: u32, step: u32)
     line_end();
 }
 
-// One used operand, two, three.
+// One used operand, two, three; no line for a number that is no kind of a list.
 fn valid_kind(width: u32, kind: u32)
-    requires { ⌜ kind < 12 ⌝ }
+    requires { ⌜ kind < 27 ⌝ }
 {
-    if kind < 7 {
-        valid_line(width, kind, 256);
-        return;
+    match kind {
+        0 | 1 | 2 | 3 | 4 | 5 | 6 | 15 | 16 => valid_line(width, kind, 256),
+        8 | 9 | 19 | 20 | 25 => valid_line(width, kind, 16),
+        10 | 11 | 26 => valid_line(width, kind, 1),
+        _ => {}
     }
-    if kind < 8 {
-        return;
-    }
-    if kind < 10 {
-        valid_line(width, kind, 16);
-        return;
-    }
-    valid_line(width, kind, 1);
 }
 
 fn valid_lines(width: u32) {
     let mut kind: u32 = 0;
-    while kind < 12 {
+    while kind < 27 {
         valid_kind(width, kind);
         kind += 1;
     }

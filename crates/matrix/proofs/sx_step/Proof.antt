@@ -32,7 +32,7 @@ h-step-requires-2 : tie.Need-h-step-requires-2
 h-step-requires-2 c κs =
     let p = c .before .before .before .before .before .before .before .before .before .pre in
     let w = ready-next (at-answer (c .before .before .before .before .j .given .1) (c .before .before .before .before .before .before .h-step .ensures .by [] mask-none (last (p .0 .1)))) in
-    (p .0, (none-apart (c .before .before .before .before .before .before .before .before .before .args .t), ready-next (turned-one (omega arith) w 2 _ (c .before .before .before .before .before .before .before .before .mask .ensures) (c .before .apply-phase-left .ensures))))
+    (p .0, (none-apart (c .before .before .before .before .before .before .before .before .before .args .t), ready-next (turned-one (omega arith) w _ _ (c .before .before .before .before .before .before .before .before .mask .ensures) (c .before .apply-phase-left .ensures))))
 
 returns : tie.Need-returns
 returns c =

@@ -14,7 +14,7 @@ apply-phase-left-requires-2 : tie.Need-apply-phase-left-requires-2
 apply-phase-left-requires-2 c κs =
     let p = c .before .before .before .before .before .before .pre in
     let g = c .before .apply-controlled-x-left .ensures in
-    (g .0, (p .0 .0, exchanged-small _ _ _ (p .0 .1) g (turned-one (omega arith) (p .1 .1) 6 _ (c .before .before .before .before .before .mask .ensures) (c .before .before .before .apply-phase-left .ensures) .left .small)))
+    (g .0, (p .0 .0, exchanged-small _ _ _ (p .0 .1) g (turned-one (omega arith) (p .1 .1) _ _ (c .before .before .before .before .before .mask .ensures) (c .before .before .before .apply-phase-left .ensures) .left .small)))
 
 returns : tie.Need-returns
 returns c =

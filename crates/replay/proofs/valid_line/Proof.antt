@@ -5,10 +5,10 @@ use Rattle.replay.proofs.valid_line.Statement.{statement}
 use Rattle.replay.proofs.valid_line.Tie as tie
 
 abbrev Inv-loop : tie.InvT-loop
-Inv-loop width kind step end code₀ code = (code ≤ 49408) × (end ≤ 49152)
+Inv-loop width kind step end code₀ code = (code ≤ 110848) × (end ≤ 110592)
 
 abbrev μ-loop : tie.MeasureT-loop
-μ-loop width kind step end code₀ code = 49408 - code
+μ-loop width kind step end code₀ code = 110848 - code
 
 pub valid-line-spec : {M : Type 1} → statement M
 valid-line-spec =

@@ -143,6 +143,7 @@ pub(super) fn values(table: &Table, place: Place, strangers: &[u64]) -> Vec<u64>
                 4095,
                 4096,
                 old | 128,
+                old | 1 << 25,
                 old | 1 << 31,
                 old & (old - 1),
                 old ^ 32,
@@ -182,11 +183,13 @@ pub(super) fn values(table: &Table, place: Place, strangers: &[u64]) -> Vec<u64>
 }
 
 /// Codes of each kind, some valid at the width; operands that are too large,
-/// equal, out of order or not used; kinds that are none; bits above.
+/// equal, out of order or not used; kinds that are none, or that only lists
+/// have; bits above.
 fn wrong_codes(old: u32, width: u32) -> Vec<u32> {
     let mut codes: Vec<u32> = (0..8).map(|kind| kind * 4096).collect();
     codes.extend([0x8010, 0x8100, 0x9010, 0x9100, 0x9000, 0xa012, 0xa102]);
     codes.extend([0xa021, 0xb012, 0xb021, 0xb000, 0xc000, 0xf000]);
+    codes.extend([0x10000, 0x13010, 0x14010, 0x19010, 0x1a012]);
     codes.extend([width * 256, 0x8000 + width * 16, 0xa010 + width]);
     codes.extend([old.wrapping_add(1), old ^ 16, old ^ 256, old ^ 1 << 16]);
     codes.extend([old ^ 1 << 31, 4294963200, 4294967294, 4294967295]);

@@ -7,11 +7,11 @@ use std::io::{self, Write};
 use std::time::{Duration, Instant};
 
 use super::bench_tables;
-use super::codes::{code_of, kinds};
+use super::codes::{FURTHER, code_of, kinds, list_codes_of, list_gate, valid_gate};
 use super::lists::Parts;
 use super::port;
 use super::random::Random;
-use crate::circuit::GateSet;
+use crate::circuit::{Gate, GateSet, Qubit};
 use crate::super_opt::SUPPORTED_GATE_SET;
 use crate::super_opt::matrix::{UnitaryMatrix, unitary_fingerprint};
 use crate::super_opt::murm::{LibraryGate, library_circuit_matrix, library_gates};
@@ -29,8 +29,8 @@ const ROUND: Duration = Duration::from_micros(500);
 const WHOLE: Duration = Duration::from_secs(5);
 
 /// One list on both sides, with the matrix that it gives.
-struct Case {
-    gates: Vec<LibraryGate>,
+struct Case<G> {
+    gates: Vec<G>,
     codes: Vec<u32>,
     matrix: UnitaryMatrix,
     exponent: u16,
@@ -59,7 +59,8 @@ fn time_all(by_kind: bool, out: &mut dyn Write) -> io::Result<()> {
             writeln!(out, "{width} {work} {original:.0} {port:.0} {ratio:.2}")
         };
         let cases = cases(width, SUPPORTED_GATE_SET);
-        write("gates", LISTS * GATES, time_lists(width, &cases))?;
+        let times = time_lists(width, &cases, library_matrix);
+        write("gates", LISTS * GATES, times)?;
         write(
             "fingerprints",
             LISTS,
@@ -73,7 +74,15 @@ fn time_all(by_kind: bool, out: &mut dyn Write) -> io::Result<()> {
         for kind in kinds().filter(|_| by_kind) {
             let set = GateSet::from_bits_const(1 << kind as u32);
             if !library_gates(width, set).is_empty() {
-                let times = time_lists(width, &self::cases(width, set));
+                let times = time_lists(width, &self::cases(width, set), library_matrix);
+                write(kind.name(), LISTS * GATES, times)?;
+            }
+        }
+        for kind in FURTHER.into_iter().filter(|_| by_kind) {
+            let codes = list_codes_of(kind, width);
+            if !codes.is_empty() {
+                let cases = cases_of(width, &codes, list_gate, gate_matrix);
+                let times = time_lists(width, &cases, gate_matrix);
                 write(kind.name(), LISTS * GATES, times)?;
             }
         }
@@ -83,17 +92,30 @@ fn time_all(by_kind: bool, out: &mut dyn Write) -> io::Result<()> {
 }
 
 /// Random lists of a basis that fit, on which both say the same.
-fn cases(width: usize, basis: GateSet) -> Vec<Case> {
+fn cases(width: usize, basis: GateSet) -> Vec<Case<LibraryGate>> {
+    let generators = library_gates(width, basis).into_iter().map(code_of);
+    let generators: Vec<u32> = generators.collect();
+    cases_of(width, &generators, valid_gate, library_matrix)
+}
+
+/// The same of these codes.
+fn cases_of<G>(
+    width: usize,
+    generators: &[u32],
+    gate: fn(u32, usize) -> Option<G>,
+    matrix: fn(usize, &[G]) -> Option<UnitaryMatrix>,
+) -> Vec<Case<G>> {
     let mut random = Random::new(1000 + width as u64);
-    let generators = library_gates(width, basis);
     let mut cases = Vec::new();
     while cases.len() < LISTS {
-        let gates: Vec<LibraryGate> = (0..GATES).map(|_| random.one_of(&generators)).collect();
-        if let Ok(Some(matrix)) = library_circuit_matrix(width, &gates) {
+        let codes: Vec<u32> = (0..GATES).map(|_| random.one_of(generators)).collect();
+        let gate = |&code: &u32| gate(code, width).expect("a valid code");
+        let gates: Vec<G> = codes.iter().map(gate).collect();
+        if let Some(matrix) = matrix(width, &gates) {
             let parts = Parts::of(&matrix);
             let case = Case {
-                codes: gates.iter().copied().map(code_of).collect(),
                 gates,
+                codes,
                 matrix,
                 exponent: parts.exponent,
                 coefficients: parts.coefficients,
@@ -105,8 +127,24 @@ fn cases(width: usize, basis: GateSet) -> Vec<Case> {
     cases
 }
 
+/// The original's matrix of a list of library gates.
+fn library_matrix(width: usize, gates: &[LibraryGate]) -> Option<UnitaryMatrix> {
+    library_circuit_matrix(width, gates).expect("the width is small")
+}
+
+/// The same of any gates, with the original's steps in a loop like that of
+/// `library_circuit_matrix`.
+fn gate_matrix(width: usize, gates: &[Gate]) -> Option<UnitaryMatrix> {
+    let support: Vec<Qubit> = (0..width as Qubit).collect();
+    let mut matrix = UnitaryMatrix::identity(width).expect("the width is small");
+    for gate in gates {
+        matrix.apply_gate_left(gate, &support).ok()?;
+    }
+    Some(matrix)
+}
+
 /// The port must say the same as the original, or its time means nothing.
-fn check(width: usize, case: &Case) {
+fn check<G>(width: usize, case: &Case<G>) {
     let mut out = vec![0; case.coefficients.len()];
     let exponent = port::list(width, &case.codes, &mut out);
     assert_eq!(exponent, Some(case.exponent), "exponent");
@@ -139,12 +177,16 @@ pub(super) fn race(mut original: impl FnMut(), mut port: impl FnMut()) -> (f64, 
     least
 }
 
-fn time_lists(width: usize, cases: &[Case]) -> (f64, f64) {
+fn time_lists<G>(
+    width: usize,
+    cases: &[Case<G>],
+    matrix: impl Fn(usize, &[G]) -> Option<UnitaryMatrix>,
+) -> (f64, f64) {
     let mut out = vec![0; 4 << (2 * width)];
     race(
         || {
             for case in cases {
-                let _ = black_box(library_circuit_matrix(width, black_box(&case.gates)));
+                let _ = black_box(matrix(width, black_box(&case.gates)));
             }
         },
         || {
@@ -155,9 +197,9 @@ fn time_lists(width: usize, cases: &[Case]) -> (f64, f64) {
     )
 }
 
-fn time_fingerprints(
+fn time_fingerprints<G>(
     width: usize,
-    cases: &[Case],
+    cases: &[Case<G>],
     port: fn(usize, u16, &[i8]) -> u64,
 ) -> (f64, f64) {
     race(

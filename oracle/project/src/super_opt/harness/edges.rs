@@ -15,7 +15,7 @@ const WALKS: usize = 4000;
 
 /// What an H comes to. The last three are refused.
 #[derive(Clone, Copy, PartialEq)]
-enum Edge {
+pub(super) enum Edge {
     /// 127 and nothing larger, and not -127.
     Reaches,
     /// -127 and nothing smaller, and not 127.
@@ -28,7 +28,7 @@ enum Edge {
     FitsLowered,
 }
 
-const EDGES: [Edge; 5] = [
+pub(super) const EDGES: [Edge; 5] = [
     Edge::Reaches,
     Edge::ReachesBelow,
     Edge::Passes,
@@ -134,7 +134,7 @@ impl Found {
             return;
         }
         for qubit in 0..width as u8 {
-            let Some(edge) = edge_of(&sums(&parts.coefficients, width, qubit)) else {
+            let Some(edge) = edge_of(&sums(&parts.coefficients, width, qubit, |_| true)) else {
                 continue;
             };
             let refused = !matches!(edge, Edge::Reaches | Edge::ReachesBelow);
@@ -149,7 +149,7 @@ impl Found {
 }
 
 /// What an H comes to that forms these sums, where it is one of the edges.
-fn edge_of(raw: &[i16]) -> Option<Edge> {
+pub(super) fn edge_of(raw: &[i16]) -> Option<Edge> {
     let most = *raw.iter().max()?;
     let least = *raw.iter().min()?;
     match (most, least) {
@@ -165,12 +165,17 @@ fn edge_of(raw: &[i16]) -> Option<Edge> {
 }
 
 /// The coefficients of all sums and differences of rows that differ in the
-/// qubit's bit.
-fn sums(coefficients: &[i8], width: usize, qubit: u8) -> Vec<i16> {
+/// qubit's bit, of those rows that are taken.
+pub(super) fn sums(
+    coefficients: &[i8],
+    width: usize,
+    qubit: u8,
+    taken: impl Fn(usize) -> bool,
+) -> Vec<i16> {
     let places = 4 << width;
     let bit = 1 << (width - 1 - usize::from(qubit));
     let mut raw = Vec::new();
-    for row in (0..1 << width).filter(|row| row & bit == 0) {
+    for row in (0..1 << width).filter(|&row| row & bit == 0 && taken(row)) {
         let of = |row: usize| {
             let row = &coefficients[row * places..(row + 1) * places];
             row.iter().map(|&coefficient| i16::from(coefficient))
@@ -181,6 +186,6 @@ fn sums(coefficients: &[i8], width: usize, qubit: u8) -> Vec<i16> {
     raw
 }
 
-fn divisible(entry: &[i16]) -> bool {
+pub(super) fn divisible(entry: &[i16]) -> bool {
     (entry[0] + entry[2]) % 2 == 0 && (entry[1] + entry[3]) % 2 == 0
 }

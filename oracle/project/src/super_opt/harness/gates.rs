@@ -1,9 +1,9 @@
-//! Mode `gates`: validity, qubits, inverses, disjointness and order of the
-//! library gates, and the generators of every basis.
+//! Mode `gates`: validity of the gates that lists may have; qubits, inverses,
+//! disjointness and order of the library gates; the generators of every basis.
 
 use std::io::{self, Write};
 
-use super::codes::{code_of, gates_of, kinds, valid_gates};
+use super::codes::{code_of, codes_of, list_codes, list_gate, list_kinds, valid_gates};
 use super::write_header;
 use crate::circuit::GateSet;
 use crate::super_opt::SUPPORTED_GATE_SET;
@@ -12,13 +12,11 @@ use crate::super_opt::murm::{LibraryGate, library_gates};
 pub(super) fn run(_: &[String], out: &mut dyn Write) -> io::Result<()> {
     write_header("gates", out)?;
     for width in 0..=5 {
-        writeln!(out, "codes {width}{}", codes(valid_gates(width)))?;
+        writeln!(out, "codes {width}{}", spaced(list_codes(width)))?;
     }
     for width in 0..=5 {
-        for kind in kinds() {
-            let valid = bits(gates_of(kind), |gate| {
-                gate.is_valid_for(width, SUPPORTED_GATE_SET)
-            });
+        for kind in list_kinds() {
+            let valid = bits(codes_of(kind), |code| list_gate(code, width).is_some());
             writeln!(out, "valid {width} {} {valid}", kind as u32)?;
         }
     }
@@ -31,29 +29,23 @@ pub(super) fn run(_: &[String], out: &mut dyn Write) -> io::Result<()> {
     write_pairs("lower", &gates, |gate, other| gate < other, out)?;
     for width in 1..=5 {
         for basis in bases() {
-            let generators = codes(library_gates(width, basis));
+            let generators = library_gates(width, basis).into_iter().map(code_of);
+            let generators = spaced(generators.collect());
             writeln!(out, "generators {width} {}{generators}", basis.bits())?;
         }
     }
     Ok(())
 }
 
-/// The codes of the gates in their order, a space before each.
-fn codes(gates: Vec<LibraryGate>) -> String {
-    gates
-        .into_iter()
-        .map(|gate| format!(" {}", code_of(gate)))
-        .collect()
+/// The codes in their order, a space before each.
+fn spaced(codes: Vec<u32>) -> String {
+    codes.iter().map(|code| format!(" {code}")).collect()
 }
 
-/// One character for each gate: 1 where `holds`, else 0.
-fn bits(
-    gates: impl IntoIterator<Item = LibraryGate>,
-    holds: impl Fn(LibraryGate) -> bool,
-) -> String {
-    gates
-        .into_iter()
-        .map(|gate| if holds(gate) { '1' } else { '0' })
+/// One character for each gate or code: 1 where `holds`, else 0.
+fn bits<T>(all: impl IntoIterator<Item = T>, holds: impl Fn(T) -> bool) -> String {
+    all.into_iter()
+        .map(|one| if holds(one) { '1' } else { '0' })
         .collect()
 }
 

@@ -1,13 +1,16 @@
 //! Mode `inputs`: the lists that port and original are compared on, as lines
 //! for the mode `list`. `inputs all` has every group whole; `inputs sample` has
 //! some of each; both end in damaged lines. The same lines come out in every
-//! run. `inputs tables all` and `inputs tables sample` are in `table_inputs`,
-//! `inputs circuits sample` and `inputs circuits part N` in `run_inputs`.
+//! run. The groups here are of the eleven kinds that tables have; those with the
+//! six further kinds are in `further`. `inputs tables all` and `inputs tables
+//! sample` are in `table_inputs`, `inputs circuits sample` and `inputs circuits
+//! part N` in `run_inputs`.
 
 use std::io::{self, Write};
 
 use super::codes::{code_of, valid_gates};
 use super::edges;
+use super::further;
 use super::lists::List;
 use super::random::Random;
 use super::run_inputs;
@@ -73,6 +76,14 @@ pub(super) fn run(arguments: &[String], out: &mut dyn Write) -> io::Result<()> {
             writeln!(out, "{}", list.line())?;
         }
     }
+    let further = if sample {
+        further::sample()
+    } else {
+        further::lists()
+    };
+    for list in further {
+        writeln!(out, "{}", list.line())?;
+    }
     writeln!(out, "list 1 257{}", " 0".repeat(257))?;
     write!(out, "{DAMAGED}")
 }
@@ -104,6 +115,7 @@ pub(super) fn list(width: usize, codes: Vec<u32>) -> List {
     List { width, codes }
 }
 
+/// The codes of the eleven kinds that are valid at the width.
 pub(super) fn valid_codes(width: usize) -> Vec<u32> {
     valid_gates(width).into_iter().map(code_of).collect()
 }
@@ -119,8 +131,8 @@ fn traps() -> Vec<List> {
     lists
 }
 
-/// Every list of valid codes: up to three gates at width 1, two at width 2, one
-/// at the other widths.
+/// Every list of valid codes of the eleven kinds: up to three gates at width 1,
+/// two at width 2, one at the other widths.
 fn short() -> Vec<List> {
     let mut lists = Vec::new();
     for (width, most) in [(0, 1), (1, 3), (2, 2), (3, 1), (4, 1), (5, 1)] {
@@ -159,7 +171,7 @@ fn single() -> Vec<List> {
 /// How the gates of a random list are chosen.
 #[derive(Clone, Copy)]
 enum Style {
-    /// Any valid code.
+    /// Any valid code of the eleven kinds.
     Any,
     /// So many H at random places, and anything else around them.
     WithH(usize),
@@ -227,13 +239,13 @@ fn random_codes(width: usize, style: Style, count: usize, random: &mut Random) -
     codes
 }
 
-/// Codes that are not valid at a width, each put at every place of a valid list;
-/// and two of them in one list, where the first is told.
+/// Codes that no library gate has at a width, each put at every place of a valid
+/// list; and two of them in one list, where the first that is not valid is told.
 fn invalid() -> Vec<List> {
     let mut random = Random::new(2);
     let mut lists = Vec::new();
     for width in 0..=5 {
-        let bad = invalid_codes(width);
+        let bad = foreign_codes(width);
         for &code in &bad {
             lists.push(list(width, vec![code]));
         }
@@ -258,7 +270,9 @@ fn invalid() -> Vec<List> {
     lists
 }
 
-pub(super) fn invalid_codes(width: usize) -> Vec<u32> {
+/// Codes that no library gate has at the width. Those of the kinds 15, 16 and 26
+/// may be valid in lists.
+pub(super) fn foreign_codes(width: usize) -> Vec<u32> {
     let valid = valid_codes(width);
     let n = width as u32;
     let kind = |kind: Kind| kind as u32 * 4096;

@@ -4,9 +4,9 @@
 use std::io::{self, Read, Write};
 use std::panic::{AssertUnwindSafe, catch_unwind};
 
-use super::codes::valid_gate;
+use super::codes::{list_gate, valid_gate};
 use super::inputs::MOST_GATES;
-use crate::circuit::Qubit;
+use crate::circuit::{Gate, Qubit};
 use crate::super_opt::matrix::{UnitaryMatrix, unitary_fingerprint};
 use crate::super_opt::murm::{LibraryGate, library_circuit_matrix};
 
@@ -14,6 +14,7 @@ use crate::super_opt::murm::{LibraryGate, library_circuit_matrix};
 pub(super) const MOST_WIDTH: u32 = 5;
 
 /// A line of standard input, `list WIDTH COUNT CODES..`.
+#[derive(Clone)]
 pub(super) struct List {
     pub(super) width: u32,
     pub(super) codes: Vec<u32>,
@@ -41,7 +42,7 @@ pub(super) fn line_answer(line: &str) -> String {
 }
 
 impl List {
-    fn parse(line: &str) -> Option<Self> {
+    pub(super) fn parse(line: &str) -> Option<Self> {
         Self::of_numbers(line.strip_prefix("list ")?)
     }
 
@@ -77,14 +78,23 @@ impl List {
         let width = self.width as usize;
         let mut gates = Vec::new();
         for (position, &code) in self.codes.iter().enumerate() {
-            match valid_gate(code, width) {
+            match list_gate(code, width) {
                 Some(gate) => gates.push(gate),
                 None => return Err(format!("refused 7 {position}")),
             }
         }
-        library_circuit_matrix(width, &gates)
-            .expect("the width is small")
-            .ok_or_else(|| format!("refused 8 {}", first_unfit(width, &gates)))
+        let product = product(width, &gates);
+        let of_library = |&code: &u32| valid_gate(code, width);
+        if let Some(gates) = self
+            .codes
+            .iter()
+            .map(of_library)
+            .collect::<Option<Vec<_>>>()
+        {
+            let matrix = library_circuit_matrix(width, &gates).expect("the width is small");
+            assert_eq!(matrix.as_ref(), product.as_ref().ok(), "library gates");
+        }
+        product.map_err(|(position, _)| format!("refused 8 {position}"))
     }
 }
 
@@ -119,18 +129,34 @@ fn told(matrix: &UnitaryMatrix) -> String {
     line
 }
 
-/// The position of the gate that does not fit. The original does not tell it,
-/// so its gates are applied one by one.
-fn first_unfit(width: usize, gates: &[LibraryGate]) -> usize {
+/// What the gates make of the identity; or the position of the first that does
+/// not fit, and the matrix before it. `library_circuit_matrix` does the same for
+/// library gates, but tells no position.
+pub(super) fn product(
+    width: usize,
+    gates: &[Gate],
+) -> Result<UnitaryMatrix, (usize, UnitaryMatrix)> {
+    let support: Vec<Qubit> = (0..width as Qubit).collect();
     let mut matrix = UnitaryMatrix::identity(width).expect("the width is small");
-    let unfit = |&gate: &LibraryGate| !apply(&mut matrix, gate);
-    gates.iter().position(unfit).expect("a gate does not fit")
+    let mut before = matrix.clone();
+    for (position, gate) in gates.iter().enumerate() {
+        before.copy_from(&matrix);
+        if matrix.apply_gate_left(gate, &support).is_err() {
+            return Err((position, before));
+        }
+    }
+    Ok(matrix)
+}
+
+/// Applies one library gate on the left; whether it fits.
+pub(super) fn apply(matrix: &mut UnitaryMatrix, gate: LibraryGate) -> bool {
+    apply_gate(matrix, &gate.to_gate())
 }
 
 /// Applies one gate on the left; whether it fits.
-pub(super) fn apply(matrix: &mut UnitaryMatrix, gate: LibraryGate) -> bool {
+pub(super) fn apply_gate(matrix: &mut UnitaryMatrix, gate: &Gate) -> bool {
     let support: Vec<Qubit> = (0..matrix.num_qubits() as Qubit).collect();
-    matrix.apply_gate_left(&gate.to_gate(), &support).is_ok()
+    matrix.apply_gate_left(gate, &support).is_ok()
 }
 
 /// The private parts of a matrix, out of its derived `Debug`.

@@ -12,6 +12,8 @@ mod codes;
 #[cfg(feature = "port")]
 mod damage;
 mod edges;
+mod further;
+mod further_edges;
 mod gates;
 mod inputs;
 mod lines;
@@ -20,6 +22,7 @@ mod lists;
 mod port;
 mod questions;
 mod random;
+mod refusals;
 #[cfg(feature = "port")]
 mod rules;
 mod run_inputs;
@@ -43,6 +46,7 @@ const MODES: &[(&str, Mode)] = &[
     ("inputs", inputs::run),
     ("lines", lines::run),
     ("list", lists::run),
+    ("refusals", refusals::run),
 ];
 
 /// Runs the mode that the arguments name. Ends with 2 when there is none such,

@@ -6,9 +6,10 @@
 use std::io::{self, Write};
 
 use super::circuits::{MOST_INPUT, PLACES, write_run};
-use super::codes::kinds;
+use super::codes::{FURTHER, kinds, list_codes_of};
 use super::edges;
-use super::inputs::{MOST_GATES, TRAP, evenly, invalid_codes, list, valid_codes};
+use super::further;
+use super::inputs::{MOST_GATES, TRAP, evenly, foreign_codes, list, valid_codes};
 use super::lists::{List, MOST_WIDTH};
 use super::random::Random;
 use super::run_queries::{Asker, trapped};
@@ -59,6 +60,11 @@ const ENDS: &str = concat!(
 const PART: usize = 400;
 const SAMPLE: usize = 60;
 
+/// From this part on the queries have the six kinds too that no table has; so
+/// have as many random runs of the recording.
+const FURTHER_FROM: u64 = 15;
+const FURTHER_SAMPLE: usize = 12;
+
 pub(super) fn write_sample(out: &mut dyn Write) -> io::Result<()> {
     let groups = [
         vec![WORKED.into()],
@@ -74,7 +80,10 @@ pub(super) fn write_sample(out: &mut dyn Write) -> io::Result<()> {
         pairs(),
         wide(),
         large(),
-        random_runs(0, SAMPLE, 60),
+        random_runs(0, SAMPLE, 60, false),
+        further_bases(),
+        further_queries(),
+        random_runs(1, FURTHER_SAMPLE, 60, true),
     ];
     for run in groups.concat() {
         write_run(&run, out)?;
@@ -83,7 +92,8 @@ pub(super) fn write_sample(out: &mut dyn Write) -> io::Result<()> {
 }
 
 pub(super) fn write_part(part: u64, out: &mut dyn Write) -> io::Result<()> {
-    for run in random_runs(1 + part, PART, PLACES as usize) {
+    let further = part >= FURTHER_FROM;
+    for run in random_runs(1 + part, PART, PLACES as usize, further) {
         write_run(&run, out)?;
     }
     Ok(())
@@ -264,7 +274,7 @@ fn not_valid() -> Vec<Run> {
     let mut random = Random::new(301);
     let mut runs = Vec::new();
     for width in 0..=MOST_WIDTH as usize {
-        let bad = invalid_codes(width);
+        let bad = foreign_codes(width);
         let mut lines: Vec<String> = evenly(bad.clone(), 40)
             .into_iter()
             .map(|code| list(width, vec![code]).numbers())
@@ -382,11 +392,17 @@ fn lengths() -> Vec<Run> {
 
 /// A table with some queries of each sort.
 fn asked(limits: [u32; 4], seed: u64, queries: usize) -> Run {
+    asked_as(limits, seed, queries, false)
+}
+
+/// The same, the six further kinds among the queries or not.
+fn asked_as(limits: [u32; 4], seed: u64, queries: usize, further: bool) -> Run {
     let limits = Limits::of(limits);
     let mut asker = Asker {
         limits,
         table: limits.build(),
         random: Random::new(seed),
+        further,
     };
     let lines: Vec<String> = (0..queries).map(|_| asker.query()).collect();
     run_of(limits, &lines)
@@ -447,8 +463,53 @@ fn large() -> Vec<Run> {
     ]
 }
 
+/// A basis with one of the six further kinds, alone and beside others.
+fn further_bases() -> Vec<Run> {
+    FURTHER
+        .iter()
+        .flat_map(|&kind| [1 << kind as u32, 24 | 1 << kind as u32])
+        .map(|basis| run_of(Limits::of([1, 8, 10, basis]), &["1 1 8192".into()]))
+        .collect()
+}
+
+/// Tables that have each of the six further kinds but Ch as a product, asked
+/// every gate of these kinds; codes of them that are not valid; and lists that
+/// come to the limit of 127 at an Sx or a Ch, or pass it.
+fn further_queries() -> Vec<Run> {
+    let mut runs = Vec::new();
+    for limits in [
+        [1, 8, 10, 6],
+        [1, 8, 24, 9],
+        [2, 8, 6, 256],
+        [2, 3, 120, 280],
+        [3, 3, 600, 1280],
+    ] {
+        let limits = Limits::of(limits);
+        let mut lines = Vec::new();
+        for width in 1..=limits.qubits as usize + 1 {
+            for code in FURTHER.map(|kind| list_codes_of(kind, width)).concat() {
+                lines.push(list(width, vec![code]).numbers());
+                lines.push(list(width, vec![code; 2]).numbers());
+            }
+        }
+        runs.push(run_of(limits, &lines));
+    }
+    let mut lines = Vec::new();
+    for width in 0..=MOST_WIDTH as usize {
+        for code in evenly(further::invalid_codes(width), 12) {
+            lines.push(list(width, vec![code]).numbers());
+        }
+    }
+    runs.push(run_of(Limits::of([2, 2, 9, 24]), &lines));
+    let lines: Vec<String> = further::some_edges().iter().map(List::numbers).collect();
+    for lines in lines.chunks(20) {
+        runs.push(run_of(Limits::of([2, 2, 9, 33]), lines));
+    }
+    runs
+}
+
 /// Random limits, mostly accepted, and random queries.
-fn random_runs(seed: u64, count: usize, places: usize) -> Vec<Run> {
+fn random_runs(seed: u64, count: usize, places: usize, further: bool) -> Vec<Run> {
     let mut random = Random::new(5000 + seed);
     (0..count as u64)
         .map(|number| {
@@ -459,7 +520,7 @@ fn random_runs(seed: u64, count: usize, places: usize) -> Vec<Run> {
             let gates = random.one_of(&[0, 1, 2, 3, 4, 5, 6, 8, 12, 20, 40, 64]);
             let limits = [qubits as u32, gates, entries as u32, basis(&mut random)];
             let queries = random.below(24);
-            let run = asked(limits, 100000 * (1 + seed) + number, queries);
+            let run = asked_as(limits, 100000 * (1 + seed) + number, queries, further);
             match random.below(8) {
                 0 => spoilt(run, &mut random),
                 _ => run,

@@ -1,7 +1,8 @@
 //! The queries of a run of the program `circuits`: lists as lines of numbers.
 
 use super::codes::{code_of, valid_gates};
-use super::inputs::{TRAP, invalid_codes, list};
+use super::further;
+use super::inputs::{TRAP, foreign_codes, list};
 use super::lists::{List, MOST_WIDTH};
 use super::random::Random;
 use super::tables::Limits;
@@ -13,6 +14,8 @@ pub(super) struct Asker {
     pub(super) limits: Limits,
     pub(super) table: Murm,
     pub(super) random: Random,
+    /// Whether every second query may have the six kinds that no table has.
+    pub(super) further: bool,
 }
 
 type Sort = fn(&mut Asker) -> List;
@@ -32,9 +35,24 @@ const SORTS: &[(Sort, usize)] = &[
     (Asker::trap, 1),
 ];
 
+/// The sorts of queries with the six kinds, each as likely.
+const FURTHER_SORTS: &[Sort] = &[
+    Asker::further_gate,
+    Asker::further_lengthened,
+    Asker::further_lengthened,
+    Asker::further_product,
+    Asker::further_product,
+    Asker::further_growing,
+    Asker::further_not_valid,
+];
+
 impl Asker {
     /// A query line, now and then a spoilt one.
     pub(super) fn query(&mut self) -> String {
+        if self.further && self.random.below(2) == 0 {
+            let sort = self.random.one_of(FURTHER_SORTS);
+            return sort(self).numbers();
+        }
         let mut choice = self.random.below(40);
         for (sort, share) in SORTS {
             if choice < *share {
@@ -142,10 +160,10 @@ impl Asker {
         wide
     }
 
-    /// One code of a product is not valid.
+    /// One code of a product is none of a library gate.
     fn not_valid(&mut self) -> List {
         let mut broken = self.foreign();
-        let bad = invalid_codes(broken.width as usize);
+        let bad = foreign_codes(broken.width as usize);
         let place = self.random.below(broken.codes.len() + 1);
         broken.codes.insert(place, self.random.one_of(&bad));
         broken
@@ -158,6 +176,44 @@ impl Asker {
         let trap = &traps[self.random.below(traps.len())];
         let before = vec![0; 2 * self.random.below(3)];
         list(self.width(), [&before, &trap[..]].concat())
+    }
+
+    /// One gate of the six kinds.
+    fn further_gate(&mut self) -> List {
+        let width = self.width();
+        list(width, vec![further::further_code(width, &mut self.random)])
+    }
+
+    /// The list of a node with one gate of the six kinds in it four times, which
+    /// is the identity.
+    fn further_lengthened(&mut self) -> List {
+        let mut longer = self.node();
+        let code = further::further_code(longer.width as usize, &mut self.random);
+        let place = self.random.below(longer.codes.len() + 1);
+        longer.codes.splice(place..place, [code; 4]);
+        longer
+    }
+
+    /// Gates of all kinds.
+    fn further_product(&mut self) -> List {
+        let width = self.width();
+        let most = self.random.one_of(&[2, 4, 16]);
+        list(width, further::any_codes(width, most, &mut self.random))
+    }
+
+    /// A list that mostly does not fit.
+    fn further_growing(&mut self) -> List {
+        let width = self.width();
+        list(width, further::growing_codes(width, &mut self.random))
+    }
+
+    /// One code of the six kinds is not valid.
+    fn further_not_valid(&mut self) -> List {
+        let mut broken = self.further_product();
+        let bad = further::invalid_codes(broken.width as usize);
+        let place = self.random.below(broken.codes.len() + 1);
+        broken.codes.insert(place, self.random.one_of(&bad));
+        broken
     }
 }
 

@@ -4,6 +4,7 @@
 
 use std::io::{self, Write};
 
+use super::codes::FURTHER;
 use super::inputs::evenly;
 use super::questions::Asker;
 use super::random::Random;
@@ -29,6 +30,7 @@ const GROUPS: &[Group] = &[
     (random, 30, Asked::All),
     (deep, 8, Asked::All),
     (large, 0, Asked::All),
+    (further_bases, usize::MAX, Asked::Some),
 ];
 
 /// The sample takes no table that may have more nodes than this, and asks all
@@ -233,4 +235,26 @@ fn large() -> Vec<Limits> {
         [5, 64, 1023, 8],
     ];
     tables.map(Limits::of).to_vec()
+}
+
+/// Each bit that no kind of a table has, the six kinds that lists take among
+/// them, alone and beside all others; and some of the six where other rows
+/// hold too.
+fn further_bases() -> Vec<Limits> {
+    let mut tables = Vec::new();
+    for bit in (0..32).map(|place| 1 << place) {
+        if bit & 3967 == 0 {
+            tables.extend([[1, 8, 10, bit], [2, 3, 12, 3967 | bit]]);
+        }
+    }
+    for kind in FURTHER {
+        let basis = 2 | 1 << kind as u32;
+        tables.extend([
+            [0, 8, 10, basis],
+            [1, 8, 0, basis],
+            [1, 65, 10, basis],
+            [5, 8, 20001, basis],
+        ]);
+    }
+    tables.into_iter().map(Limits::of).collect()
 }

@@ -3,7 +3,7 @@ use mathlib.Core.Path.{_≡_, refl, sym, ap, _∙_}
 use mathlib.Core.Bool.{Bool, true, false, not, _&&_, _||_}
 use Prim.Native.Nat.{ℕ, _≤_, _<_}
 use native.Mathlib.Omega.{arith}
-use borrow.Author.Tests.{eqb-true, eqb-false, ne-eqb, not-true, le-ltb, leb-true}
+use borrow.Author.Tests.{eqb-true, eqb-false, eq-eqb, ne-eqb, not-true, le-ltb, leb-true}
 use native.Mathlib.Decide.{decLt}
 use Rattle.ints.specs.Lists.{all, range}
 use Rattle.ints.proofs.Bools.{all-range, or-false, both-true}
@@ -97,6 +97,12 @@ unfolding all range kindAt arity sorted
 arity-most k =
     let t = both-true (leb (arity k) 3) (leb (sorted k) 3) (every-kind (λ k. leb (arity k) 3 && leb (sorted k) 3) refl k) in
     (leb-true (arity k) 3 (t .0), leb-true (sorted k) 3 (t .1))
+
+-- a kind with one operand wants none in rising order
+pub one-sorted : (k : Kind) → arity k ≡ 1 → sorted k ≡ 0
+unfolding all range kindAt arity sorted
+one-sorted k e =
+    eqb-true (sorted k) 0 (rw (eq-eqb (arity k) 1 e) at (every-kind (λ k. not (eqb (arity k) 1) || eqb (sorted k) 0) refl k))
 
 -- the kinds of tables are those below 12
 computed : all (λ k. told-alike (ofTables (kindAt k)) (ltb k 12 && isKind (kindAt k))) (range 0 27) ≡ true

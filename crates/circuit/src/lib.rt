@@ -284,11 +284,15 @@ impl LibraryGate {
         let a = self.first();
         let b = self.second();
         let c = self.third();
-        if !is_kind(kind) {
+        let count = operand_count(kind);
+        if count == 0 {
             return false;
         }
-        if !operands_placed(width, operand_count(kind), a, b, c) {
+        if !operands_placed(width, count, a, b, c) {
             return false;
+        }
+        if count == 1 {
+            return true; // one operand stands in no order
         }
         in_order(sorted_count(kind), a, b, c)
     }

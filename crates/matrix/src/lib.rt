@@ -106,8 +106,23 @@ fn exchange_step(m: &mut [Coefficient; 4096], n: usize, control: usize, t: usize
     Applied::Done(k)
 }
 
+// H on bit t. Beside `ch_step`, which has it as the case without a control, so that the compiler makes it without one.
+fn h_step(m: &mut [Coefficient; 4096], n: usize, t: usize, k: u16) -> Applied
+    requires { ⌜ (n ≤ 5) × (t < n) ⌝ }
+    requires { ⌜ Ready n k (now m) ⌝ }
+    ensures { λ r. ⌜ Controlled n k 0 (λ ks. had ks t) (now (m .entry)) (now (m .exit)) r ⌝ }
+{
+    if k == MOST_K {
+        return Applied::DoesNotFit;
+    }
+    if !h_rows::apply_h_left(m, n, 0, t) {
+        return Applied::DoesNotFit;
+    }
+    Applied::Done(normalize_denominator(m, n, k + 1))
+}
+
 // H on bit t, where all bits of control are 1; the other rows are multiplied by sqrt(2).
-fn h_step(m: &mut [Coefficient; 4096], n: usize, control: usize, t: usize, k: u16) -> Applied
+fn ch_step(m: &mut [Coefficient; 4096], n: usize, control: usize, t: usize, k: u16) -> Applied
     requires { ⌜ (n ≤ 5) × (t < n) ⌝ }
     requires { ⌜ bitAnd control (2 ^ t) ≡ 0 ⌝ }
     requires { ⌜ Ready n k (now m) ⌝ }
@@ -119,7 +134,8 @@ fn h_step(m: &mut [Coefficient; 4096], n: usize, control: usize, t: usize, k: u1
     if !h_rows::apply_h_left(m, n, control, t) {
         return Applied::DoesNotFit;
     }
-    Applied::Done(normalize_denominator(m, n, k + 1))
+    let raised = k + 1;
+    Applied::Done(normalize_denominator(m, n, raised))
 }
 
 // Y on bit t, or Cy: Sdg on the target, the exchange where all bits of control are 1, S on the target.
@@ -165,12 +181,23 @@ fn sx_step(m: &mut [Coefficient; 4096], n: usize, t: usize, k: u16) -> Applied
     ensures { λ r. ⌜ Stepped n k (then (had [] t) (then (phase (t ∷ []) 2) (had [] t))) (now (m .entry)) (now (m .exit)) r ⌝ }
 {
     let target = places::mask(t);
-    match h_step(m, n, 0, t, k) {
+    match h_step(m, n, t, k) {
         Applied::DoesNotFit => Applied::DoesNotFit,
         Applied::Done(j) => {
             rows::apply_phase_left(m, n, target, 2);
-            h_step(m, n, 0, t, j)
+            h_step(m, n, t, j)
         }
+    }
+}
+
+// The same answer, taken apart and made anew. Where a function is called and not compiled in place, as H is, its answer lies in memory in two parts;
+// handed on as it lies, it is read as one word, and so are then the answers of turns and exchanges, which makes each gate wait.
+fn made_anew(answer: Applied) -> Applied
+    ensures { λ r. ⌜ r ≡ answer ⌝ }
+{
+    match answer {
+        Applied::Done(k) => Applied::Done(k),
+        Applied::DoesNotFit => Applied::DoesNotFit,
     }
 }
 
@@ -208,7 +235,7 @@ fn kind_step(
     let bit_t = places::mask(t);
     let bit_u = places::mask(u);
     match kind {
-        0 => h_step(m, n, 0, s, k),
+        0 => h_step(m, n, s, k),
         1 => exchange_step(m, n, 0, s, k),
         2 => phase_step(m, n, bit_s, 4, k),
         3 => phase_step(m, n, bit_s, 2, k),
@@ -247,7 +274,7 @@ fn more_kind_step(
         16 => sx_step(m, n, s, k),
         19 => swap_step(m, n, 0, s, t, k),
         20 => y_step(m, n, bit_s, t, k),
-        25 => h_step(m, n, bit_s, t, k),
+        25 => ch_step(m, n, bit_s, t, k),
         _ => swap_step(m, n, bit_s, t, u, k),
     }
 }
@@ -266,5 +293,5 @@ pub fn apply_gate_left(m: &mut [Coefficient; 4096], n: usize, gate: LibraryGate,
     if kind < 12 {
         return kind_step(m, n, kind, a, b, c, k);
     }
-    more_kind_step(m, n, kind, a, b, c, k)
+    made_anew(more_kind_step(m, n, kind, a, b, c, k))
 }

@@ -1,7 +1,9 @@
 -- `apply_gate_left` meets its contract: the gate of a valid code is that of its kind on its operands. Assumes nothing.
+use mathlib.Core.Path.{sym}
 use borrow.Author.Needs.{needs}
 use Rattle.exact.proofs.Coded.{valid-kind}
 use Rattle.matrix.proofs.Masks.{coded, coded-proper}
+use Rattle.matrix.proofs.Steps.{at-answer}
 use Rattle.matrix.proofs.apply_gate_left.Statement.{statement}
 use Rattle.matrix.proofs.apply_gate_left.Tie as tie
 
@@ -24,8 +26,9 @@ more-kind-step-requires c κs =
 
 returns-2 : tie.Need-returns-2
 returns-2 c =
-    let p = c .before .before .before .before .before .before .before .pre in
-    rw (coded _ _ (p .1 .0)) (rw (c .before .before .before .before .before .before .kind .ensures, c .before .before .before .before .before .first .ensures, c .before .before .before .before .second .ensures, c .before .before .before .third .ensures) at (c .more-kind-step .ensures))
+    let p = c .before .before .before .before .before .before .before .before .pre in
+    at-answer (sym (c .made-anew .ensures))
+    (rw (coded _ _ (p .1 .0)) (rw (c .before .before .before .before .before .before .before .kind .ensures, c .before .before .before .before .before .before .first .ensures, c .before .before .before .before .before .second .ensures, c .before .before .before .before .third .ensures) at (c .before .more-kind-step .ensures)))
 
 pub apply-gate-left-spec : {M : Type 1} → statement M
 apply-gate-left-spec =
@@ -38,4 +41,5 @@ apply-gate-left-spec =
     kind-step-requires
     returns
     more-kind-step-requires
+    (λ c κs. search needs)
     returns-2)

@@ -3,21 +3,22 @@
 use native.Mathlib.Omega.{arith}
 use borrow.Author.Needs.{needs}
 use borrow.Author.Tests.{not-true, not-false}
+use Rattle.matrix.proofs.Masks.{none-apart}
 use Rattle.matrix.proofs.Steps.{h-refused-k, h-refused, h-stepped, summed-small}
 use Rattle.matrix.proofs.h_step.Statement.{statement}
 use Rattle.matrix.proofs.h_step.Tie as tie
 
 returns : tie.Need-returns
-returns c = record { by = λ ks e p. h-refused-k _ _ ks _ _ (omega (arith, c .if1 .taken)) (c .before .pre .1 .1) }
+returns c = record { by = λ ks e p. h-refused-k _ _ ks _ _ (omega (arith, c .if1 .taken)) (c .before .pre .1) }
 
 apply-h-left-requires : tie.Need-apply-h-left-requires
 apply-h-left-requires c κs =
     let p = c .before .before .pre in
-    (p .1 .1 .long, (p .0, p .1 .0))
+    (p .1 .long, (p .0, none-apart (c .before .before .args .t)))
 
 returns-2 : tie.Need-returns-2
 returns-2 c = record {
-  by = λ ks e p. h-refused _ _ ks _ _ (c .before .before .before .before .pre .1 .1) (omega (arith, c .before .before .before .if1 .left)) (rw e at (c .before .apply-h-left .ensures)) (not-true _ (c .if2 .taken));
+  by = λ ks e p. h-refused _ _ ks _ _ (c .before .before .before .before .pre .1) (omega (arith, c .before .before .before .if1 .left)) (rw e at (c .before .apply-h-left .ensures)) (not-true _ (c .if2 .taken));
 }
 
 normalize-denominator-requires : tie.Need-normalize-denominator-requires

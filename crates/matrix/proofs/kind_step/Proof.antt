@@ -1,5 +1,4 @@
 -- `kind_step` meets its contract: each arm is the gate of its kind. Assumes nothing.
-
 use mathlib.Core.List.{[], _∷_}
 use borrow.Author.Needs.{needs}
 use Rattle.circuit.specs.Kinds.{kindAt}
@@ -13,7 +12,7 @@ h-step-requires : tie.Need-h-step-requires
 unfolding kindAt
 h-step-requires c κs =
     let w = exchange-needs ([]) (c .before .before .before .before .before .before .before .row-bit .ensures) mask-none (proper-at (c .before .before .before .before .before .before .before .before .args .n) (c .before .before .before .before .before .before .before .before .args .a) (c .before .before .before .before .before .before .before .before .args .b) (c .before .before .before .before .before .before .before .before .args .c) (c .before .match .keys1) (c .before .before .before .before .before .before .before .before .pre .1 .1 .0)) in
-    ((c .before .before .before .before .before .before .before .before .pre .0, w .0), (w .1, c .before .before .before .before .before .before .before .before .pre .1 .1 .1))
+    ((c .before .before .before .before .before .before .before .before .pre .0, w .0), c .before .before .before .before .before .before .before .before .pre .1 .1 .1)
 
 exchange-step-requires : tie.Need-exchange-step-requires
 unfolding kindAt

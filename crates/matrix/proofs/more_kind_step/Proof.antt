@@ -28,9 +28,9 @@ y-step-requires-2 c κs =
     let w = exchange-needs (_ ∷ []) (c .before .before .before .before .row-bit2 .ensures) (one-bit (c .before .before .mask .ensures) (c .before .before .before .before .before .row-bit .ensures)) ((proper-at (c .before .before .before .before .before .before .args .n) (c .before .before .before .before .before .before .args .a) (c .before .before .before .before .before .before .args .b) (c .before .before .before .before .before .before .args .c) (c .before .match .keys4) (c .before .before .before .before .before .before .pre .1 .1 .0)) .1 .0) in
     ((c .before .before .before .before .before .before .pre .0, w .0), (w .1, c .before .before .before .before .before .before .pre .1 .1 .1))
 
-h-step-requires : tie.Need-h-step-requires
+ch-step-requires : tie.Need-ch-step-requires
 unfolding kindAt
-h-step-requires c κs =
+ch-step-requires c κs =
     let w = exchange-needs (_ ∷ []) (c .before .before .before .before .row-bit2 .ensures) (one-bit (c .before .before .mask .ensures) (c .before .before .before .before .before .row-bit .ensures)) (proper-at (c .before .before .before .before .before .before .args .n) (c .before .before .before .before .before .before .args .a) (c .before .before .before .before .before .before .args .b) (c .before .before .before .before .before .before .args .c) (c .before .match .keys5) (c .before .before .before .before .before .before .pre .1 .1 .0)) in
     ((c .before .before .before .before .before .before .pre .0, w .0), (w .1, c .before .before .before .before .before .before .pre .1 .1 .1))
 
@@ -63,7 +63,7 @@ returns-5 : tie.Need-returns-5
 unfolding kindAt
 returns-5 c =
     kind-at (c .before .before .before .before .before .before .before .args .a) (c .before .before .before .before .before .before .before .args .b) (c .before .before .before .before .before .before .before .args .c) (c .before .before .match .keys5)
-    (controlled-at (λ t ks. had ks t) (_ ∷ []) (c .before .before .before .before .before .row-bit2 .ensures) (one-bit (c .before .before .before .mask .ensures) (c .before .before .before .before .before .before .row-bit .ensures)) (proper-at (c .before .before .before .before .before .before .before .args .n) (c .before .before .before .before .before .before .before .args .a) (c .before .before .before .before .before .before .before .args .b) (c .before .before .before .before .before .before .before .args .c) (c .before .before .match .keys5) (c .before .before .before .before .before .before .before .pre .1 .1 .0)) (c .h-step .ensures))
+    (controlled-at (λ t ks. had ks t) (_ ∷ []) (c .before .before .before .before .before .row-bit2 .ensures) (one-bit (c .before .before .before .mask .ensures) (c .before .before .before .before .before .before .row-bit .ensures)) (proper-at (c .before .before .before .before .before .before .before .args .n) (c .before .before .before .before .before .before .before .args .a) (c .before .before .before .before .before .before .before .args .b) (c .before .before .before .before .before .before .before .args .c) (c .before .before .match .keys5) (c .before .before .before .before .before .before .before .pre .1 .1 .0)) (c .ch-step .ensures))
 
 returns-6 : tie.Need-returns-6
 unfolding kindAt
@@ -83,7 +83,7 @@ more-kind-step-spec =
     sx-step-requires
     swap-step-requires
     y-step-requires-2
-    h-step-requires
+    ch-step-requires
     swap-step-requires-2
     returns
     returns-2

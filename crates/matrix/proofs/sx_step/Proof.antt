@@ -5,7 +5,7 @@ use borrow.Author.Needs.{needs}
 use mathlib.Core.List.{[], _∷_}
 use Rattle.exact.specs.Rows.{phase, had, then}
 use Rattle.exact.proofs.Words.{Proper}
-use Rattle.matrix.proofs.Masks.{mask-none, none-apart}
+use Rattle.matrix.proofs.Masks.{mask-none}
 use Rattle.matrix.proofs.Steps.{ready-next, stepped-then, stepped-unfit, at-answer}
 use Rattle.matrix.proofs.Several.{turned-one}
 use Rattle.matrix.proofs.sx_step.Statement.{statement}
@@ -20,7 +20,7 @@ rest h = ((h, tt), (h, tt, tt))
 h-step-requires : tie.Need-h-step-requires
 h-step-requires c κs =
     let p = c .before .before .pre in
-    (p .0, (none-apart (c .before .before .args .t), p .1))
+    (p .0, p .1)
 
 apply-phase-left-requires : tie.Need-apply-phase-left-requires
 apply-phase-left-requires c κs =
@@ -32,7 +32,7 @@ h-step-requires-2 : tie.Need-h-step-requires-2
 h-step-requires-2 c κs =
     let p = c .before .before .before .before .before .before .before .before .before .pre in
     let w = ready-next (at-answer (c .before .before .before .before .j .given .1) (c .before .before .before .before .before .before .h-step .ensures .by [] mask-none (last (p .0 .1)))) in
-    (p .0, (none-apart (c .before .before .before .before .before .before .before .before .before .args .t), ready-next (turned-one (omega arith) w _ _ (c .before .before .before .before .before .before .before .before .mask .ensures) (c .before .apply-phase-left .ensures))))
+    (p .0, ready-next (turned-one (omega arith) w _ _ (c .before .before .before .before .before .before .before .before .mask .ensures) (c .before .apply-phase-left .ensures)))
 
 returns : tie.Need-returns
 returns c =

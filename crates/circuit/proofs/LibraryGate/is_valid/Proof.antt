@@ -1,42 +1,55 @@
 -- `is_valid` meets its contract: the three tests are the definition's three parts, on the parts of the code. Assumes nothing.
 use mathlib.Core.Path.{_≡_, sym, ap, _∙_, subst}
-use mathlib.Core.Bool.{true}
+use mathlib.Core.Bool.{true, false, not}
 use Prim.Native.Nat.{ℕ, _≤_, _<_}
 use borrow.Author.Needs.{needs}
-use borrow.Author.Tests.{not-true, not-false}
+use borrow.Author.Tests.{eq-eqb, ne-eqb, not-true, not-false}
 use Rattle.circuit.specs.Kinds.{kindAt, arity, sorted, isKind}
-use Rattle.circuit.specs.Codes.{kindOf, first, second, third, placed, ordered, valid}
-use Rattle.circuit.proofs.ByNumber.{kind-used, arity-most}
+use Rattle.circuit.specs.Codes.{kindOf, first, second, third, placed, rises, ordered, valid}
+use Rattle.circuit.proofs.ByNumber.{kind-placed, kind-used, arity-most, one-sorted}
 use Rattle.circuit.proofs.LibraryGate.is_valid.Statement.{statement}
 use Rattle.circuit.proofs.LibraryGate.is_valid.Tie as tie
 
-known : (c : tie.After-is-kind) → c .is-kind .result ≡ isKind (kindOf (c .before .before .before .before .before .args .self .0))
-known c = c .is-kind .ensures ∙ ap (λ (k : ℕ). isKind (kindAt k)) (c .before .before .before .before .kind .ensures)
+counted : (c : tie.After-operand-count) → c .operand-count .result ≡ arity (kindOf (c .before .before .before .before .before .args .self .0))
+counted c = c .operand-count .ensures ∙ ap (λ (k : ℕ). arity (kindAt k)) (c .before .before .before .before .kind .ensures)
 
-counted : (c : tie.After-operand-count) → c .operand-count .result ≡ arity (kindOf (c .before .before .before .before .before .before .before .args .self .0))
-counted c = c .operand-count .ensures ∙ ap (λ (k : ℕ). arity (kindAt k)) (c .before .before .before .before .before .before .kind .ensures)
+-- no operand: no kind
+no-kind : (c : tie.Then1) → isKind (kindOf (c .before .before .before .before .before .before .args .self .0)) ≡ false
+no-kind c =
+    let k = kindOf (c .before .before .before .before .before .before .args .self .0) in
+    sym (kind-placed k) ∙ ap not (eq-eqb (arity k) 0 (sym (counted (c .before)) ∙ c .if1 .taken))
 
-set : (c : tie.After-operands-placed) → c .operands-placed .result ≡ placed (c .before .before .before .before .before .before .before .before .args .width) (arity (kindOf (c .before .before .before .before .before .before .before .before .args .self .0))) (first (c .before .before .before .before .before .before .before .before .args .self .0)) (second (c .before .before .before .before .before .before .before .before .args .self .0)) (third (c .before .before .before .before .before .before .before .before .args .self .0))
+a-kind : (c : tie.Else1) → isKind (kindOf (c .before .before .before .before .before .before .args .self .0)) ≡ true
+a-kind c =
+    let k = kindOf (c .before .before .before .before .before .before .args .self .0) in
+    sym (kind-placed k) ∙ ap not (ne-eqb (arity k) 0 (λ e. c .if1 .left (counted (c .before) ∙ e)))
+
+set : (c : tie.After-operands-placed) → c .operands-placed .result ≡ placed (c .before .before .before .before .before .before .before .args .width) (arity (kindOf (c .before .before .before .before .before .before .before .args .self .0))) (first (c .before .before .before .before .before .before .before .args .self .0)) (second (c .before .before .before .before .before .before .before .args .self .0)) (third (c .before .before .before .before .before .before .before .args .self .0))
 set c =
     c .operands-placed .ensures
-    ∙ (λ i. placed (c .before .before .before .before .before .before .before .before .args .width) (counted (c .before) i) (c .before .before .before .before .before .before .first .ensures i) (c .before .before .before .before .before .second .ensures i) (c .before .before .before .before .third .ensures i))
+    ∙ (λ i. placed (c .before .before .before .before .before .before .before .args .width) (counted (c .before .before) i) (c .before .before .before .before .before .first .ensures i) (c .before .before .before .before .second .ensures i) (c .before .before .before .third .ensures i))
 
 returns : tie.Need-returns
 unfolding valid
-returns c = rw (sym (known (c .before)) ∙ not-true _ (c .if1 .taken))
+returns c = rw (no-kind c)
 
 operands-placed-requires : tie.Need-operands-placed-requires
 operands-placed-requires c κs =
-    let k = kindOf (c .before .before .before .before .before .before .before .args .self .0) in
-    let h : isKind k ≡ true = sym (known (c .before .before)) ∙ not-false _ (c .before .if1 .left) in
-    (subst (λ (n : ℕ). 0 < n) (sym (counted c)) (kind-used k h), subst (λ (n : ℕ). n ≤ 3) (sym (counted c)) (arity-most k .0))
+    let k = kindOf (c .before .before .before .before .before .before .args .self .0) in
+    (subst (λ (n : ℕ). 0 < n) (sym (counted (c .before))) (kind-used k (a-kind c)), subst (λ (n : ℕ). n ≤ 3) (sym (counted (c .before))) (arity-most k .0))
 
 returns-2 : tie.Need-returns-2
 unfolding valid
-returns-2 c =
+returns-2 c = rw (a-kind (c .before .before), sym (set (c .before)) ∙ not-true _ (c .if2 .taken))
+
+returns-3 : tie.Need-returns-3
+unfolding valid rises
+returns-3 c =
+    let k = kindOf (c .before .before .before .before .before .before .before .before .before .args .self .0) in
     rw (
-      sym (known (c .before .before .before .before)) ∙ not-false _ (c .before .before .before .if1 .left),
-      sym (set (c .before)) ∙ not-true _ (c .if2 .taken),
+      a-kind (c .before .before .before),
+      sym (set (c .before .before)) ∙ not-false _ (c .before .if2 .left),
+      one-sorted k (sym (counted (c .before .before .before .before)) ∙ c .if3 .taken),
     )
 
 in-order-requires : tie.Need-in-order-requires
@@ -44,13 +57,10 @@ in-order-requires c κs =
     let k = kindOf (c .before .before .before .before .before .before .before .before .before .before .args .self .0) in
     subst (λ (n : ℕ). n ≤ 3) (sym (c .sorted-count .ensures ∙ ap (λ (k : ℕ). sorted (kindAt k)) (c .before .before .before .before .before .before .before .before .before .kind .ensures))) (arity-most k .1)
 
-returns-3 : tie.Need-returns-3
+returns-4 : tie.Need-returns-4
 unfolding valid
-returns-3 c =
-    rw (
-      sym (known (c .before .before .before .before .before .before)) ∙ not-false _ (c .before .before .before .before .before .if1 .left),
-      sym (set (c .before .before .before)) ∙ not-false _ (c .before .before .if2 .left),
-    )
+returns-4 c =
+    rw (a-kind (c .before .before .before .before .before), sym (set (c .before .before .before .before)) ∙ not-false _ (c .before .before .before .if2 .left))
     (c .in-order .ensures
     ∙ (λ i. ordered ((c .before .sorted-count .ensures ∙ ap (λ (k : ℕ). sorted (kindAt k)) (c .before .before .before .before .before .before .before .before .before .before .kind .ensures)) i) (c .before .before .before .before .before .before .before .before .before .first .ensures i) (c .before .before .before .before .before .before .before .before .second .ensures i) (c .before .before .before .before .before .before .before .third .ensures i)))
 
@@ -64,9 +74,9 @@ is-valid-spec =
     (λ c κs. search needs)
     (λ c κs. search needs)
     returns
-    (λ c κs. search needs)
     operands-placed-requires
     returns-2
+    returns-3
     (λ c κs. search needs)
     in-order-requires
-    returns-3)
+    returns-4)

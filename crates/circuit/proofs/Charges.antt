@@ -1,7 +1,7 @@
 -- The T charge of a list, gate by gate. Assumes nothing.
 use mathlib.Core.Path.{_≡_, refl, ap}
 use mathlib.Core.List.{List, [], _∷_}
-use Prim.Native.Nat.{ℕ, suc, _+_, _≤_, _<_}
+use Prim.Native.Nat.{ℕ, suc, _+_, _*_, _≤_, _<_}
 use native.Mathlib.Omega.{arith}
 use borrow.Author.Tests.{leb-true}
 use lib.Dec.{leb}
@@ -13,12 +13,12 @@ use Rattle.circuit.specs.Codes.{kindOf}
 use Rattle.circuit.specs.Charge.{kindCharge, charge}
 use Rattle.circuit.proofs.ByNumber.{every-kind}
 
-kind-most : (k : Kind) → kindCharge k ≤ 1
+kind-most : (k : Kind) → kindCharge k ≤ 7
 unfolding all range kindAt kindCharge
-kind-most k = leb-true (kindCharge k) 1 (every-kind (λ k. leb (kindCharge k) 1) refl k)
+kind-most k = leb-true (kindCharge k) 7 (every-kind (λ k. leb (kindCharge k) 7) refl k)
 
--- no more than one for each gate
-pub charge-most : (gs : List ℕ) → charge gs ≤ length gs
+-- no more than seven for each gate
+pub charge-most : (gs : List ℕ) → charge gs ≤ 7 * length gs
 unfolding charge
 charge-most [] = omega arith
 charge-most (g ∷ gs) = omega (arith, kind-most (kindOf g), charge-most gs)

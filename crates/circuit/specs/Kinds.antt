@@ -1,5 +1,5 @@
--- The seventeen kinds of gate and what each has: its number, its operands, whether tables have it and which kind then undoes it (SPECIFICATION
--- 2.1). Assumes nothing.
+-- The seventeen kinds of gate and what each has: its number, its operands, its T charge, whether tables have it and which kind then undoes it
+-- (SPECIFICATION 2.1). Assumes nothing.
 use mathlib.Core.Bool.{Bool, true, false}
 use mathlib.Core.List.{List, [], _∷_}
 use Prim.Native.Nat.{ℕ}
@@ -20,34 +20,35 @@ unfoldable pub kindAt : ℕ → Kind
 kindAt i = getD kinds i Other
 
 -- What a kind has: its number; how many operands; how many of its first operands stand in rising order (both of Cz, the controls of Ccx, all three
--- of Ccz); whether a table may have it; and the kind that undoes it in a table
+-- of Ccz); its T charge (SPECIFICATION 2.9); whether a table may have it; and the kind that undoes it in a table
 pub record About : Type 0 where
   pub number : ℕ
   pub arity : ℕ
   pub sorted : ℕ
+  pub charge : ℕ
   pub inTables : Bool
   pub dual : Kind
 
-abbrev pub has : ℕ → ℕ → ℕ → Kind → About
-has number arity sorted dual = record { number = number; arity = arity; sorted = sorted; inTables = true; dual = dual }
+abbrev pub has : ℕ → ℕ → ℕ → ℕ → Kind → About
+has number arity sorted charge dual = record { number = number; arity = arity; sorted = sorted; charge = charge; inTables = true; dual = dual }
 
--- a kind that lists take and no table has; its operands stand in any order, and no kind of tables undoes it
+-- a kind that lists take and no table has; its operands stand in any order, it is charged nothing, and no kind of tables undoes it
 abbrev pub listed : ℕ → ℕ → About
-listed number arity = record { number = number; arity = arity; sorted = 0; inTables = false; dual = Other }
+listed number arity = record { number = number; arity = arity; sorted = 0; charge = 0; inTables = false; dual = Other }
 
 -- what is none of the seventeen has the number of Rz and no operand
 abbrev pub about : Kind → About
-about H = has 0 1 0 H
-about X = has 1 1 0 X
-about Z = has 2 1 0 Z
-about S = has 3 1 0 Sdg
-about Sdg = has 4 1 0 S
-about T = has 5 1 0 Tdg
-about Tdg = has 6 1 0 T
-about Cx = has 8 2 0 Cx
-about Cz = has 9 2 2 Cz
-about Ccx = has 10 3 2 Ccx
-about Ccz = has 11 3 3 Ccz
+about H = has 0 1 0 0 H
+about X = has 1 1 0 0 X
+about Z = has 2 1 0 0 Z
+about S = has 3 1 0 0 Sdg
+about Sdg = has 4 1 0 0 S
+about T = has 5 1 0 1 Tdg
+about Tdg = has 6 1 0 1 T
+about Cx = has 8 2 0 0 Cx
+about Cz = has 9 2 2 0 Cz
+about Ccx = has 10 3 2 7 Ccx
+about Ccz = has 11 3 3 7 Ccz
 about Y = listed 15 1
 about Sx = listed 16 1
 about Swap = listed 19 2

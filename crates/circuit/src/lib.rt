@@ -23,8 +23,8 @@ const SORTED: [u32; 12] = [0, 0, 0, 0, 0, 0, 0, 0, 0, 2, 2, 3];
 // The kind that undoes each kind.
 const DUAL: [u32; 12] = [0, 1, 2, 4, 3, 6, 5, 7, 8, 9, 10, 11];
 
-// The T charge of each kind.
-const CHARGE: [usize; 12] = [0, 0, 0, 0, 0, 1, 1, 0, 0, 0, 0, 0];
+// The T charge of each kind (SPECIFICATION 2.9).
+const CHARGE: [usize; 12] = [0, 0, 0, 0, 0, 1, 1, 0, 0, 0, 7, 7];
 
 // How many operands a kind from 12 on has; 0 for what is no kind.
 fn more_operands(kind: u32) -> u32

@@ -43,8 +43,8 @@ abbrev pub SameInLarger : Limits → ℕ → List ℕ → List ℕ → Type 0
 SameInLarger l w asked text =
     (l′ : Limits) (lent m : Arrays) (t : Table) → NoSmaller l l′ → buildOf l′ lent ≡ left (table t) m → listText t m w asked ≡ text
 
--- the text is an allowed line and its newline; the line's numbers are how many gates m has, its T charge and its codes, and since an allowed
--- line has one list of numbers, the text can be read in one way (SPECIFICATION 10.2, 10.6)
+-- the text is an allowed line and its newline; the line's numbers are how many gates m has, its T charge (SPECIFICATION 2.9) and its codes, and
+-- since an allowed line has one list of numbers, the text can be read in one way (SPECIFICATION 10.2, 10.6)
 pub record ReadsAs (m text : List ℕ) : Type 0 where
   pub line : List ℕ
   pub says : AllowedLine (length m ∷ charge m ∷ m) line

@@ -7,6 +7,7 @@ use Rattle.cyclotomic.specs.Zomega.{zeroω, oneω, sqrt2, isZero, addω, subω,
 use Rattle.cyclotomic.specs.Told.{checked}
 use Rattle.circuit.specs.Kinds.{kindAt, arity, sorted, isKind, ofTables}
 use Rattle.circuit.specs.Codes.{placed, rises, valid, validFor}
+use Rattle.circuit.specs.Charge.{kindCharge, charge}
 use Rattle.generators.specs.Generators.{kept, generators}
 use Rattle.exact.specs.Matrix.{allDivisible, lower}
 use Rattle.exact.specs.Rows.{flip, column, gateOf}
@@ -17,5 +18,5 @@ use Rattle.tables.specs.Lists.{listed}
 use Rattle.pencil.specs.Cases.{Case, cases}
 
 pub as-stated : map (λ (c : Case). c .computed) cases ≡ map (λ (c : Case). c .stated) cases
-unfolding ofTables listed bit range each all elem distinct addω subω turn divisible overSqrt2 less leastUpTo fits checked kindAt arity sorted isKind placed rises valid validFor kept generators zeroω oneω sqrt2 isZero allDivisible lower flip column gateOf stepFits product pivot phaseOf
+unfolding ofTables kindCharge charge listed bit range each all elem distinct addω subω turn divisible overSqrt2 less leastUpTo fits checked kindAt arity sorted isKind placed rises valid validFor kept generators zeroω oneω sqrt2 isZero allDivisible lower flip column gateOf stepFits product pivot phaseOf
 as-stated = refl

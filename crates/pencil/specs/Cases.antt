@@ -11,6 +11,7 @@ use Rattle.cyclotomic.specs.Zomega.{Zω, mk, zeroω, oneω, addω, subω, turn,
 use Rattle.cyclotomic.specs.Told.{Told, entry, refused, checked}
 use Rattle.circuit.specs.Sets.{supported}
 use Rattle.circuit.specs.Codes.{valid, validFor}
+use Rattle.circuit.specs.Charge.{charge}
 use Rattle.generators.specs.Generators.{generators}
 use Rattle.exact.specs.Matrix.{Exact}
 use Rattle.exact.specs.Rows.{act, gateOf}
@@ -126,6 +127,9 @@ cases =
     -- Cz on qubits 0 and 1 in rising order is valid, in the other order it is not (SPECIFICATION 2.1, 2.4)
     ∷ (test (valid 2 36880) is test true)
     ∷ (answer (listed 2 (37120 ∷ []) (replicate (byteCount 2) (pos 0)) .answer) is answer (e.refused 7 0))
+    -- T charges: of T, Ccx, Ccz, Tdg and H together, and of the six kinds that lists alone take (SPECIFICATION 2.9)
+    ∷ (number (charge (20480 ∷ 40978 ∷ 45074 ∷ 24576 ∷ 0 ∷ [])) is number 16)
+    ∷ (number (charge (61440 ∷ 65536 ∷ 77840 ∷ 81936 ∷ 102416 ∷ 106514 ∷ [])) is number 0)
     -- the phase of the entry 1, and of the identity, whose pivot it is: -1 is the least of its turns (SPECIFICATION 1.11)
     ∷ (number (phase (int (pos 1))) is number 4)
     ∷ (number (phaseOf 1 (product 1 [])) is number 4)

@@ -103,8 +103,12 @@ fn query(line: &str, table: &Murm) -> String {
     line
 }
 
-/// How many gates are of the kinds T and Tdg.
+/// The sum of the gates' charges: 1 for T and Tdg, 7 for Ccx and Ccz (SPECIFICATION 2.9).
 fn t_charge(codes: &[u32]) -> usize {
-    let counted = |code: &&u32| [5, 6].contains(&(**code / 4096));
-    codes.iter().filter(counted).count()
+    let charge = |code: &u32| match code / 4096 {
+        5 | 6 => 1,
+        10 | 11 => 7,
+        _ => 0,
+    };
+    codes.iter().map(charge).sum()
 }

@@ -174,15 +174,6 @@ module _ (n : ℕ) where
   unfolding qubits
   qubits-differ g h = placed-differ (arity (kindOf g)) (first g) (second g) (third g) (valid-placed g h)
 
-  -- a valid code is below 27 × 4096
-  pub valid-below : (g : ℕ) → valid n g ≡ true → g < 110592
-  unfolding isKind
-  valid-below g h = by (decLt (kindNumber g) 27)
-    where
-      by : Dec (kindNumber g < 27) → g < 110592
-      by (yes l) = omega arith
-      by (no l) = clash (valid-kind g h) (ap isKind (kind-past (kindNumber g) (omega arith)))
-
   -- ---- the gate of a code is one of the width
 
   -- the gate that a code names, valid or not

@@ -9,7 +9,7 @@ use borrow.Author.Tests.{eqb-true, eq-eqb}
 use lib.Dec.{eqb, lit<}
 use lib.Bits.{bitAnd}
 use Rattle.ints.specs.Bits.{bit}
-use Rattle.ints.specs.Lists.{pick, range, all, elem}
+use Rattle.ints.specs.Lists.{range, all, elem}
 use Rattle.ints.proofs.Bools.{clash, iff, and-left, and-right, and-both, or-right, all-range, range-all}
 use Rattle.ints.proofs.Bits.{and-bit, or-bit, ext-bit, zero-bit, high-bit, pow-bit}
 use Rattle.circuit.specs.Kinds.{kindAt, ofTables}

@@ -1,7 +1,8 @@
 // H and Ch in place, on 4,096 signed places that hold a matrix of width up to 5. matrix.rs of the original, `apply_h_left` and
-// `apply_controlled_h_left`. Pairs of rows that have all bits of control become sum and difference, the others are multiplied by sqrt(2). H is
-// the case with no control, by the same laws; it has loops of its own, since a shared function was slower for it (docs/SPEED.md). A first pass only tests whether every result fits, so that a refusal leaves the places as they were; the second
-// works by the ring's own functions. Rows are tested by and, a row's partner is found by or.
+// `apply_controlled_h_left`. Pairs of rows that have all bits of control become sum and difference, the others are multiplied by sqrt(2). H is the
+// case with no control, by the same laws; it has loops of its own, since a shared function was slower for it (docs/SPEED.md). A first pass only
+// tests whether every result fits, so that a refusal leaves the places as they were; the second works by the ring's own functions. Rows are tested
+// by and, a row's partner is found by or.
 ghost use mathlib.Core.Path.{_≡_};
 ghost use Prim.Native.Nat.{_+_, _*_, _^_, _<_, _≤_};
 ghost use mathlib.Core.Bool.{true, false};

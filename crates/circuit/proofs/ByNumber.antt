@@ -73,11 +73,12 @@ every-kind t h k = by (decLt (number k) 27)
     by (yes q) = sym (ap t (kind-number k)) ∙ at-place (number k) q
     by (no q) = sym (ap t (kind-number k)) ∙ ap t (kind-past (number k) (omega arith)) ∙ at-place 7 (omega arith)
 
-abbrev told-alike : Bool → Bool → Bool
+-- two tests agree, as a test
+abbrev pub told-alike : Bool → Bool → Bool
 told-alike true b = b
 told-alike false b = not b
 
-alike : (a b : Bool) → told-alike a b ≡ true → a ≡ b
+pub alike : (a b : Bool) → told-alike a b ≡ true → a ≡ b
 alike true true h = refl
 alike true false h = sym h
 alike false true h = h

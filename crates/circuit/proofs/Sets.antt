@@ -9,13 +9,13 @@ use borrow.Author.Tests.{eqb-true, eq-eqb}
 use lib.Dec.{eqb, lit<}
 use lib.Bits.{bitAnd}
 use Rattle.ints.specs.Bits.{bit}
-use Rattle.ints.specs.Lists.{pick, range, all, elem}
+use Rattle.ints.specs.Lists.{range, all, elem}
 use Rattle.ints.proofs.Bools.{clash, iff, and-left, and-right, and-both, or-right, all-range, range-all}
 use Rattle.ints.proofs.Bits.{and-bit, or-bit, ext-bit, zero-bit, high-bit, pow-bit}
 use Rattle.circuit.specs.Kinds.{kindAt, ofTables}
 use Rattle.circuit.specs.Sets.{supported, member, subset}
 use Rattle.circuit.specs.Pairs.{maskOf}
-use Rattle.circuit.proofs.ByNumber.{kind-past}
+use Rattle.circuit.proofs.ByNumber.{kind-past, told-alike, alike}
 
 implied : (s t : Bool) → s && t ≡ s → not s || t ≡ true
 implied true t h = h
@@ -94,21 +94,16 @@ mask-apart ps qs = iff _ _
 
 -- bit i is 1 exactly where i is one of the eleven kinds of tables
 abbrev agree : ℕ → Bool
-agree i = pick (ofTables (kindAt i)) (bit supported i) (not (bit supported i))
+agree i = told-alike (bit supported i) (ofTables (kindAt i))
 
 tested : all agree (range 0 27) ≡ true
 unfolding all range bit ofTables kindAt
 tested = refl
-
-agreed : (s t : Bool) → pick s t (not t) ≡ true → t ≡ s
-agreed true t h = h
-agreed false true h = sym h
-agreed false false h = refl
 
 pub supported-kinds : (i : ℕ) → member supported i ≡ ofTables (kindAt i)
 unfolding ofTables
 supported-kinds i = by (decLt i 27)
   where
     by : Dec (i < 27) → member supported i ≡ ofTables (kindAt i)
-    by (yes l) = agreed (ofTables (kindAt i)) (bit supported i) (all-range agree 27 0 tested i (omega arith) (omega arith))
+    by (yes l) = alike (bit supported i) (ofTables (kindAt i)) (all-range agree 27 0 tested i (omega arith) (omega arith))
     by (no l) = high-bit supported 12 i (lit< tt) (omega arith) ∙ sym (ap ofTables (kind-past i (omega arith)))

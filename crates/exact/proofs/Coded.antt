@@ -5,7 +5,6 @@ use mathlib.Core.Bool.{Bool, true, false, not, _&&_, _||_}
 use mathlib.Core.List.{List, [], _∷_, map}
 use Prim.Native.Nat.{ℕ, _%_, _<_}
 use native.Mathlib.Omega.{arith}
-use native.Mathlib.Decide.{decLt}
 use borrow.Author.Tests.{eqb-true, eqb-false, ltb-true}
 use lib.Dec.{eqb, ltb}
 use lib.ListN.{take, drop}
@@ -14,7 +13,7 @@ use Rattle.ints.proofs.Bools.{clash, both-true, and-left, and-right}
 use Rattle.circuit.specs.Kinds.{Kind, H, X, Z, S, Sdg, T, Tdg, Cx, Cz, Ccx, Ccz, Y, Sx, Swap, Cy, Ch, Cswap, Other, kindAt, number, arity, sorted, isKind, ofTables, dual}
 use Rattle.circuit.specs.Codes.{kindNumber, kindOf, first, second, third, placed, ordered, valid, validFor}
 use Rattle.circuit.specs.Pairs.{inverse, qubits, disjoint}
-use Rattle.circuit.proofs.ByNumber.{kind-past, kind-number, table-kind}
+use Rattle.circuit.proofs.ByNumber.{kind-number, table-kind}
 use Rattle.circuit.proofs.Coded.{code-table}
 use Rattle.exact.specs.Rows.{Gate, phase, bitOf, gate, gateOf}
 use Rattle.exact.proofs.Words.{Lacks, AllBelow, Proper, Plain, touches, Apart, Undoes, turns, exchanges, hads}
@@ -173,15 +172,6 @@ module _ (n : ℕ) where
   pub qubits-differ : (g : ℕ) → valid n g ≡ true → AllDiffer (qubits g)
   unfolding qubits
   qubits-differ g h = placed-differ (arity (kindOf g)) (first g) (second g) (third g) (valid-placed g h)
-
-  -- a valid code is below 27 × 4096
-  pub valid-below : (g : ℕ) → valid n g ≡ true → g < 110592
-  unfolding isKind
-  valid-below g h = by (decLt (kindNumber g) 27)
-    where
-      by : Dec (kindNumber g < 27) → g < 110592
-      by (yes l) = omega arith
-      by (no l) = clash (valid-kind g h) (ap isKind (kind-past (kindNumber g) (omega arith)))
 
   -- ---- the gate of a code is one of the width
 

@@ -8,7 +8,7 @@ use native.Mathlib.Omega.{arith}
 use native.Mathlib.Nat.{div-add-mod', mod-lt}
 use borrow.Author.Count.{below-more}
 use borrow.Author.Tests.{eq-eqb, ne-eqb, eqb-true, eqb-false, ltb-true, ltb-false}
-use lib.Bits.{bitAnd, bitOr, and-le-l, and-le-r, or-lt, or-add-and}
+use lib.Bits.{bitAnd, bitOr, and-zero-r, and-le-l, and-le-r, or-lt, or-add-and}
 use lib.IntN.{ℤ, natAbs}
 use lib.ListN.{length}
 use lib.Pow.{pow-pos, pow-lt, high}
@@ -154,6 +154,10 @@ has-or s b = eq-eqb _ _ (ext _ _ (λ k. and-digit (bitOr s b) b k ∙ rw (or-dig
 -- rows r and s of d entries lie in the array, one before the other
 abbrev pub Lie : ℕ → ℕ → ℕ → Type 0
 Lie d r s = (r * d + d ≤ s * d) × (s * d + d ≤ 1024)
+
+-- every row has the mask of no control
+pub all-have : (r : ℕ) → has r 0 ≡ true
+all-have r = eq-eqb (bitAnd r 0) 0 (and-zero-r r)
 
 pub pair-lies : {n r b d : ℕ} → n ≤ 5 → r < 2 ^ n → b < 2 ^ n → has r b ≡ false → d ≡ 2 ^ n → Lie d r (bitOr r b)
 pair-lies {n} {r} {b} {d} hn hr hb h e =

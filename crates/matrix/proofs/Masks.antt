@@ -65,9 +65,6 @@ pub mask-cons : {x y : ℕ} (s : ℕ) (ks : List ℕ) → x ≡ 2 ^ s → y ≡ 
 unfolding maskOf
 mask-cons s ks d e = λ i. bitOr (d i) (e i)
 
-pub none-apart : (t : ℕ) → bitAnd 0 (2 ^ t) ≡ 0
-none-apart t = ap (λ (x : ℕ). bitAnd x (2 ^ t)) mask-none ∙ target-apart t [] tt
-
 -- ---- what a step asks and leaves, where its target is known by an equation
 
 pub exchange-needs : {n : ℕ} (ks : List ℕ) {t control j : ℕ} → t ≡ j → control ≡ maskOf ks → Proper n (exchange ks j)

@@ -1,6 +1,6 @@
 -- One gate in place: what each row operation leaves is the exact step, and of all of them only H and Ch can fail to fit. Assumes nothing.
 use mathlib.Core.Path.{_≡_, refl, sym, ap, _∙_, subst}
-use mathlib.Core.Bool.{Bool, true, false, _&&_}
+use mathlib.Core.Bool.{Bool, true, false, _&&_, and-false}
 use mathlib.Core.List.{List}
 use Prim.Native.Nat.{ℕ, _+_, _^_, _≤_, _<_}
 use native.Mathlib.Omega.{arith}
@@ -116,10 +116,6 @@ ready-next {n} {k} {j} {g} {l} s =
     record { long = s .left .long; small = s .left .small; lowest = equal-lowest n (equal-sym n (s .left .equal)) (act-lowest n g (held n k l)) }
 
 -- ---- one gate after another
-
-and-false : (b : Bool) → (b && false) ≡ false
-and-false true = refl
-and-false false = refl
 
 module _ (n k : ℕ) (g h : Gate) (l : List ℤ) (pr : Proper n h) where
   -- the second is applied to what the first left

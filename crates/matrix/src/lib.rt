@@ -106,7 +106,7 @@ fn exchange_step(m: &mut [Coefficient; 4096], n: usize, control: usize, t: usize
     Applied::Done(k)
 }
 
-// H on bit t. Beside `ch_step`, which has it as the case without a control, so that the compiler makes it without one.
+// H on bit t.
 fn h_step(m: &mut [Coefficient; 4096], n: usize, t: usize, k: u16) -> Applied
     requires { ⌜ (n ≤ 5) × (t < n) ⌝ }
     requires { ⌜ Ready n k (now m) ⌝ }
@@ -115,7 +115,7 @@ fn h_step(m: &mut [Coefficient; 4096], n: usize, t: usize, k: u16) -> Applied
     if k == MOST_K {
         return Applied::DoesNotFit;
     }
-    if !h_rows::apply_h_left(m, n, 0, t) {
+    if !h_rows::apply_h_left(m, n, t) {
         return Applied::DoesNotFit;
     }
     Applied::Done(normalize_denominator(m, n, k + 1))
@@ -131,7 +131,7 @@ fn ch_step(m: &mut [Coefficient; 4096], n: usize, control: usize, t: usize, k: u
     if k == MOST_K {
         return Applied::DoesNotFit;
     }
-    if !h_rows::apply_h_left(m, n, control, t) {
+    if !h_rows::apply_controlled_h_left(m, n, control, t) {
         return Applied::DoesNotFit;
     }
     let raised = k + 1;
@@ -174,18 +174,19 @@ fn swap_step(
     Applied::Done(k)
 }
 
-// Sx on bit t: H, S, H. Where the second H does not fit, the first was made.
+// Sx on bit t: H, S, H. Where the second H does not fit, the first was made. By `ch_step` without a control: with one caller alone `h_step` is
+// compiled in place, and H takes no longer than without Sx and Ch.
 fn sx_step(m: &mut [Coefficient; 4096], n: usize, t: usize, k: u16) -> Applied
     requires { ⌜ (n ≤ 5) × (t < n) ⌝ }
     requires { ⌜ Ready n k (now m) ⌝ }
     ensures { λ r. ⌜ Stepped n k (then (had [] t) (then (phase (t ∷ []) 2) (had [] t))) (now (m .entry)) (now (m .exit)) r ⌝ }
 {
     let target = places::mask(t);
-    match h_step(m, n, t, k) {
+    match ch_step(m, n, 0, t, k) {
         Applied::DoesNotFit => Applied::DoesNotFit,
         Applied::Done(j) => {
             rows::apply_phase_left(m, n, target, 2);
-            h_step(m, n, t, j)
+            ch_step(m, n, 0, t, j)
         }
     }
 }

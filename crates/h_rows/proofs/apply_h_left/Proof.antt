@@ -1,4 +1,4 @@
--- `apply_h_left` meets its contract: the test comes before any store, so a refusal leaves all places, and past it every result fits.
+-- `apply_h_left` meets its contract: the test comes before any store, so a refusal leaves all places, and past it every sum and difference fits.
 use borrow.Author.Needs.{needs}
 use borrow.Author.Tests.{not-true, not-false}
 use mathlib.Core.Path.{refl}
@@ -18,7 +18,7 @@ returns c = record {
 h-rows-requires : tie.Need-h-rows-requires
 h-rows-requires c κs =
     let s = c .before .before .before .before in
-    (s .pre .0, (s .pre .1 .0, (s .pre .1 .1, c .before .before .h-fits .ensures .holds (not-false _ (c .before .if1 .left)))))
+    (s .pre .0, (s .pre .1, c .before .before .h-fits .ensures .holds (not-false _ (c .before .if1 .left))))
 
 returns-2 : tie.Need-returns-2
 returns-2 c = record {

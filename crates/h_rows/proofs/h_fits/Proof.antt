@@ -4,6 +4,7 @@ use native.Mathlib.Omega.{arith}
 use borrow.Author.Needs.{needs}
 use borrow.Author.Tests.{not-true, not-false}
 use mathlib.Core.Path.{refl}
+use lib.Bits.{and-zero-l}
 use lib.Pow.{pow-lt}
 use Rattle.ints.proofs.Bools.{clash}
 use Rattle.h_rows.proofs.HRows.{FitsTo, fits-none, fits-more, fits-all, all-pair}
@@ -11,10 +12,10 @@ use Rattle.h_rows.proofs.h_fits.Statement.{statement}
 use Rattle.h_rows.proofs.h_fits.Tie as tie
 
 abbrev Inv-loop : tie.InvT-loop
-Inv-loop m n control t d bit r₀ r = (r ≤ d) × FitsTo n control (2 ^ t) m r
+Inv-loop m n t d bit r₀ r = (r ≤ d) × FitsTo n 0 (2 ^ t) m r
 
 abbrev μ-loop : tie.MeasureT-loop
-μ-loop m n control t d bit r₀ r = d - r
+μ-loop m n t d bit r₀ r = d - r
 
 loop-holds : tie.Need-loop-holds Inv-loop μ-loop
 loop-holds c = (search needs, fits-none)
@@ -22,7 +23,7 @@ loop-holds c = (search needs, fits-none)
 pair-fits-requires : tie.Need-pair-fits-requires Inv-loop μ-loop
 pair-fits-requires c κs =
     let s = c .before .before .before .before in
-    (s .pre .0, (s .pre .1 .0 .0, omega (arith, c .before .before .before .dim .ensures), rw (c .before .before .mask .ensures) (pow-lt (s .pre .1 .0 .1))))
+    (s .pre .0, omega (arith, c .before .before .before .dim .ensures), rw (c .before .before .mask .ensures) (pow-lt (s .pre .1)))
 
 returns : tie.Need-returns Inv-loop μ-loop
 returns c =
@@ -30,7 +31,7 @@ returns c =
     record {
       holds = λ h. clash h refl;
       fails = λ h w. c .before .pair-fits .ensures .fails (not-true _ (c .if1 .taken))
-          (rw (c .before .before .before .before .mask .ensures) (all-pair (s .args .control) (s .args .t) (s .pre .1 .1) w (s .pre .1 .0 .1) (omega (arith, c .before .before .before .before .before .dim .ensures))));
+          (rw (c .before .before .before .before .mask .ensures) (all-pair 0 (s .args .t) (and-zero-l (2 ^ s .args .t)) w (s .pre .1) (omega (arith, c .before .before .before .before .before .dim .ensures))));
     }
 
 loop-again : tie.Need-loop-again Inv-loop μ-loop
@@ -41,7 +42,7 @@ loop-again c = (
 
 returns-2 : tie.Need-returns-2 Inv-loop μ-loop
 returns-2 c = record {
-  holds = λ h. fits-all (c .before .before .before .before .args .control) (c .before .before .before .before .args .t) (c .before .before .before .before .pre .1 .1) (c .before .loop .inv .1) (omega (arith, c .before .before .before .dim .ensures));
+  holds = λ h. fits-all 0 (c .before .before .before .before .args .t) (and-zero-l (2 ^ (c .before .before .before .before .args .t))) (c .before .loop .inv .1) (omega (arith, c .before .before .before .dim .ensures));
   fails = λ h. clash refl h;
 }
 

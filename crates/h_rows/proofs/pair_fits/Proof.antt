@@ -5,7 +5,7 @@ use borrow.Author.Tests.{eq-eqb, ne-eqb}
 use mathlib.Core.Path.{refl}
 use lib.Bits.{bitOr}
 use Rattle.ints.proofs.Bools.{clash}
-use Rattle.h_rows.proofs.HRows.{Lie, pair-lies, pair-tells, roots-tell}
+use Rattle.h_rows.proofs.HRows.{Lie, pair-lies, pair-tells, all-have}
 use Rattle.h_rows.proofs.pair_fits.Statement.{statement}
 use Rattle.h_rows.proofs.pair_fits.Tie as tie
 
@@ -17,16 +17,11 @@ returns c = record {
 
 lies : (c : tie.After-dim) → Lie (c .dim .result) (c .before .before .args .r) (bitOr (c .before .before .args .r) (c .before .before .args .bit))
 lies c =
-    let p = c .before .before .pre .1 in
+    let p = c .before .before .pre in
     pair-lies (p .0) (p .1) (p .2) (ne-eqb _ _ (c .before .if1 .left)) (c .dim .ensures)
 
 returns-2 : tie.Need-returns-2
-returns-2 c =
-    roots-tell (c .before .before .dim .ensures) (ne-eqb _ _ (c .before .before .before .if1 .left)) (ne-eqb _ _ (c .before .if2 .taken)) (c .roots-fit .ensures)
-
-returns-3 : tie.Need-returns-3
-returns-3 c =
-    pair-tells (c .before .before .dim .ensures) (ne-eqb _ _ (c .before .before .before .if1 .left)) (eq-eqb _ _ (c .before .if2 .left)) (c .sizes-fit .ensures)
+returns-2 c = pair-tells (c .before .dim .ensures) (ne-eqb _ _ (c .before .before .if1 .left)) (all-have (c .before .before .before .args .r)) (c .sizes-fit .ensures)
 
 pub pair-fits-spec : {M : Type 1} → statement M
 pair-fits-spec =
@@ -34,14 +29,10 @@ pair-fits-spec =
     (tie.spec
     returns
     (λ c κs. search needs)
-    (λ c. omega (arith, lies (c .before)))
-    (λ c. omega (arith, lies (c .before)))
-    (λ c κs. (c .before .before .before .pre .0, lies (c .before)))
-    returns-2
-    (λ c. omega (arith, lies (c .before)))
-    (λ c. omega (arith, lies (c .before)))
-    (λ c. omega (arith, lies (c .before)))
-    (λ c. omega (arith, lies (c .before)))
-    (λ c. omega (arith, lies (c .before)))
-    (λ c κs. omega (arith, lies (c .before)))
-    returns-3)
+    (λ c. omega (arith, lies c))
+    (λ c. omega (arith, lies c))
+    (λ c. omega (arith, lies c))
+    (λ c. omega (arith, lies c))
+    (λ c. omega (arith, lies c))
+    (λ c κs. omega (arith, lies c))
+    returns-2)

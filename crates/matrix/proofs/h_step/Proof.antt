@@ -3,7 +3,6 @@
 use native.Mathlib.Omega.{arith}
 use borrow.Author.Needs.{needs}
 use borrow.Author.Tests.{not-true, not-false}
-use Rattle.matrix.proofs.Masks.{none-apart}
 use Rattle.matrix.proofs.Steps.{h-refused-k, h-refused, h-stepped, summed-small}
 use Rattle.matrix.proofs.h_step.Statement.{statement}
 use Rattle.matrix.proofs.h_step.Tie as tie
@@ -14,7 +13,7 @@ returns c = record { by = λ ks e p. h-refused-k _ _ ks _ _ (omega (arith, c .if
 apply-h-left-requires : tie.Need-apply-h-left-requires
 apply-h-left-requires c κs =
     let p = c .before .before .pre in
-    (p .1 .long, (p .0, none-apart (c .before .before .args .t)))
+    (p .1 .long, p .0)
 
 returns-2 : tie.Need-returns-2
 returns-2 c = record {

@@ -9,7 +9,8 @@ use Rattle.ints.specs.Lists.{pick}
 use Rattle.exact.specs.Answers.{Answer, given, refused}
 use Rattle.exact.specs.Fingerprint.{fingerprint}
 use Rattle.exact.specs.Places.{held}
-use Rattle.walk.specs.Answers.{Part, partWith, Reply}
+use Rattle.walk.specs.Finds.{Part, partWith}
+use Rattle.walk.specs.Answers.{Reply}
 use Rattle.walk.specs.Answers as a
 use Rattle.tables.specs.Checks.{firstRow, queryRows, Arrays}
 use Rattle.tables.specs.Tables.{Table, BuildReply, table, refusal, Query, listRow, repliedBy}

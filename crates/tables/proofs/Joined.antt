@@ -23,7 +23,8 @@ use Rattle.walk.proofs.Layers.{walk-shape}
 use Rattle.walk.proofs.Rechecks.{recheck-exactly}
 use Rattle.walk.proofs.Held.{chain-is}
 use Rattle.walk.proofs.Exactly.{print-is}
-use Rattle.walk.specs.Answers.{WidthLimits, partWith, rechecked, given, Outcome, outcome, ofChain, ofLookup, answerOf}
+use Rattle.walk.specs.Finds.{WidthLimits, partWith, rechecked}
+use Rattle.walk.specs.Answers.{given, Outcome, outcome, ofChain, ofLookup, answerOf}
 use Rattle.walk.specs.Answers as a
 use Rattle.walk.proofs.Rechecked.{rechecked-exactly}
 

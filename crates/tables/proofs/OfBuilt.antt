@@ -15,7 +15,8 @@ use Rattle.exact.specs.Matrix.{Exact, Lowest, allDivisible}
 use Rattle.exact.proofs.Values.{pick-ind}
 use Rattle.exact.specs.Places.{read, held}
 use Rattle.walk.proofs.Nodewise.{answered}
-use Rattle.walk.specs.Answers.{partWith, given, refused, outcome, answerOf}
+use Rattle.walk.specs.Finds.{partWith}
+use Rattle.walk.specs.Answers.{given, refused, outcome, answerOf}
 use Rattle.walk.specs.Answers as a
 use Rattle.walk.proofs.Meaning.{kind-of}
 use Rattle.tables.specs.Checks.{Row, firstRow, Arrays, placesOf, roomRow, queryRows}

@@ -42,7 +42,8 @@ use Rattle.walk.proofs.Layers.{walk-shape}
 use Rattle.walk.proofs.Known.{present-no-clash}
 use Rattle.walk.proofs.Exactly.{no-clash}
 use Rattle.walk.proofs.NotEmpty.{no-shared, unsaturated}
-use Rattle.walk.specs.Answers.{rechecked, answerOf}
+use Rattle.walk.specs.Finds.{rechecked}
+use Rattle.walk.specs.Answers.{answerOf}
 use Rattle.walk.proofs.Meaning.{kind-of}
 use Rattle.tables.specs.Checks.{firstRow, Limits, limitRows, Arrays, placesOf, roomRow, anyBelow, queryRows}
 use Rattle.tables.specs.Tables.{recordOf, builtTo, buildRows, Query, matrixOf, listRow, synthesized}

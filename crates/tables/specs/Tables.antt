@@ -11,7 +11,8 @@ use Rattle.exact.specs.Matrix.{Exact}
 use Rattle.exact.specs.Places.{held}
 use Rattle.walk.specs.Walk.{Build, gate, any}
 use Rattle.walk.specs.AtWidth.{built, printOf, parentOf}
-use Rattle.walk.specs.Answers.{WidthLimits, Part, partWith, none, refused, Outcome, outcome, answerOf}
+use Rattle.walk.specs.Finds.{WidthLimits, Part, partWith}
+use Rattle.walk.specs.Answers.{none, refused, Outcome, outcome, answerOf}
 use Rattle.tables.specs.Checks.{Row, row, firstRow, Limits, limitRows, Arrays, roomRow, queryRows}
 
 -- ---- the record

@@ -9,7 +9,8 @@ use Rattle.ints.specs.Lists.{pick}
 use Rattle.exact.specs.Matrix.{Exact}
 use Rattle.walk.specs.Chains.{Chain, good, bad}
 use Rattle.width_answer.specs.Answers.{toldAnswered}
-use Rattle.walk.specs.Answers.{rechecked, given, none, refused, Outcome, outcome, ofChain}
+use Rattle.walk.specs.Finds.{rechecked}
+use Rattle.walk.specs.Answers.{given, none, refused, Outcome, outcome, ofChain}
 use Rattle.width_answer.specs.declared.Answered.{Answered}
 use Rattle.width_answer.specs.declared.Answered.the-variants as a
 use Rattle.walk.proofs.Meaning.{kind-of, size}

@@ -14,7 +14,8 @@ use Rattle.synthesis_arena.specs.Chains as arena
 use Rattle.synthesis_arena.specs.declared.NodeCircuit.{NodeCircuit}
 use Rattle.synthesis_arena.specs.declared.NodeCircuit.the-variants.{Length, Bad}
 use Rattle.synthesis_arena.proofs.Told.{circuit-read, circuit-refused}
-use Rattle.walk.specs.Answers.{rechecked, given, none, refused, outcome, ofChain}
+use Rattle.walk.specs.Finds.{rechecked}
+use Rattle.walk.specs.Answers.{given, none, refused, outcome, ofChain}
 use Rattle.circuit.proofs.Coded.{basis-valid}
 
 -- the part of an array from 0 up to m, as the code takes it

@@ -11,7 +11,8 @@ use Rattle.exact.specs.Lists.{product}
 use Rattle.exact.proofs.Phases.{up-sym, power-of-test}
 use Rattle.exact.proofs.Unitaries.{unitary-asked}
 use Rattle.width_answer.specs.Answers.{toldAnswered}
-use Rattle.walk.specs.Answers.{WidthLimits, Part, Reply, given, none, refused, Outcome, outcome, answerOf}
+use Rattle.walk.specs.Finds.{WidthLimits, Part}
+use Rattle.walk.specs.Answers.{Reply, given, none, refused, Outcome, outcome, answerOf}
 use Rattle.walk.specs.Meaning.{AnsweredBy, NoList, BadFound, Right}
 use Rattle.width_answer.specs.declared.Answered.{Answered}
 use Rattle.width_answer.specs.declared.Answered.the-variants as a

@@ -9,7 +9,8 @@ use Rattle.walk.specs.Lookup.{lowestFrom}
 use Rattle.walk.specs.Chains.{chainOf}
 use Rattle.synthesis_arena.specs.declared.Found.{Found}
 use Rattle.synthesis_arena.specs.declared.Found.the-variants.{At, NotFound}
-use Rattle.walk.specs.Answers.{WidthLimits, Part, none, Outcome, outcome, ofChain, ofLookup, answerOf}
+use Rattle.walk.specs.Finds.{WidthLimits, Part}
+use Rattle.walk.specs.Answers.{none, Outcome, outcome, ofChain, ofLookup, answerOf}
 
 module _ (limits : WidthLimits) (part : Part) (x : Exact) (out : List ℕ) {print : ℕ} (e : print ≡ fingerprint (limits .width) x) {r : Found}
     (told : toldFound r ≡ lowestFrom (part .fingerprints) (part .count) 0 print) where

@@ -8,7 +8,8 @@ use lib.ListN.{length, take, drop, length-drop}
 use lib.Seq.{length-take-le}
 use Rattle.exact.specs.Matrix.{Exact}
 use Rattle.exact.specs.Places.{held}
-use Rattle.walk.specs.Answers.{WidthLimits, answerOf}
+use Rattle.walk.specs.Finds.{WidthLimits}
+use Rattle.walk.specs.Answers.{answerOf}
 use Rattle.synthesis_arena.specs.Limits.{toldLimits}
 use Rattle.murm.specs.Entries.{partFrom}
 use Rattle.murm.proofs.ask_from.Statement.{statement}

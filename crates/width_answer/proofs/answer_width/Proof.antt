@@ -2,7 +2,7 @@
 use native.Mathlib.Omega.{arith}
 use borrow.Author.Needs.{needs}
 use Rattle.exact.specs.Places.{held}
-use Rattle.walk.specs.Answers.{partWith}
+use Rattle.walk.specs.Finds.{partWith}
 use Rattle.synthesis_arena.specs.Limits.{toldLimits}
 use Rattle.synthesis_arena.proofs.Told.{found-lowest}
 use Rattle.width_answer.proofs.Widths.{width-node, width-none}

@@ -11,8 +11,7 @@ use Rattle.tables.specs.Tables.{Table, BuildReply, table, refusal, Left,
 use Rattle.tables.specs.Exactly.{Cause, cause, First, NoCause, buildCauses, BadChain, answerCauses, Exactly}
 use Rattle.tables.proofs.FromBuild.{build-refusal, build-fills}
 use Rattle.tables.proofs.Replies.{ReplyCase, not-a-width, part-asked, by-row, row-refuses, width-asked, cases, asked-means}
-use Rattle.tables.proofs.OfBuilt.{a-width}
-use Rattle.tables.proofs.Demand3.{has-width}
+use Rattle.tables.proofs.OfBuilt.{has-width, a-width}
 use Rattle.tables.proofs.Causes.{first-to, first-from, none-to, none-from, first-more, first-later, first-split}
 use Rattle.tables.proofs.ListExactly.{list, formed}
 use Rattle.tables.proofs.InWords.{build-in-words, rowCauses, answer-in-words}
@@ -100,7 +99,7 @@ module _ (t : Table) (a : Arrays) (q : Query) (out : List ℕ) where
           let (x, h, y) = first-from (answer-in-words t a q out) r p f in
           row-refuses t a q out r h x ∙ (λ k. outcome (refused r (sym y k)) (sym z k))
       from (inr (n, inl (x, (c, y)))) z =
-          width-asked t a q out (none-from (answer-in-words t a q out) n) (has-width t q (c .some) (c .has))
+          width-asked t a q out (none-from (answer-in-words t a q out) n) (has-width t (q .width) (c .some) (c .has))
           ∙ asked-means t a q out .is-refused r p after .1 (c .fault, sym x, y, z)
       from (inr (n, inr (m, f))) z = absurd f
 

@@ -8,6 +8,7 @@ pub mod Filled
 pub mod FromBuild
 pub mod Counts
 pub mod Joined
+pub mod Asked
 pub mod Replies
 pub mod OfBuilt
 pub mod Demand2

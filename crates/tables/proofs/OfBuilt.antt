@@ -5,7 +5,7 @@ use mathlib.Core.List.{List, [], _∷_, _++_}
 use mathlib.Core.Option.{Option, none, some}
 use Prim.Native.Nat.{ℕ, _+_, _-_, _*_, _≤_, _<_}
 use native.Mathlib.Omega.{arith}
-use borrow.Author.Tests.{ltb-false}
+use borrow.Author.Tests.{ltb-false, le-ltb, ne-eqb}
 use lib.Dec.{eqb, ltb}
 use lib.IntN.{ℤ}
 use lib.ListN.{length, getD, drop}
@@ -52,8 +52,11 @@ first-up-to m (r ∷ rs) u = pick-ind (λ (z : ℕ). z ≤ m) (r .holds) (λ e. 
 pub asked-lowest : (n k : ℕ) (bytes : List ℤ) → firstRow (queryRows n k bytes) ≡ 0 → Lowest n (held n k bytes)
 asked-lowest n k bytes e = record { lowest = λ h. fails (is-true (allDivisible n (read n bytes))) (λ d. none-to (query-in-words (query n k bytes)) e .1 .1 .1 .0 0 ((h, d), refl)) }
 
--- a width that a table has
-pub a-width : (t : Table) (q : Query) → notAWidth t q ≡ false → (0 < q .width) × (q .width ≤ t .limits .qubits)
+-- a width that a table has, and back
+pub has-width : (t : Table) (w : ℕ) → 0 < w → w ≤ t .limits .qubits → notAWidth t w ≡ false
+has-width t w p h = rw (ne-eqb w 0 (omega arith), le-ltb (t .limits .qubits) w h)
+
+pub a-width : (t : Table) (q : Query) → notAWidth t (q .width) ≡ false → (0 < q .width) × (q .width ≤ t .limits .qubits)
 a-width t q e =
     let p = neither (eqb (q .width) 0) (ltb (t .limits .qubits) (q .width)) e in
     (above (q .width) (p .0), ltb-false (t .limits .qubits) (q .width) (p .1))
@@ -140,8 +143,8 @@ module _ (t : Table) (a : Arrays) (b : Built t a) where
         → answerOf (limitsAt (t .limits) w) (partAt t a w) x out
         ≡ toldOption (answered w B G E x) out
     part-answers x out =
-        ap (λ (v : Width). answerOf (limitsAt (t .limits) w) (partWith (partOf w E (a .prints)) (partOf w E (a .parents)) (partOf w E (a .codes)) (v .count)) x out)
-        (width-is t a b w p h)
+        ap (λ (j : ℕ). answerOf (limitsAt (t .limits) w) (partWith (partOf w E (a .prints)) (partOf w E (a .parents)) (partOf w E (a .codes)) j) x out)
+        (rw (has-width t w p h) (ap (λ (v : Width). v .count) (width-is t a b w p h)))
         ∙ joined w B G E (widths-small w h) (partOf w E (a .prints)) (partOf w E (a .parents))
         (partOf w E (a .codes)) holding x out
 
@@ -149,7 +152,7 @@ module _ (t : Table) (a : Arrays) (b : Built t a) where
 
   module _ (q : Query) (out : List ℕ) where
     -- that no row refuses, of a width that the table has
-    pub told-walk : rowOfAnswer t a q out ≡ 0 → notAWidth t q ≡ false → synthesized t a q out ≡ toldOption (answered (q .width) B G E (matrixOf q)) out
+    pub told-walk : rowOfAnswer t a q out ≡ 0 → notAWidth t (q .width) ≡ false → synthesized t a q out ≡ toldOption (answered (q .width) B G E (matrixOf q)) out
     told-walk e f = let w = a-width t q f in width-asked t a q out e f ∙ part-answers (q .width) (w .0) (w .1) (matrixOf q) out
 
     -- a list is the walk's

@@ -42,11 +42,11 @@ use Rattle.walk.proofs.Layers.{walk-shape}
 use Rattle.walk.proofs.Known.{present-no-clash}
 use Rattle.walk.proofs.Exactly.{no-clash}
 use Rattle.walk.proofs.NotEmpty.{no-shared, unsaturated}
-use Rattle.walk.specs.Finds.{rechecked}
-use Rattle.walk.specs.Answers.{answerOf}
+use Rattle.walk.specs.Finds.{rechecked, findOf}
+use Rattle.walk.specs.Answers.{writeOf}
 use Rattle.walk.proofs.Meaning.{kind-of}
 use Rattle.tables.specs.Checks.{firstRow, Limits, limitRows, Arrays, placesOf, roomRow, anyBelow, queryRows}
-use Rattle.tables.specs.Tables.{recordOf, builtTo, buildRows, Query, matrixOf, listRow, synthesized}
+use Rattle.tables.specs.Tables.{recordOf, builtTo, buildRows, Query, matrixOf, listRow, foundIn, writtenIn, synthesized}
 use Rattle.tables.specs.Built.{Built}
 use Rattle.tables.specs.Demand3.{Gives, GivesNone, Refuses, NotRefused, NoSmaller, Reaches, Complete}
 use Rattle.tables.specs.Samples.{xLimits, largerLimits, chLimits, Places, askX, askT, askZero, lent, damaged, mistaken, circular, foreign, forgotten, Samples}
@@ -55,8 +55,8 @@ use Rattle.tables.proofs.Accepted.{room-is}
 use Rattle.tables.proofs.FromBuild.{build-fills, build-refusal}
 use Rattle.tables.proofs.Joined.{toldOption}
 use Rattle.tables.proofs.Replies.{rowOfAnswer, row-refuses}
-use Rattle.tables.proofs.OfBuilt.{not-refusal, rows-are, told-walk}
-use Rattle.tables.proofs.Demand3.{has-width, demand}
+use Rattle.tables.proofs.OfBuilt.{has-width, not-refusal, rows-are, told-walk}
+use Rattle.tables.proofs.Demand3.{demand}
 
 -- ---- computed
 
@@ -108,7 +108,7 @@ record Computed : Type 0 where
   x-of : ListOf 1 2 (4096 ∷ [])
 
 computed : Computed
-unfolding ofTables synthesized recordOf firstRow subset anyBelow answerOf lowestFrom chainOf marked rechecked steps answerBy recheck upToPhase eqω product walk depths deeper layer tryAll try skipped samePrint fingerprint mix fold Words.product rotated word pivot phaseOf leastUpTo less turn zeroω oneω isZero gateOf column flip lower stepFits fits valid validFor placed rises all elem distinct range each kept generators kindAt arity sorted isKind number dual inverse qubits disjoint bit entry
+unfolding ofTables synthesized foundIn writtenIn recordOf firstRow subset anyBelow findOf writeOf lowestFrom chainOf marked rechecked steps answerBy recheck upToPhase eqω product walk depths deeper layer tryAll try skipped samePrint fingerprint mix fold Words.product rotated word pivot phaseOf leastUpTo less turn zeroω oneω isZero gateOf column flip lower stepFits fits valid validFor placed rises all elem distinct range each kept generators kindAt arity sorted isKind number dual inverse qubits disjoint bit entry
 computed = record {
   ch-limits = λ a. refl;
   x-limits = refl;
@@ -153,7 +153,7 @@ module _ (l : Limits) (a : Arrays) (b : Built (recordOf l) a) (q : Query) (out :
   unfolding recordOf firstRow
   told h p w =
       told-walk (recordOf l) a b q out (only-12 ∙ first-past (listRow (recordOf l) out) [] (le-ltb (length out) (l .gates) h))
-      (has-width (recordOf l) q p w)
+      (has-width (recordOf l) (q .width) p w)
 
   too-short : length out < l .gates → Refuses (recordOf l) a q out 12
   unfolding recordOf

@@ -1,33 +1,29 @@
--- `answer_width` meets its contract: the node found answers.
+-- `answer_width` meets its contract: the list found is copied.
+use mathlib.Core.List.{[]}
+use Prim.Native.Nat.{_-_}
 use native.Mathlib.Omega.{arith}
 use borrow.Author.Needs.{needs}
-use Rattle.exact.specs.Places.{held}
-use Rattle.walk.specs.Finds.{partWith}
-use Rattle.synthesis_arena.specs.Limits.{toldLimits}
-use Rattle.synthesis_arena.proofs.Told.{found-lowest}
-use Rattle.width_answer.proofs.Widths.{width-node, width-none}
+use lib.ListN.{length-take}
+use Rattle.width_answer.proofs.Widths.{answered-none, answered-bad, found-short, found-within, answered-list}
 use Rattle.width_answer.proofs.answer_width.Statement.{statement}
 use Rattle.width_answer.proofs.answer_width.Tie as tie
 
-answer-node-requires : tie.Need-answer-node-requires
-answer-node-requires c κs =
-    let p = c .before .before .before .before .before .before .before .before .before .before .before .pre in
-    let f = found-lowest _ _ _ _ (c .before .before .before .before .node-for .ensures) (c .before .before .node .given .1) in
-    (p .0, ((omega (arith, f .below, p .1 .0 .1), omega (arith, f .below, p .1 .0 .2)), p .1 .1))
+part-copy-codes-end : tie.Need-part-copy-codes-end
+part-copy-codes-end c = found-within _ _ _ [] _ (c .before .before .before .before .before .before .find-list .ensures) (c .before .before .before .size .given .1)
+
+copy-codes-requires : tie.Need-copy-codes-requires
+copy-codes-requires c κs =
+    let h = c .before .before .before .before .before .before .before .find-list .ensures in
+    omega (arith, c .before .before .before .before .before .before .before .before .before .before .before .before .before .pre .0, found-short _ _ _ [] _ h (c .before .before .before .before .size .given .1), length-take (c .before .before .before .before .size .given .0 .1 .0 - 0) (c .before .before .before .before .before .before .before .find-list .last .1 .1 .1 .1 .1 .1 .1 .0))
 
 returns : tie.Need-returns
-returns c =
-    let a = c .before .before .before .before .before .before .before .before .before .before .before .before .before .before .args in
-    width-node (toldLimits (a .limits)) (partWith (a .fingerprints .now) (a .parents .now) (a .codes .now) (a .count))
-    (held (a .limits .width) (a .exponent) (a .query .now)) (a .out .now) (c .before .before .before .before .before .before .before .before .unitary-fingerprint .ensures)
-    (c .before .before .before .before .before .before .before .node-for .ensures) (c .before .before .before .before .before .node .given .1) (c .before .before .answer-node .ensures)
+returns c = answered-list _ _ _ _ _ (c .before .before .before .before .before .before .before .before .before .before .find-list .ensures) (c .before .before .before .before .before .before .before .size .given .1) (c .before .before .copy-codes .ensures)
 
 returns-2 : tie.Need-returns-2
-returns-2 c =
-    let a = c .before .before .before .before .before .before .before .before .before .args in
-    width-none (toldLimits (a .limits)) (partWith (a .fingerprints .now) (a .parents .now) (a .codes .now) (a .count))
-    (held (a .limits .width) (a .exponent) (a .query .now)) (a .out .now) (c .before .before .before .unitary-fingerprint .ensures)
-    (c .before .before .node-for .ensures) (c .enum-told .given .1)
+returns-2 c = answered-none _ _ _ _ _ (c .before .before .before .find-list .ensures) (c .enum-told .given .1)
+
+returns-3 : tie.Need-returns-3
+returns-3 c = answered-bad _ _ _ _ _ (c .before .before .before .find-list .ensures) (c .enum-told2 .given .1)
 
 pub answer-width-spec : {M : Type 1} → statement M
 answer-width-spec =
@@ -35,10 +31,14 @@ answer-width-spec =
     (tie.spec
     (λ c. search needs)
     (λ c κs. search needs)
-    (λ c κs. search needs)
     (λ c. search needs)
-    answer-node-requires
+    (λ c. search needs)
+    (λ c. search needs)
+    part-copy-codes-end
+    copy-codes-requires
+    (λ c. search needs)
     (λ c. search needs)
     (λ c. search needs)
     returns
-    returns-2)
+    returns-2
+    returns-3)

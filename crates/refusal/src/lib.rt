@@ -20,6 +20,7 @@ pub enum Refusal {
     BadTable,
     BrokenLine,
     LongInput,
+    NoSuchNode,
 }
 
 // What a check comes to.
@@ -34,7 +35,7 @@ pub struct Numbered(pub u64, pub u64);
 pub fn number_of(refusal: Refusal) -> Numbered
     ensures number { λ r. ⌜ r .0 ≡ numberOf refusal ⌝ }
     ensures position { λ r. ⌜ r .1 ≡ positionOf refusal ⌝ }
-    ensures most { λ r. ⌜ r .0 ≤ 15 ⌝ }
+    ensures most { λ r. ⌜ r .0 ≤ 16 ⌝ }
 {
     match refusal {
         Refusal::WidthLimit => Numbered(1, 0),
@@ -52,5 +53,6 @@ pub fn number_of(refusal: Refusal) -> Numbered
         Refusal::BadTable => Numbered(13, 0),
         Refusal::BrokenLine => Numbered(14, 0),
         Refusal::LongInput => Numbered(15, 0),
+        Refusal::NoSuchNode => Numbered(16, 0),
     }
 }

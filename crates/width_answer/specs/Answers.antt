@@ -1,5 +1,5 @@
--- The cases of what a width finds and answers as the definitions have them (SPECIFICATION 12.8), and what the functions ask of the places of a
--- query. What is found and answered is in walk/specs. Assumes nothing.
+-- The cases of what a width finds as the definitions have them (SPECIFICATION 12.8), and what the functions ask of the places of a query. What is
+-- found and answered is in walk/specs. Assumes nothing.
 use mathlib.Core.Path.{_≡_}
 use mathlib.Core.List.{List, _++_}
 use Prim.Native.Nat.{ℕ, _*_, _^_, _≤_}
@@ -11,22 +11,15 @@ use Rattle.exact.proofs.Words.{AllSmall}
 use Rattle.walk.specs.Chains.{Chain}
 use Rattle.walk.specs.Finds.{WidthLimits, Part, Finding, byChain, findOf}
 use Rattle.walk.specs.Finds as f
-use Rattle.walk.specs.Answers.{Reply, given, none, refused, Outcome, outcome, written, thenWrite, answerOf}
+use Rattle.walk.specs.Answers.{given, none, refused, Outcome, outcome, written, thenWrite, answerOf}
 use Rattle.width_answer.specs.declared.Find.{Find}
 use Rattle.width_answer.specs.declared.Find.the-variants as d
-use Rattle.width_answer.specs.declared.Answered.{Answered}
-use Rattle.width_answer.specs.declared.Answered.the-variants as a
 
 -- a bad chain is 13 (SPECIFICATION 9.3)
 abbrev pub toldFind : Find → Finding
 toldFind (d.Node k m) = f.node k m
 toldFind d.Nothing = f.none
 toldFind d.BadChain = f.refused 13 0
-
-abbrev pub toldAnswered : Answered → Reply
-toldAnswered (a.List m) = given m
-toldAnswered a.Nothing = none
-toldAnswered a.BadChain = refused 13 0
 
 -- what is found, with its list in the first places of one list, copied over the first places of another
 abbrev pub copied : Finding → List ℕ → List ℕ → Outcome

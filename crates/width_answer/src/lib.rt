@@ -1,5 +1,5 @@
-// What one width's part of a lent table answers to a matrix, whatever its three arrays hold (SPECIFICATION 7.4 to 7.7). murm.rs of the original,
-// `Murm::synthesize`, below the public entry: no row up to 12 has refused.
+// The node that answers a matrix in one width's part of a lent table, whatever its three arrays hold (SPECIFICATION 7.4 to 7.6). murm.rs of the
+// original, `Murm::synthesize`, below the public entries: no row up to 11 has refused.
 ghost use mathlib.Core.Path.{_≡_};
 ghost use mathlib.Core.Bool.{true};
 ghost use mathlib.Core.List.{_++_};
@@ -9,9 +9,8 @@ ghost use Rattle.ints.specs.Lists.{all};
 ghost use Rattle.circuit.specs.Codes.{valid};
 ghost use Rattle.exact.specs.Places.{held};
 ghost use Rattle.walk.specs.Chains.{chainOf};
-ghost use Rattle.width_answer.specs.Answers.{AskedPlaces, toldFind, toldAnswered, NodeFound, ListFound};
-ghost use Rattle.walk.specs.Finds.{partWith, rechecked, findOf};
-ghost use Rattle.walk.specs.Answers.{outcome, answerOf};
+ghost use Rattle.width_answer.specs.Answers.{AskedPlaces, toldFind, NodeFound, ListFound};
+ghost use Rattle.walk.specs.Finds.{partWith, rechecked};
 ghost use Rattle.synthesis_arena.specs.Limits.{toldLimits};
 use circuit::GateSet;
 use cyclotomic::Coefficient;
@@ -23,13 +22,6 @@ use synthesis_arena::WidthLimits;
 // What is found: a node, and how many gates its list has; none; or that the chain found is bad (SPECIFICATION 7.5).
 pub enum Find {
     Node(usize, usize),
-    Nothing,
-    BadChain,
-}
-
-// What is answered: a list, by how many gates it has; none; or that the chain found is bad.
-pub enum Answered {
-    List(usize),
     Nothing,
     BadChain,
 }
@@ -50,7 +42,7 @@ pub fn recheck(codes: &[u32], n: usize, exponent: u16, query: &[Coefficient]) ->
 }
 
 // The places of one slice are copied to the first places of the other.
-fn copy_codes(to: &mut [u32], from: &[u32])
+pub fn copy_codes(to: &mut [u32], from: &[u32])
     requires { ⌜ length (now from) ≤ length (now to) ⌝ }
     ensures { λ _. ⌜ now (to .exit) ≡ now (from .entry) ++ drop (length (now (from .entry))) (now (to .entry)) ⌝ }
 {
@@ -94,8 +86,9 @@ fn find_node(
     Find::Node(node, size)
 }
 
-// The lowest node with the matrix's fingerprint (SPECIFICATION 7.4), with its list in the first places of `list`.
-fn find_list(
+// The node that answers a matrix in a width's part of a table, by the lowest that has its fingerprint (SPECIFICATION 7.4). Its list is left in
+// the first places of `list`; what `list` holds where no node is found is not told.
+pub fn find_width(
     limits: WidthLimits,
     count: usize,
     exponent: u16,
@@ -115,73 +108,5 @@ fn find_list(
     match synthesis_arena::node_for(fingerprints, count, 0, print) {
         Found::At(node) => find_node(limits, node, exponent, parents, codes, query, list),
         Found::NotFound => Find::Nothing,
-    }
-}
-
-// The node that answers a matrix in a width's part of a table.
-pub fn find_width(
-    limits: WidthLimits,
-    count: usize,
-    exponent: u16,
-    fingerprints: &[u64],
-    parents: &[u32],
-    codes: &[u32],
-    query: &[Coefficient],
-) -> Find
-    requires { ⌜ (limits .width ≤ 5) × (limits .gates ≤ 64) ⌝ }
-    requires { ⌜ (count ≤ length (now fingerprints)) × (count ≤ length (now parents)) × (count ≤ length (now codes)) ⌝ }
-    requires { ⌜ AskedPlaces (limits .width) (now query) ⌝ }
-    ensures { λ r. ⌜ toldFind r
-        ≡ findOf (toldLimits limits) (partWith (now (fingerprints .entry)) (now (parents .entry)) (now (codes .entry)) count)
-        (held (limits .width) exponent (now (query .entry))) ⌝ }
-{
-    let mut list: [u32; 64] = [0; 64];
-    find_list(
-        limits,
-        count,
-        exponent,
-        fingerprints,
-        parents,
-        codes,
-        query,
-        &mut list,
-    )
-}
-
-// What a width's part of a table answers. Nothing is written to `out` unless a list is answered: it is found in a list of this function's own.
-pub fn answer_width(
-    limits: WidthLimits,
-    count: usize,
-    exponent: u16,
-    fingerprints: &[u64],
-    parents: &[u32],
-    codes: &[u32],
-    query: &[Coefficient],
-    out: &mut [u32],
-) -> Answered
-    requires { ⌜ (limits .width ≤ 5) × (limits .gates ≤ 64) × (limits .gates ≤ length (now out)) ⌝ }
-    requires { ⌜ (count ≤ length (now fingerprints)) × (count ≤ length (now parents)) × (count ≤ length (now codes)) ⌝ }
-    requires { ⌜ AskedPlaces (limits .width) (now query) ⌝ }
-    ensures { λ r. ⌜ outcome (toldAnswered r) (now (out .exit))
-        ≡ answerOf (toldLimits limits) (partWith (now (fingerprints .entry)) (now (parents .entry)) (now (codes .entry)) count)
-        (held (limits .width) exponent (now (query .entry))) (now (out .entry)) ⌝ }
-{
-    let mut list: [u32; 64] = [0; 64];
-    match find_list(
-        limits,
-        count,
-        exponent,
-        fingerprints,
-        parents,
-        codes,
-        query,
-        &mut list,
-    ) {
-        Find::Node(_, size) => {
-            copy_codes(out, &list[0..size]);
-            Answered::List(size)
-        }
-        Find::Nothing => Answered::Nothing,
-        Find::BadChain => Answered::BadChain,
     }
 }

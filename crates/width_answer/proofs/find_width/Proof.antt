@@ -1,4 +1,4 @@
--- `find_list` meets its contract: the node found is rechecked.
+-- `find_width` meets its contract: the node found is rechecked.
 use native.Mathlib.Omega.{arith}
 use borrow.Author.Needs.{needs}
 use Rattle.exact.specs.Places.{held}
@@ -6,8 +6,8 @@ use Rattle.walk.specs.Finds.{partWith}
 use Rattle.synthesis_arena.specs.Limits.{toldLimits}
 use Rattle.synthesis_arena.proofs.Told.{found-lowest}
 use Rattle.width_answer.proofs.Widths.{width-node, width-none}
-use Rattle.width_answer.proofs.find_list.Statement.{statement}
-use Rattle.width_answer.proofs.find_list.Tie as tie
+use Rattle.width_answer.proofs.find_width.Statement.{statement}
+use Rattle.width_answer.proofs.find_width.Tie as tie
 
 find-node-requires : tie.Need-find-node-requires
 find-node-requires c κs =
@@ -28,8 +28,8 @@ returns-2 c =
     width-none (toldLimits (a .limits)) (partWith (a .fingerprints .now) (a .parents .now) (a .codes .now) (a .count))
     (held (a .limits .width) (a .exponent) (a .query .now)) (c .before .before .before .unitary-fingerprint .ensures) (c .before .before .node-for .ensures) (c .enum-told .given .1) _
 
-pub find-list-spec : {M : Type 1} → statement M
-find-list-spec =
+pub find-width-spec : {M : Type 1} → statement M
+find-width-spec =
     tie.close
     (tie.spec
     (λ c. search needs)

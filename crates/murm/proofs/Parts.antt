@@ -40,10 +40,6 @@ pub record PartBounds (t : Table) (a : Arrays) (w : ℕ) : Type 0 where
   pub in-c : (w - 1) * t .limits .entries + t .limits .entries ≤ length (a .codes)
   pub count : widthAt t w .count ≤ t .limits .entries
 
--- the limits of a record that is not refused
-pub record-limits : (t : Table) → recordRow t .holds ≡ false → Accepted (t .limits)
-record-limits t r = accepted (t .limits) (eqb-true (firstRow (limitRows (t .limits))) 0 (not-false _ (neither (not (eqb (firstRow (limitRows (t .limits))) 0)) _ r .0)))
-
 pub part : (t : Table) (a : Arrays) (w : ℕ) → recordRow t .holds ≡ false → roomRow (t .limits) a .holds ≡ false → 0 < w → w ≤ t .limits .qubits → PartBounds t a w
 part t a w r m p q =
     let l = record-limits t r in

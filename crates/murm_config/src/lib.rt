@@ -2,7 +2,7 @@
 ghost use mathlib.Core.Path.{_≡_};
 ghost use Prim.Native.Nat.{_<_, _≤_};
 ghost use Rattle.tables.specs.Checks.{firstRow, limitRows, tooShort};
-ghost use Rattle.tables.specs.Tables.{allWidths, widthAt, badCountOf, badCount, recordRow};
+ghost use Rattle.tables.specs.Tables.{allWidths, widthAt, badCountOf, badCount, recordRow, tableRows, countAt};
 ghost use Rattle.walk.specs.Walk.{any};
 ghost use Rattle.refusal.specs.Told.{byRow, toldCheck};
 ghost use Rattle.murm_config.specs.Told.{toldConfig, toldWidth, toldMurm, withWidth, emptyOf};
@@ -134,6 +134,29 @@ pub fn bad_record(table: Murm) -> bool
         Check::Passed => bad_counts(table),
         Check::Refused(_) => true,
     }
+}
+
+// Whether a table with arrays of these lengths may be asked; else 13 of the record or 5 (SPECIFICATION 9.2).
+pub fn check_table(table: Murm, prints: usize, parents: usize, codes: usize) -> Check
+    ensures { λ r. ⌜ toldCheck r ≡ byRow (firstRow (tableRows (toldMurm table) prints parents codes)) ⌝ }
+{
+    if bad_record(table) {
+        return Check::Refused(Refusal::BadTable);
+    }
+    if too_short(table.config, prints, parents, codes) {
+        return Check::Refused(Refusal::ArrayTooShort);
+    }
+    Check::Passed
+}
+
+// How many entries a width has: none where the table does not have the width, whatever the record says (SPECIFICATION 7.3).
+pub fn count_at(table: Murm, width: u32) -> usize
+    ensures { λ r. ⌜ r ≡ countAt (toldMurm table) width ⌝ }
+{
+    if width > table.config.max_qubits {
+        return 0;
+    }
+    width_table(table, width).count
 }
 
 // The record before any width is built.

@@ -1,5 +1,5 @@
 // Why an operation is refused: a case for each number of SPECIFICATION 9.1. A new number is a case here, a line in `number_of`, a line in
-// specs/Told.antt and a line of `some` in proofs/Numbers.antt.
+// specs/Told.antt, a line of `some` in proofs/Numbers.antt and two lines in proofs/number_of.
 ghost use mathlib.Core.Path.{_≡_};
 ghost use Prim.Native.Nat.{_≤_};
 ghost use Rattle.refusal.specs.Told.{numberOf, positionOf};

@@ -14,7 +14,7 @@ use Rattle.walk.specs.AtWidth.{built, printOf, parentOf}
 use Rattle.walk.specs.Finds.{WidthLimits, Part, partWith, Finding, findOf}
 use Rattle.walk.specs.Finds as f
 use Rattle.walk.specs.Answers.{refused, Outcome, outcome, writeOf, thenWrite}
-use Rattle.tables.specs.Checks.{Row, row, firstRow, Limits, limitRows, Arrays, roomRow, queryRows}
+use Rattle.tables.specs.Checks.{Row, row, firstRow, Limits, limitRows, Arrays, tooShort, roomRow, queryRows}
 
 -- ---- the record
 
@@ -139,6 +139,13 @@ badCount t w = badCountOf (t .limits .qubits) (t .limits .entries) w (widthAt t 
 abbrev pub recordRow : Table → Row
 recordRow t = row (not (eqb (firstRow (limitRows (t .limits))) 0) || any (badCount t) allWidths) 13
 
+-- 13 of the record, then 5 of arrays of these lengths: what is tried before a table is asked anything (SPECIFICATION 9.2)
+abbrev pub tableRows : Table → ℕ → ℕ → ℕ → List Row
+tableRows t f u c = recordRow t ∷ row (tooShort (t .limits) f u c) 5 ∷ []
+
+abbrev pub tableRowsOf : Table → Arrays → List Row
+tableRowsOf t a = tableRows t (length (a .prints)) (length (a .parents)) (length (a .codes))
+
 -- row 12: the lent list has fewer places than the gate limit (SPECIFICATION 9.1)
 abbrev pub listRow : Table → List ℕ → Row
 listRow t out = row (ltb (length out) (t .limits .gates)) 12
@@ -169,7 +176,7 @@ limitsAt l w = record { width = w; basis = l .basis; gates = l .gates; entries =
 
 -- 13 of the record, 5, 6, 9, 10, 11 in this order (SPECIFICATION 9.2)
 abbrev pub findRows : Table → Arrays → Query → List Row
-findRows t a q = recordRow t ∷ roomRow (t .limits) a ∷ queryRows (q .width) (q .exponent) (q .bytes)
+findRows t a q = tableRowsOf t a ++ queryRows (q .width) (q .exponent) (q .bytes)
 
 -- by the number of the first row that holds, 0 where none does
 abbrev pub foundBy : Table → Arrays → Query → ℕ → Finding
@@ -187,7 +194,7 @@ nodeRow t w k = row (not (ltb k (countAt t w))) 16
 
 -- 13 of the record, 5, 16, 12 in this order (SPECIFICATION 9.2)
 abbrev pub writeRows : Table → Arrays → ℕ → ℕ → List ℕ → List Row
-writeRows t a w k out = recordRow t ∷ roomRow (t .limits) a ∷ nodeRow t w k ∷ listRow t out ∷ []
+writeRows t a w k out = tableRowsOf t a ++ (nodeRow t w k ∷ listRow t out ∷ [])
 
 -- by the number of the first row that holds, 0 where none does: a refusal leaves the lent list as it was (SPECIFICATION 9.4)
 abbrev pub writtenBy : Table → Arrays → ℕ → ℕ → List ℕ → ℕ → Outcome

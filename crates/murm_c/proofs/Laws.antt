@@ -1,6 +1,6 @@
 -- The laws of the numbers that the C functions return, and of the record given as numbers. Assumes nothing.
 use mathlib.Core.Path.{_≡_, refl, sym, ap, _∙_}
-use mathlib.Core.Logic.{inl, inr}
+use mathlib.Core.Logic.{_⊎_, inl, inr}
 use mathlib.Core.Bool.{Bool, true, false}
 use mathlib.Core.List.{List, [], _∷_}
 use Prim.Native.Nat.{ℕ, zero, suc, _+_, _*_, _/_, _%_, _≤_, _<_}
@@ -14,13 +14,13 @@ use Rattle.ints.proofs.Bools.{clash}
 use Rattle.exact.specs.Lists.{product}
 use Rattle.exact.specs.Fits.{mostK, Steps, allFit, unfitAt, steps}
 use Rattle.exact.specs.Answers.{Answer, given, refused, bySteps, listAnswer}
-use Rattle.exact.proofs.Values.{pick-ind}
 use Rattle.exact.proofs.Answered.{isGiven, number}
 use Rattle.exact.proofs.Unitaries.{unitary-product}
 use Rattle.exact.proofs.Bounds.{k-never, product-small}
 use Rattle.walk.specs.Answers.{Reply, Outcome}
 use Rattle.walk.specs.Answers as answers
 use Rattle.walk.proofs.Meaning.{kind, size}
+use Rattle.walk.proofs.Sequences.{lt-or}
 use Rattle.tables.specs.Checks.{firstRow, limitRows, Arrays}
 use Rattle.tables.specs.Lists.{ListOutcome, outcome, formed, listed}
 use Rattle.tables.specs.Tables.{Table, widthAt, Query, partAsked, synthesized}
@@ -38,9 +38,18 @@ use Rattle.murm_c.specs.Laws.{value, refusal, reading, listSays, replySa
 
 -- ---- reading a number
 
+position-kept : (p : ℕ) → p ≤ 4294967295 → capped p ≡ p
+position-kept p h = rw (le-ltb 4294967295 p h)
+
+position-capped : (p : ℕ) → 4294967295 < p → capped p ≡ 4294967295
+position-capped p h = rw (lt-ltb 4294967295 p h)
+
 capped-most : (p : ℕ) → capped p < 4294967296
-capped-most p =
-    pick-ind (λ (z : ℕ). z < 4294967296) (ltb 4294967295 p) (λ e. omega arith) (λ e. let h = ltb-false 4294967295 p e in omega arith)
+capped-most p = by (lt-or 4294967295 p)
+  where
+    by : (4294967295 < p) ⊎ (p ≤ 4294967295) → capped p < 4294967296
+    by (inl h) = let e = position-capped p h in omega arith
+    by (inr h) = let e = position-kept p h in omega arith
 
 read-value : (x : ℕ) → x < 4294967295 → reading x ≡ value x
 read-value x h = rw (lt-ltb x 4294967295 h)
@@ -94,11 +103,15 @@ module _ (n : ℕ) (codes : List ℕ) (bytes : List ℤ) where
           omega (arith, j, y)
       by (unfitAt i) f z = clash (ap (λ (o : ListOutcome). isGiven (o .answer)) z) refl
 
+  -- the row that refuses it
+  first-row : (r p : ℕ) → listed n codes bytes .answer ≡ refused r p → First r p (listCauses n codes bytes)
+  first-row r p e = exactly .list n codes bytes (listed n codes bytes .bytes) r p .0 (told (refused r p) e) .0
+
   list-refusals : (r p : ℕ) → listed n codes bytes .answer ≡ refused r p → (6 ≤ r) × (r ≤ 9)
   list-refusals r p e =
       first-between 6 9 (listCauses n codes bytes) r p
       ((omega arith, omega arith), ((omega arith, omega arith), ((omega arith, omega arith), ((omega arith, omega arith), tt))))
-      (exactly .list n codes bytes (listed n codes bytes .bytes) r p .0 (told (refused r p) e) .0)
+      (first-row r p e)
 
   list-read : reading (listNumber (listed n codes bytes .answer)) ≡ listSays (listed n codes bytes .answer)
   list-read = by (listed n codes bytes .answer) refl
@@ -106,6 +119,21 @@ module _ (n : ℕ) (codes : List ℕ) (bytes : List ℤ) where
       by : (x : Answer) → listed n codes bytes .answer ≡ x → reading (listNumber x) ≡ listSays x
       by (given k) e = let h = exponent-most k e in read-value k (omega arith)
       by (refused r p) e = let h = list-refusals r p e .0 in read-refusal r (capped p) (omega arith) (capped-most p)
+
+  -- a position is 0, or that of a code
+  position-inside : (r p : ℕ) → First r p (listCauses n codes bytes) → (p ≡ 0) ⊎ (p < length codes)
+  position-inside r p (inl (e, (c, z))) = inl z
+  position-inside r p (inr (x, inl (e, (c, z)))) = inl z
+  position-inside r p (inr (x, inr (y, inl (e, w)))) = inr (w .inside)
+  position-inside r p (inr (x, inr (y, inr (z, inl (e, w))))) = inr (w .inside)
+  position-inside r p (inr (x, inr (y, inr (z, inr (u, f))))) = absurd f
+
+  position-told : (r p : ℕ) → length codes ≤ 4294967296 → listed n codes bytes .answer ≡ refused r p → reading (listNumber (listed n codes bytes .answer)) ≡ refusal r p
+  position-told r p h e = list-read ∙ ap listSays e ∙ ap (refusal r) (by (position-inside r p (first-row r p e)))
+    where
+      by : (p ≡ 0) ⊎ (p < length codes) → capped p ≡ p
+      by (inl z) = position-kept p (omega arith)
+      by (inr z) = position-kept p (omega arith)
 
   list-fits : listNumber (listed n codes bytes .answer) < 14 * 4294967296
   list-fits = by (listed n codes bytes .answer) refl
@@ -230,6 +258,9 @@ pub laws : Laws
 laws = record {
   list-read = list-read;
   reply-read = reply-read;
+  position-kept = position-kept;
+  position-capped = position-capped;
+  position-told = position-told;
   exponent-most = exponent-most;
   count-most = count-most;
   list-refusals = list-refusals;

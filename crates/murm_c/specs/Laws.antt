@@ -6,6 +6,7 @@ use mathlib.Core.List.{List, [], _∷_}
 use Prim.Native.Nat.{ℕ, _*_, _/_, _%_, _≤_, _<_}
 use lib.IntN.{ℤ}
 use lib.Dec.{eqb, ltb}
+use lib.ListN.{length}
 use Rattle.ints.specs.Lists.{pick}
 use Rattle.exact.specs.Answers.{Answer, given, refused}
 use Rattle.walk.specs.Answers.{Reply}
@@ -65,6 +66,11 @@ pub record Laws : Type 0 where
   pub list-read : (n : ℕ) (codes : List ℕ) (bytes : List ℤ) → reading (listNumber (listed n codes bytes .answer)) ≡ listSays (listed n codes bytes .answer)
   pub reply-read : (t : Table) (a : Arrays) (q : Query) (out : List ℕ)
       → reading (replyNumber (synthesized t a q out .reply)) ≡ replySays (synthesized t a q out .reply)
+  -- a position up to 4294967295 is told as it is, a larger one as 4294967295; so of a list of up to 2^32 codes every position is told as it is
+  pub position-kept : (p : ℕ) → p ≤ 4294967295 → capped p ≡ p
+  pub position-capped : (p : ℕ) → 4294967295 < p → capped p ≡ 4294967295
+  pub position-told : (n : ℕ) (codes : List ℕ) (bytes : List ℤ) (r p : ℕ) → length codes ≤ 4294967296 → listed n codes bytes .answer ≡ refused r p
+      → reading (listNumber (listed n codes bytes .answer)) ≡ refusal r p
   -- a value is small: an exponent is below 65535, a gate count is at most G, and G is then at most 64
   pub exponent-most : (n : ℕ) (codes : List ℕ) (bytes : List ℤ) (k : ℕ) → listed n codes bytes .answer ≡ given k → k < 65535
   pub count-most : (t : Table) (a : Arrays) (q : Query) (out : List ℕ) (m : ℕ) → synthesized t a q out .reply ≡ answers.given m
@@ -81,6 +87,6 @@ pub record Laws : Type 0 where
   pub counts-alone : (t u : Table) → SameCounts t u → (a : Arrays) (q : Query) (out : List ℕ) → synthesized t a q out ≡ synthesized u a q out
   -- that is more than that equal records are answered alike: these two have the same counts and are not equal
   pub counts-differ : SameCounts (sampleWith 3 false) (sampleWith 9 true) × (sampleWith 3 false ≡ sampleWith 9 true → ⊥)
-  -- and readings are not all the same: 7 at position 52, 7 at a position past 32 bits, none, a value
-  pub readings : (reading 30064771124 ≡ refusal 7 52) × (reading (listNumber (refused 7 4294967296)) ≡ refusal 7 4294967295)
+  -- samples of readings: 7 at 52, 8 at a position past 32 bits, none, a value
+  pub readings : (reading (listNumber (refused 7 52)) ≡ refusal 7 52) × (reading (listNumber (refused 8 4294967296)) ≡ refusal 8 4294967295)
       × (reading 4294967295 ≡ nothing) × (reading 64 ≡ value 64)

@@ -1,5 +1,5 @@
-// C functions over what `oracle/bench` times and `oracle/damage` builds and murm_c does not export: the two link both beside the original. Lists
-// and answers are asked by murm_c.
+// C functions over the entries for fingerprints and builds, which murm_c does not export, and nothing else. `oracle/bench` and `oracle/damage` link both
+// crates beside the original, in one process; lists and answers they ask by murm_c.
 ghost use mathlib.Core.Path.{_≡_};
 ghost use Prim.Native.Nat.{_+_, _*_, _^_, _≤_};
 ghost use lib.ListN.{length};

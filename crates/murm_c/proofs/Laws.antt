@@ -38,6 +38,13 @@ use Rattle.murm_c.specs.Laws.{value, refusal, reading, listSays, replySa
 
 -- ---- reading a number
 
+-- computed: a position, and one past 32 bits
+at-52 : reading (listNumber (refused 7 52)) ≡ refusal 7 52
+at-52 = refl
+
+past-32-bits : reading (listNumber (refused 8 4294967296)) ≡ refusal 8 4294967295
+past-32-bits = refl
+
 position-kept : (p : ℕ) → p ≤ 4294967295 → capped p ≡ p
 position-kept p h = rw (le-ltb 4294967295 p h)
 
@@ -270,5 +277,5 @@ laws = record {
   record-kept = record-kept;
   counts-alone = counts-alone;
   counts-differ = (same-sample, λ e. clash (ap (λ (t : Table). widthAt t 1 .saturated) e) refl);
-  readings = (refl, refl, refl, refl);
+  readings = (at-52, past-32-bits, refl, refl);
 }

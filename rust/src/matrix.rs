@@ -20,7 +20,7 @@ pub const fn coefficient_count(width: u32) -> Option<usize> {
 ///
 /// # Errors
 ///
-/// 6, 9, 7, 8 of [`Refusal`], tried in this order. `out` is then as it was.
+/// A [`Refusal`]: 6, 9, 7, 8, tried in this order. `out` is then as it was.
 ///
 /// ```
 /// use murm::{library_circuit_matrix, Gate, Refusal};
@@ -43,8 +43,8 @@ pub fn library_circuit_matrix(width: u32, codes: &[u32], out: &mut [i8]) -> Resu
 ///
 /// # Errors
 ///
-/// 6 if the width is above 5, 7 if a gate has a qubit that is not below the width, 8 if the matrix
-/// or that of a beginning of the list has too large a coefficient.
+/// 6 if the width is above 5, 7 if a gate has a qubit that is not below the width, 8 if a
+/// coefficient would pass 127.
 ///
 /// ```
 /// use murm::{matrix_of, Gate};

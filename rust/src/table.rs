@@ -59,7 +59,7 @@ pub struct Query<'a> {
 ///
 /// # Errors
 ///
-/// 13 of the record, 5, 6, 9, 10, 11, 12, 13 of the chain of [`Refusal`], tried in this order.
+/// A [`Refusal`]: 13 of the record, 5, 6, 9, 10, 11, 12, 13 of the chain, tried in this order.
 /// `out` is then as it was. With [`MAX_GATES`] places it is never refused by 12.
 ///
 /// ```
@@ -69,7 +69,12 @@ pub struct Query<'a> {
 /// let basis = [Kind::S, Kind::Sdg].iter().filter_map(|kind| kind.basis_bit()).sum();
 /// let record = Record { q: 1, g: 8, e: 4, b: basis, counts: [4, 0, 0, 0, 0] };
 /// let arrays = Arrays {
-///     fingerprints: &[0x29cc3c6d2113fdc4, 0x45bb475b3b2a7d1d, 0x091e144b25807b85, 0xbeb5662ea166a017],
+///     fingerprints: &[
+///         0x29cc3c6d2113fdc4,
+///         0x45bb475b3b2a7d1d,
+///         0x091e144b25807b85,
+///         0xbeb5662ea166a017,
+///     ],
 ///     parents: &[MARK, 0, 0, 1],
 ///     codes: &[MARK, Gate::s(0).code(), Gate::sdg(0).code(), Gate::s(0).code()],
 /// };

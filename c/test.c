@@ -77,7 +77,7 @@ static void lists(void) {
     for (i = 0; i < COUNT(growing); i++) growing[i] = i % 2 ? 20480 : 0;
     CHECK(list(6, bad, 3, 16) == refused(MURM_WIDTH_TOO_LARGE, 0));
     CHECK(bytes_stay(0));
-    CHECK(list(UINT32_MAX, h, 1, 16) == refused(MURM_WIDTH_TOO_LARGE, 0));
+    CHECK(list(UINT32_MAX, h, 1, 0) == refused(MURM_WIDTH_TOO_LARGE, 0));
     CHECK(list(1, bad, 3, 15) == refused(MURM_LENGTH_NOT_EXACT, 0));
     CHECK(list(1, bad, 3, 16) == refused(MURM_NOT_VALID, 1));
     CHECK(bytes_stay(0));
@@ -199,6 +199,7 @@ static void answers(void) {
     AFTER((c.matrix[0] = -128, c.matrix[12] = 0, c.exponent = 1), refused(MURM_OUT_OF_RANGE, 0));
     AFTER((c.matrix[0] = 2, c.matrix[12] = -2, c.exponent = 1, c.out_len = 7), refused(MURM_NOT_LOWEST, 0));
     AFTER((c.out_len = 7, c.codes[3] = MURM_MARK), refused(MURM_LIST_TOO_SHORT, 0));
+    AFTER((c.out_len = 7, c.counts[0] = 3), refused(MURM_LIST_TOO_SHORT, 0));
     AFTER(c.codes[3] = MURM_MARK, refused(MURM_BAD_TABLE, 0));
     AFTER(c.parents[3] = 3, refused(MURM_BAD_TABLE, 0));
     AFTER(c.parents[0] = 0, refused(MURM_BAD_TABLE, 0));

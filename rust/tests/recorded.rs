@@ -57,7 +57,9 @@ fn every_recorded_question() {
         }
     }
     assert_eq!(answers.next(), None);
-    println!("compared with the recording: {counts:?}");
+    let lists = counts.matrices + counts.lists_refused;
+    let queries = counts.answers + counts.nones + counts.queries_refused;
+    println!("compared with the recording: {lists} lists, {queries} queries: {counts:?}");
     // None of them may be few, or the test tests little.
     assert!(counts.matrices >= 500, "{counts:?}");
     assert!(counts.lists_refused >= 300, "{counts:?}");

@@ -6,36 +6,29 @@ const ARCHIVE: &str = "libmurm_c.a";
 
 fn main() {
     println!("cargo:rerun-if-env-changed=MURM_LIB");
-    let Some(folder) = env::var_os("MURM_LIB").filter(|folder| !folder.is_empty()) else {
+    let Some(given) = env::var_os("MURM_LIB").filter(|given| !given.is_empty()) else {
         fail("MURM_LIB is not set");
     };
     // A build script runs in the crate's folder, from which a relative path is read.
-    let archive = match fs::canonicalize(&folder) {
-        Ok(full) => full.join(ARCHIVE),
-        Err(error) => fail(&format!(
-            "MURM_LIB is {}: {error}",
-            folder.to_string_lossy()
-        )),
+    let folder = match fs::canonicalize(&given) {
+        Ok(folder) => folder,
+        Err(error) => fail(&format!("MURM_LIB is {}: {error}", given.to_string_lossy())),
     };
-    let Some(path) = archive.to_str() else {
-        fail(&format!(
-            "cargo cannot be told of {}: it is not UTF-8",
-            archive.display()
-        ));
+    let Some(folder) = folder.to_str() else {
+        fail("the path that MURM_LIB gives is not UTF-8, which cargo asks for");
     };
-    println!("cargo:rerun-if-changed={path}");
-    if !archive.is_file() {
-        fail(&format!("there is no file {path}"));
+    println!("cargo:rerun-if-changed={folder}/{ARCHIVE}");
+    if !fs::metadata(format!("{folder}/{ARCHIVE}")).is_ok_and(|file| file.is_file()) {
+        fail(&format!("there is no file {ARCHIVE} in {folder}"));
     }
-    println!(
-        "cargo:rustc-link-search=native={}",
-        &path[..path.len() - ARCHIVE.len() - 1]
-    );
+    println!("cargo:rustc-link-search=native={folder}");
     println!("cargo:rustc-link-lib=static=murm_c");
 }
 
 /// Ends the build with a message.
 fn fail(reason: &str) -> ! {
-    eprintln!("{reason}\nset MURM_LIB to the folder of {ARCHIVE}; `rt staticlib murm_c` writes it to target/staticlib");
+    eprintln!("{reason}");
+    eprintln!("MURM_LIB has to name the folder of {ARCHIVE}, by its full path");
+    eprintln!("`rt staticlib murm_c` writes the archive to target/staticlib of the repository");
     process::exit(1)
 }

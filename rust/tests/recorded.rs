@@ -97,7 +97,7 @@ fn compare_list(list: &str, answer: &str, counts: &mut Counts) {
         assert_eq!(out, numbers::<i8>(coefficients), "list {list}");
         counts.matrices += 1;
     }
-    // The same by gates, where each code is one's.
+    // The same by gates, where each code is that of a gate.
     let gates: Result<Vec<Gate>, _> = codes.iter().copied().map(Gate::try_from).collect();
     match gates {
         Ok(gates) => {

@@ -1,7 +1,7 @@
 -- What an entry's answer says as a number, where its case is known, and the record of five counts. Assumes nothing.
 use mathlib.Core.Path.{_≡_, sym, ap, _∙_}
 use mathlib.Core.List.{List, [], _∷_}
-use Prim.Native.Nat.{ℕ}
+use Prim.Native.Nat.{ℕ, _+_, _*_}
 use lib.IntN.{ℤ}
 use Rattle.exact.specs.Answers.{Answer}
 use Rattle.walk.specs.Answers.{Reply}
@@ -16,7 +16,10 @@ use Rattle.murm.specs.declared.Listed.{Listed}
 use Rattle.murm.specs.declared.Listed.the-variants as l
 use Rattle.murm.specs.declared.Synthesized.{Synthesized}
 use Rattle.murm.specs.declared.Synthesized.the-variants as s
-use Rattle.murm_c.specs.Numbers.{refusalNumber, listNumber, replyNumber, counted, countsTable}
+use Rattle.murm_c.specs.Numbers.{capped, refusalNumber, listNumber, replyNumber, counted, countsTable}
+
+pub refusal-is : {n p x r i : ℕ} → n ≡ r → p ≡ i → x ≡ capped p → n * 4294967296 + x ≡ refusalNumber r i
+refusal-is h e w = λ k. h k * 4294967296 + (w ∙ ap capped e) k
 
 pub list-refused : (r : Refusal) {t : Listed} {n : ℕ} → t ≡ l.Refused r → n ≡ refusalNumber (numberOf r) (positionOf r) → n ≡ listNumber (toldListed t)
 list-refused r e h = h ∙ ap (λ (x : Listed). listNumber (toldListed x)) (sym e)

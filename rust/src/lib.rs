@@ -13,11 +13,12 @@
 //! | [`synthesize`] | lent | the codes of a list that a table has for a matrix |
 //! | [`gates_of`] | its own | the [`Gate`]s of such a list |
 //!
-//! The archive is built by `rt staticlib murm_c` at the repository's root. To build this crate, the
-//! variable `MURM_LIB` names its folder.
+//! The archive is built by `rt staticlib murm_c` at the repository's root, and is written to
+//! target/staticlib. To build this crate, the variable `MURM_LIB` names that folder, by its full
+//! path.
 //!
-//! Numbers in these pages are those of the specification. Qubits, rows, places and positions are
-//! counted from 0.
+//! Numbers of refusals and of sections in these pages are those of the specification. Qubits, rows,
+//! places and positions are counted from 0.
 
 #![deny(missing_docs, unsafe_code, unsafe_op_in_unsafe_fn)]
 #![deny(clippy::undocumented_unsafe_blocks)]

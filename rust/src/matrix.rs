@@ -34,7 +34,7 @@ pub const fn coefficient_count(width: u32) -> Option<usize> {
 /// ```
 pub fn library_circuit_matrix(width: u32, codes: &[u32], out: &mut [i8]) -> Result<u16, Refusal> {
     let exponent = answer_of(ffi::library_circuit_matrix(width, codes, out))?;
-    Ok(u16::try_from(exponent).expect("an exponent is at most 65535"))
+    Ok(u16::try_from(exponent).expect("an exponent is below 65535"))
 }
 
 /// The matrix of a list of gates, the oldest first.
@@ -44,7 +44,7 @@ pub fn library_circuit_matrix(width: u32, codes: &[u32], out: &mut [i8]) -> Resu
 /// # Errors
 ///
 /// 6 if the width is above 5, 7 if a gate has a qubit that is not below the width, 8 if a
-/// coefficient would pass 127.
+/// coefficient would be outside -127 to 127.
 ///
 /// ```
 /// use murm::{matrix_of, Gate};

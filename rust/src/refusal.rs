@@ -22,19 +22,20 @@ pub enum Refusal {
     WidthTooLarge,
     /// 7: a code is not valid at the width. With the position of the first such code.
     NotValid(usize),
-    /// 8: a coefficient would pass 127. With the position of the first gate where this is so.
+    /// 8: a coefficient would be outside -127 to 127. With the position of the first gate where
+    /// this is so.
     DoesNotFit(usize),
     /// 9: a matrix does not have exactly 4 × 4^n coefficients, where n is the width.
     LengthNotExact,
     /// 10: a coefficient of the matrix that is asked is -128.
     OutOfRange,
-    /// 11: the exponent of the matrix that is asked is above 0, and all its entries are divisible
-    /// by sqrt(2).
+    /// 11: the matrix that is asked is not in lowest denominator: its exponent is above 0, and all
+    /// its entries are divisible by sqrt(2).
     NotLowest,
     /// 12: the lent list has fewer than G places.
     ListTooShort,
-    /// 13: the record is bad, or the chain of the node found is. A table that was built and not
-    /// altered never gives this.
+    /// 13: the record is bad, or the parents or codes that the node found leads to are
+    /// (SPECIFICATION 9.3). A table that was built and not altered never gives this.
     BadTable,
 }
 
@@ -54,8 +55,8 @@ impl Refusal {
         }
     }
 
-    /// The position in the list, counted from 0. It is 0 except for `NotValid` and `DoesNotFit`,
-    /// and 4294967295 stands for every larger one too.
+    /// The position in the list, counted from 0. It is 0 except for `NotValid` and `DoesNotFit`.
+    /// A position above 4294967295 is given as 4294967295.
     pub const fn position(self) -> usize {
         match self {
             Refusal::NotValid(position) | Refusal::DoesNotFit(position) => position,
@@ -97,18 +98,18 @@ impl fmt::Display for Refusal {
             Refusal::DoesNotFit(position) => {
                 write!(
                     f,
-                    "a coefficient would pass 127 at the gate at position {position}"
+                    "a coefficient would be outside -127 to 127 at the gate at position {position}"
                 )
             }
             Refusal::LengthNotExact => {
                 f.write_str("the matrix does not have exactly 4 × 4^width coefficients")
             }
             Refusal::OutOfRange => f.write_str("a coefficient of the matrix is -128"),
-            Refusal::NotLowest => {
-                f.write_str("the exponent is above 0 and all entries are divisible by sqrt(2)")
-            }
+            Refusal::NotLowest => f.write_str("the matrix is not in lowest denominator"),
             Refusal::ListTooShort => f.write_str("the lent list has fewer than G places"),
-            Refusal::BadTable => f.write_str("the record or the chain of the node found is bad"),
+            Refusal::BadTable => {
+                f.write_str("the table's limits, counts, parents or codes are bad")
+            }
         }
     }
 }
@@ -116,7 +117,7 @@ impl fmt::Display for Refusal {
 impl Error for Refusal {}
 
 /// What the number that a function of the archive returns says: the answer, or else
-/// refusal × 2^32 + position.
+/// refusal × 2^32 + position (SPECIFICATION 14.2).
 ///
 /// # Panics
 ///

@@ -9,9 +9,9 @@ const NONE: u32 = u32::MAX;
 /// What stands as the parent and the code of node 0 of each width (SPECIFICATION 2.10).
 pub const MARK: u32 = u32::MAX;
 
-/// The limits of a table, and how many nodes each width has (SPECIFICATION 6.1, 6.10).
+/// The limits of a table, and how many nodes each width has (SPECIFICATION 6.1, 14.3).
 ///
-/// Any numbers may stand in it; those that no build returns are refused by 13.
+/// Any numbers may stand in it; limits and counts that no table has are refused by 13.
 #[derive(Clone, Copy, Debug, PartialEq, Eq, Hash)]
 pub struct Record {
     /// Q: the table has widths 1 to Q. From 1 to 5.
@@ -53,13 +53,13 @@ pub struct Query<'a> {
 /// Asks a table for a list of gates whose matrix is a power of ω times the query.
 ///
 /// `Some(count)`: the first `count` places of `out` are the codes of the list, the oldest gate
-/// first, and the later places are as they were. `None`: the table has no such list, and all
-/// places of `out` are as they were. That an answered list is right is proved for all records and
-/// arrays, also for those that no build made.
+/// first, and the later places are as they were. `None`: the table gives no list, and all places
+/// of `out` are as they were. That an answered list is right is proved for all records and arrays,
+/// also for those that no build made.
 ///
 /// # Errors
 ///
-/// A [`Refusal`]: 13 of the record, 5, 6, 9, 10, 11, 12, 13 of the chain, tried in this order.
+/// A [`Refusal`]: 13 of the record, 5, 6, 9, 10, 11, 12, 13 of the node found, tried in this order.
 /// `out` is then as it was. With [`MAX_GATES`] places it is never refused by 12.
 ///
 /// ```
@@ -103,7 +103,23 @@ pub fn synthesize(
 ///
 /// # Errors
 ///
-/// 13 if the record is bad, 5 if an array is too short, 13 if the chain of the node found is bad.
+/// 13 if the record is bad, 5 if an array is too short, 13 if the parents or codes that the node
+/// found leads to are bad.
+///
+/// ```
+/// use murm::{gates_of, matrix_of, Arrays, Gate, Kind, Record, MARK};
+///
+/// // The empty list and X.
+/// let b = Kind::X.basis_bit().unwrap();
+/// let record = Record { q: 1, g: 1, e: 2, b, counts: [2, 0, 0, 0, 0] };
+/// let fingerprints = &[0x29cc3c6d2113fdc4, 0x9844fa5b7fd30705];
+/// let codes = &[MARK, Gate::x(0).code()];
+/// let arrays = Arrays { fingerprints, parents: &[MARK, 0], codes };
+///
+/// let hzh = matrix_of(1, &[Gate::h(0), Gate::z(0), Gate::h(0)])?;
+/// assert_eq!(gates_of(&record, arrays, &hzh)?, Some(vec![Gate::x(0)]));
+/// # Ok::<(), murm::Refusal>(())
+/// ```
 pub fn gates_of(
     record: &Record,
     arrays: Arrays<'_>,

@@ -26,7 +26,7 @@ struct Counts {
     nones: usize,
     queries_refused: usize,
     tables: usize,
-    /// Tables whose limits the program refused, which it asks of `build`, not of these functions.
+    /// Tables that `build` refused. The functions of this crate build none.
     tables_refused: usize,
     /// Lines that the program refused by 14, for their form or for want of a table.
     broken: usize,
@@ -159,7 +159,7 @@ fn read_widths(limits: &str, answers: &mut Peekable<Lines<'_>>) -> Table {
         panic!("{limits:?}")
     };
     let places = q as usize * e as usize;
-    // A place of no node: it would be found by no query, and is a bad chain.
+    // Places of no node hold a fingerprint that no query has, and parents and codes that are bad.
     let mut table = Table {
         record: Record {
             q,

@@ -73,7 +73,7 @@ fn counted_row(count: usize) -> WidthTable
 }
 
 // The record of Q, G, E, B and five counts.
-pub fn counts_table(
+fn counts_table(
     q: u32,
     g: u32,
     e: u32,

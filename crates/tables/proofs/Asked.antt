@@ -1,20 +1,20 @@
 -- A find, a write and an answer of a lent table, by its rows: where no row holds they are what the part of the width gives, and an answer is
 -- refused by the rows of its find and by 12. Assumes nothing.
 use mathlib.Core.Path.{_≡_, refl, sym, ap, _∙_}
-use mathlib.Core.Bool.{true, false}
-use mathlib.Core.List.{List, [], _∷_}
+use mathlib.Core.Bool.{Bool, true, false}
+use mathlib.Core.List.{List, [], _∷_, _++_}
 use Prim.Native.Nat.{ℕ, _<_}
 use native.Mathlib.Omega.{arith}
 use borrow.Author.Tests.{ne-eqb, lt-ltb}
-use Rattle.walk.specs.Lookup.{lowestFrom}
+use Rattle.ints.specs.Lists.{pick}
 use Rattle.walk.specs.Finds.{Finding, node, findOf}
 use Rattle.walk.specs.Finds as f
 use Rattle.walk.specs.Answers.{refused, Outcome, outcome, writeOf, thenWrite, answerOf}
-use Rattle.walk.proofs.Meaning.{found-below}
-use Rattle.tables.specs.Checks.{firstRow, Arrays, roomRow}
-use Rattle.tables.specs.Tables.{Table, Query, matrixOf, recordRow, listRow, notAWidth, countAt, limitsAt, partAt, findRows, foundBy, foundIn, nodeRow, writeRows}
+use Rattle.walk.proofs.Meaning.{no-nodes, found-below}
+use Rattle.tables.specs.Checks.{Row, firstRow, Arrays, roomRow}
+use Rattle.tables.specs.Tables.{Table, Query, matrixOf, recordRow, tableRowsOf, listRow, notAWidth, countAt, limitsAt, partAt, findRows, foundBy, foundIn, nodeRow, writeRows}
 use Rattle.tables.specs.Tables.{writtenBy, writtenIn, answerRows, repliedBy, synthesized}
-use Rattle.tables.proofs.Rows.{Numbered, numbered-query, first-past, first-last, first-none, append-none}
+use Rattle.tables.proofs.Rows.{Numbered, numbered-query, first-here, first-past, first-last, first-none, firstRow-append, append-none}
 
 -- ---- rows
 
@@ -28,11 +28,13 @@ passed t a q out e =
     let (g, h) = append-none (findRows t a q) (listRow t out ∷ []) (numbered-find t a q) e in
     (g, first-none (listRow t out) [] (omega arith) h .0)
 
--- where no row of a find holds, the record and the arrays are not refused
-pub good-table : (t : Table) (a : Arrays) (q : Query) → firstRow (findRows t a q) ≡ 0 → (recordRow t .holds ≡ false) × (roomRow (t .limits) a .holds ≡ false)
-good-table t a q e =
+-- where no row of the table and none that follow hold, the record and the arrays are not refused
+pub good-table : (t : Table) (a : Arrays) (rs : List Row) → firstRow (tableRowsOf t a ++ rs) ≡ 0
+    → (recordRow t .holds ≡ false) × (roomRow (t .limits) a .holds ≡ false) × (firstRow rs ≡ 0)
+good-table t a rs e =
     let (g, h) = first-none (recordRow t) _ (omega arith) e in
-    (g, first-none (roomRow (t .limits) a) _ (omega arith) h .0)
+    let (i, j) = first-none (roomRow (t .limits) a) _ (omega arith) h in
+    (g, i, j)
 
 -- of a node that the width has, no row of a write holds
 pub rows-passed : (t : Table) (a : Arrays) (w k : ℕ) (out : List ℕ) → recordRow t .holds ≡ false → roomRow (t .limits) a .holds ≡ false → k < countAt t w
@@ -58,8 +60,7 @@ module _ (t : Table) (a : Arrays) (q : Query) where
 
   -- a width that the table does not have has no node
   pub no-part : notAWidth t (q .width) ≡ true → partFound ≡ f.none
-  unfolding findOf lowestFrom
-  no-part e = rw e
+  no-part e = no-nodes (limitsAt (t .limits) (q .width)) (partAt t a (q .width)) (matrixOf q) (rw e)
 
 -- ---- a write
 
@@ -85,7 +86,7 @@ module _ (t : Table) (a : Arrays) (q : Query) (out : List ℕ) where
   node-written : firstRow (answerRows t a q out) ≡ 0 → (k m : ℕ) → partFound t a q ≡ node k m → writtenIn t a (q .width) k out ≡ partWritten t a (q .width) k out
   node-written e k m g =
       let (h, l) = passed t a q out e in
-      let (r, s) = good-table t a q h in
+      let (r, s, z) = good-table t a _ h in
       write-passed t a (q .width) k out (rows-passed t a (q .width) k out r s (found-below (limitsAt (t .limits) (q .width)) (partAt t a (q .width)) (matrixOf q) g) l)
 
   pub answer-passed : firstRow (answerRows t a q out) ≡ 0 → synthesized t a q out ≡ partAsked
@@ -103,6 +104,17 @@ module _ (t : Table) (a : Arrays) (q : Query) (out : List ℕ) where
   pub answer-refused : (r : ℕ) → 0 < r → firstRow (answerRows t a q out) ≡ r → synthesized t a q out ≡ outcome (refused r 0) out
   unfolding synthesized
   answer-refused r h e = ap (repliedBy t a q out) e ∙ rw (ne-eqb r 0 (omega arith))
+
+  -- an answer whose find meets no row: 12, or what the part answers
+  pub asked-is : firstRow (findRows t a q) ≡ 0 → pick (listRow t out .holds) (outcome (refused 12 0) out) partAsked ≡ synthesized t a q out
+  asked-is e = by (listRow t out .holds) refl
+    where
+      rest : firstRow (answerRows t a q out) ≡ firstRow (listRow t out ∷ [])
+      rest = firstRow-append (findRows t a q) (listRow t out ∷ []) (numbered-find t a q) e
+
+      by : (b : Bool) → listRow t out .holds ≡ b → pick b (outcome (refused 12 0) out) partAsked ≡ synthesized t a q out
+      by true h = sym (answer-refused 12 (omega arith) (rest ∙ first-here (listRow t out) [] h))
+      by false h = sym (answer-passed (rest ∙ first-last (listRow t out) h))
 
   -- the part's answer is its find, followed by the write of the node found
   pub asked-by : {g : Finding} → partFound t a q ≡ g → partAsked ≡ thenWrite (λ k. partWritten t a (q .width) k out) out g

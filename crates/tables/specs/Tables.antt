@@ -192,9 +192,13 @@ foundIn t a q = foundBy t a q (firstRow (findRows t a q))
 abbrev pub nodeRow : Table → ℕ → ℕ → Row
 nodeRow t w k = row (not (ltb k (countAt t w))) 16
 
+-- 16, then 12 of a lent list of so many places
+abbrev pub nodeRows : Table → ℕ → ℕ → ℕ → List Row
+nodeRows t w k room = nodeRow t w k ∷ row (ltb room (t .limits .gates)) 12 ∷ []
+
 -- 13 of the record, 5, 16, 12 in this order (SPECIFICATION 9.2)
 abbrev pub writeRows : Table → Arrays → ℕ → ℕ → List ℕ → List Row
-writeRows t a w k out = tableRowsOf t a ++ (nodeRow t w k ∷ listRow t out ∷ [])
+writeRows t a w k out = tableRowsOf t a ++ nodeRows t w k (length out)
 
 -- by the number of the first row that holds, 0 where none does: a refusal leaves the lent list as it was (SPECIFICATION 9.4)
 abbrev pub writtenBy : Table → Arrays → ℕ → ℕ → List ℕ → ℕ → Outcome

@@ -225,6 +225,10 @@ module _ (limits : WidthLimits) (part : Part) (x : Exact) where
       from-bad : {a i : ℕ} → Bad × (a ≡ 13) × (i ≡ 0) → finding ≡ f.refused a i
       from-bad (w, p, q) = bad-found w ∙ (λ j. f.refused (sym p j) (sym q j))
 
+  -- a part without nodes has none
+  pub no-nodes : count ≡ 0 → finding ≡ f.none
+  no-nodes e = none-found (not-found (record { none-has = λ m p h z. omega (arith, e, h) }))
+
   -- a node found is below the count
   pub found-below : {k m : ℕ} → finding ≡ f.node k m → k < count
   found-below {k} {m} e = let (l, w, z) = find-means .is-node k m .0 e in w .lowest .below

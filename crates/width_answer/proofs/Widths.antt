@@ -14,7 +14,7 @@ use Rattle.synthesis_arena.specs.declared.Found.the-variants.{At, NotFound}
 use Rattle.walk.specs.Finds.{WidthLimits, Part, Finding, none, chainAt, byLookup, findOf}
 use Rattle.walk.specs.Answers.{outcome, writeOf, thenWrite, answerOf}
 use Rattle.walk.specs.Answers as a
-use Rattle.walk.proofs.Meaning.{find-means, means}
+use Rattle.walk.proofs.Meaning.{no-nodes, find-means, means}
 use Rattle.width_answer.specs.Answers.{toldFind, NodeFound, ListFound}
 use Rattle.width_answer.specs.declared.Find.{Find}
 use Rattle.width_answer.specs.declared.Find.the-variants as d
@@ -34,6 +34,13 @@ module _ (limits : WidthLimits) (part : Part) (x : Exact) {print : ℕ} (e : pri
   pub width-none : r ≡ NotFound → (list : List ℕ) → ListFound limits part x none list
   unfolding answerOf
   width-none f list = record { is = by-lookup f; copies = λ out. ap (thenWrite (λ j. writeOf limits part j out) out) (by-lookup f) }
+
+-- in a part without nodes nothing is found
+pub empty-found : (limits : WidthLimits) (part : Part) (x : Exact) (list : List ℕ) → part .count ≡ 0 → ListFound limits part x none list
+unfolding answerOf
+empty-found limits part x list e =
+    let h = sym (no-nodes limits part x e) in
+    record { is = h; copies = λ out. ap (thenWrite (λ j. writeOf limits part j out) out) h }
 
 -- what is found, with its list at hand, is answered
 module _ (limits : WidthLimits) (part : Part) (x : Exact) (out list : List ℕ) {r : Find} (w : ListFound limits part x (toldFind r) list) where

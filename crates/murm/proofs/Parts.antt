@@ -18,7 +18,8 @@ use Rattle.walk.specs.Finds.{WidthLimits, Finding}
 use Rattle.tables.specs.Checks.{firstRow, limitRows, placesOf}
 use Rattle.tables.specs.Tables.{Table, allWidths, widthAt, badCount, recordRow, notAWidth, countAt}
 use Rattle.murm.specs.Entries.{partFrom}
-use Rattle.tables.proofs.Accepted.{above, record-limits}
+use Rattle.tables.proofs.Accepted.{record-limits}
+use Rattle.tables.proofs.OfBuilt.{has-width, a-width}
 use Rattle.tables.proofs.Filled.{room-at}
 use Rattle.tables.proofs.InWords.{any-to}
 
@@ -31,17 +32,7 @@ count-good t w e p q = by (badCount t w) refl
     by true h = clash (any-to (badCount t) 5 1 w (omega arith) (omega arith) h) e
     by false h = h
 
--- a width with entries is one that the table has
-pub counted-width : (t : Table) (w : ℕ) → 0 < countAt t w → (0 < w) × (w ≤ t .limits .qubits) × (countAt t w ≡ widthAt t w .count)
-counted-width t w h = by (notAWidth t w) refl
-  where
-    by : (b : Bool) → notAWidth t w ≡ b → (0 < w) × (w ≤ t .limits .qubits) × (countAt t w ≡ widthAt t w .count)
-    by true e = let z : countAt t w ≡ 0 = rw e in absurd (omega (arith, h, z))
-    by false e =
-        let p = neither (eqb w 0) (ltb (t .limits .qubits) w) e in
-        (above w (p .0), ltb-false (t .limits .qubits) w (p .1), rw e)
-
--- where its part lies, and how many of its places are counted
+-- where the part of a width lies, and how many of its places are counted
 pub record PartBounds (t : Table) (w : ℕ) : Type 0 where
   pub some : 0 < w
   pub width : w ≤ 5
@@ -49,12 +40,12 @@ pub record PartBounds (t : Table) (w : ℕ) : Type 0 where
   pub entries : t .limits .entries ≤ 1000000
   pub start : (w - 1) * t .limits .entries ≤ 5000000
   pub inside : (n : ℕ) → placesOf (t .limits) ≤ n → (w - 1) * t .limits .entries + t .limits .entries ≤ n
-  pub count : countAt t w ≤ t .limits .entries
+  pub counted : countAt t w ≡ widthAt t w .count
+  pub count : widthAt t w .count ≤ t .limits .entries
 
-pub part : (t : Table) (w : ℕ) → recordRow t .holds ≡ false → 0 < countAt t w → PartBounds t w
-part t w r h =
+pub part : (t : Table) (w : ℕ) → recordRow t .holds ≡ false → 0 < w → w ≤ t .limits .qubits → PartBounds t w
+part t w r p q =
     let l = record-limits t r in
-    let (p, q, z) = counted-width t w h in
     let b = room-at (w - 1) (t .limits .qubits) (t .limits .entries) (omega arith) in
     let few : w ≤ 5 = omega (arith, l .widths) in
     let four : w - 1 ≤ 4 = omega (arith, few) in
@@ -65,17 +56,26 @@ part t w r h =
       entries = l .entries;
       start = omega (arith, mul-le-mul four (l .entries));
       inside = λ n m. omega (arith, b, m);
-      count = omega (arith, z, counted q (count-good t w (neither (not (eqb (firstRow (limitRows (t .limits))) 0)) _ r .1) p few));
+      counted = rw (has-width t w p q);
+      count = good (count-good t w (neither (not (eqb (firstRow (limitRows (t .limits))) 0)) _ r .1) p few);
     }
   where
-    counted : w ≤ t .limits .qubits → badCount t w ≡ false → widthAt t w .count ≤ t .limits .entries
-    counted q e =
+    good : badCount t w ≡ false → widthAt t w .count ≤ t .limits .entries
+    good e =
         ltb-false (t .limits .entries) (widthAt t w .count)
         (neither (eqb (widthAt t w .count) 0) _ (with-width (ltb (t .limits .qubits) w) (le-ltb (t .limits .qubits) w q) e) .1)
       where
         with-width : (x : Bool) → x ≡ false → {y : Bool} → (not x && y) ≡ false → y ≡ false
         with-width true z f = clash refl z
         with-width false z f = f
+
+-- the same of a width with entries, which is one that the table has
+pub counted-part : (t : Table) (w : ℕ) → recordRow t .holds ≡ false → 0 < countAt t w → PartBounds t w
+counted-part t w r h = by (notAWidth t w) refl
+  where
+    by : (b : Bool) → notAWidth t w ≡ b → PartBounds t w
+    by true e = let z : countAt t w ≡ 0 = rw e in absurd (omega (arith, h, z))
+    by false e = let (p, q) = a-width t w e in part t w r p q
 
 -- ---- what is found in a part that is given by other numbers
 

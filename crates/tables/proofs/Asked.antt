@@ -3,7 +3,7 @@
 use mathlib.Core.Path.{_≡_, refl, sym, ap, _∙_}
 use mathlib.Core.Bool.{Bool, true, false}
 use mathlib.Core.List.{List, [], _∷_, _++_}
-use Prim.Native.Nat.{ℕ, _<_}
+use Prim.Native.Nat.{ℕ, zero, suc, _<_}
 use native.Mathlib.Omega.{arith}
 use borrow.Author.Tests.{ne-eqb, lt-ltb}
 use Rattle.ints.specs.Lists.{pick}
@@ -14,7 +14,7 @@ use Rattle.walk.proofs.Meaning.{no-nodes, found-below}
 use Rattle.tables.specs.Checks.{Row, firstRow, Arrays, roomRow}
 use Rattle.tables.specs.Tables.{Table, Query, matrixOf, recordRow, tableRowsOf, listRow, notAWidth, countAt, limitsAt, partAt, findRows, foundBy, foundIn, nodeRow, writeRows}
 use Rattle.tables.specs.Tables.{writtenBy, writtenIn, answerRows, repliedBy, synthesized}
-use Rattle.tables.proofs.Rows.{Numbered, numbered-query, first-here, first-past, first-last, first-none, firstRow-append, append-none}
+use Rattle.tables.proofs.Rows.{Numbered, numbered-query, first-here, first-past, first-last, first-none, first-some, firstRow-append, append-none}
 
 -- ---- rows
 
@@ -120,3 +120,17 @@ module _ (t : Table) (a : Arrays) (q : Query) (out : List ℕ) where
   pub asked-by : {g : Finding} → partFound t a q ≡ g → partAsked ≡ thenWrite (λ k. partWritten t a (q .width) k out) out g
   unfolding answerOf
   asked-by e = ap (thenWrite (λ k. partWritten t a (q .width) k out) out) e
+
+  -- with a lent list that is long enough for every good record, an answer is the find, followed by the write
+  pub followed : (recordRow t .holds ≡ false → listRow t out .holds ≡ false)
+      → thenWrite (λ k. writtenIn t a (q .width) k out) out (foundIn t a q) ≡ synthesized t a q out
+  unfolding synthesized
+  followed long = by (firstRow (findRows t a q)) refl
+    where
+      by : (r : ℕ) → firstRow (findRows t a q) ≡ r → thenWrite (λ k. writtenIn t a (q .width) k out) out (foundIn t a q) ≡ repliedBy t a q out (firstRow (answerRows t a q out))
+      by zero e =
+          let rest = firstRow-append (findRows t a q) (listRow t out ∷ []) (numbered-find t a q) e in
+          sym (ap (repliedBy t a q out) (rest ∙ first-last (listRow t out) (long (good-table t a _ e .0))))
+      by (suc r) e =
+          ap (thenWrite (λ k. writtenIn t a (q .width) k out) out) (find-refused t a q (suc r) (omega arith) e)
+          ∙ sym (answer-refused (suc r) (omega arith) (first-some (findRows t a q) (listRow t out ∷ []) (suc r) (omega arith) e))

@@ -47,7 +47,7 @@ module _ (t t′ : Table) (a a′ : Arrays) (b : Built t a) (b′ : Built t′ a
   same-list : (out′ l : List ℕ) → notAWidth t (q .width) ≡ false → rowOfAnswer t′ a′ q out′ ≡ 0
       → answered (q .width) (t .limits .basis) (t .limits .gates) (t .limits .entries) (matrixOf q) ≡ some l → Gives t′ a′ q out′ l
   same-list out′ l f e g =
-      let w = a-width t q f in
+      let w = a-width t (q .width) f in
       let h : q .width ≤ t′ .limits .qubits = omega (arith, w .1, s .qubits) in
       let more =
       at-width.demand (q .width) (t .limits .basis) (widths-small t a b (q .width) (w .1)) .larger (t .limits .gates) (t′ .limits .gates)
@@ -79,7 +79,7 @@ module _ (t : Table) (a : Arrays) (b : Built t a) where
   answers-complete : (q : Query) → (q .width ≤ 5 → WidthComplete (q .width) (t .limits .basis) (t .limits .gates) (t .limits .entries)) → Complete t a q
   answers-complete q w = record {
     shortest = λ out l g m r.
-        w (small (a-width t q (gives-asked t a q out l g .1) .1)) .shortest (matrixOf q) (low out (gives-asked t a q out l g .0)) l
+        w (small (a-width t (q .width) (gives-asked t a q out l g .1) .1)) .shortest (matrixOf q) (low out (gives-asked t a q out l g .0)) l
         (gives-walk t a b q out l g) m (r .of-basis) (r .power);
     none-exactly = λ p h s out n. let e = no-row t a q out n in
         let k = told-walk t a b q out e (has-width t (q .width) p h) in

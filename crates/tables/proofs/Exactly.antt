@@ -81,7 +81,7 @@ module _ (t : Table) (a : Arrays) (q : Query) (out : List ℕ) where
       to n (not-a-width f w m) = absurd (omega (arith, kind-of (sym m ∙ n)))
       to n (part-asked f w m) =
           let (x, y, z, u) = asked-means t a q out .is-refused r p after .0 (sym m ∙ n) in
-          let v = a-width t q w in (
+          let v = a-width t (q .width) w in (
             told 13 (first-later (rowCauses t a q out) (chain ∷ []) 13 0 (none-to (answer-in-words t a q out) f)
                 (inl (refl, (record { some = v .0; has = v .1; fault = x }, refl)))) (sym y) (sym z),
             u,

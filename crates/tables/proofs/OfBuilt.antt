@@ -56,10 +56,10 @@ asked-lowest n k bytes e = record { lowest = λ h. fails (is-true (allDivisible 
 pub has-width : (t : Table) (w : ℕ) → 0 < w → w ≤ t .limits .qubits → notAWidth t w ≡ false
 has-width t w p h = rw (ne-eqb w 0 (omega arith), le-ltb (t .limits .qubits) w h)
 
-pub a-width : (t : Table) (q : Query) → notAWidth t (q .width) ≡ false → (0 < q .width) × (q .width ≤ t .limits .qubits)
-a-width t q e =
-    let p = neither (eqb (q .width) 0) (ltb (t .limits .qubits) (q .width)) e in
-    (above (q .width) (p .0), ltb-false (t .limits .qubits) (q .width) (p .1))
+pub a-width : (t : Table) (w : ℕ) → notAWidth t w ≡ false → (0 < w) × (w ≤ t .limits .qubits)
+a-width t w e =
+    let p = neither (eqb w 0) (ltb (t .limits .qubits) w) e in
+    (above w (p .0), ltb-false (t .limits .qubits) w (p .1))
 
 -- ---- an answer of the walk, told
 
@@ -153,7 +153,7 @@ module _ (t : Table) (a : Arrays) (b : Built t a) where
   module _ (q : Query) (out : List ℕ) where
     -- that no row refuses, of a width that the table has
     pub told-walk : rowOfAnswer t a q out ≡ 0 → notAWidth t (q .width) ≡ false → synthesized t a q out ≡ toldOption (answered (q .width) B G E (matrixOf q)) out
-    told-walk e f = let w = a-width t q f in width-asked t a q out e f ∙ part-answers (q .width) (w .0) (w .1) (matrixOf q) out
+    told-walk e f = let w = a-width t (q .width) f in width-asked t a q out e f ∙ part-answers (q .width) (w .0) (w .1) (matrixOf q) out
 
     -- a list is the walk's
     pub gives-walk : (l : List ℕ) → Gives t a q out l → answered (q .width) B G E (matrixOf q) ≡ some l

@@ -9,12 +9,12 @@ use Rattle.tables.specs.Tables.{limitsAt}
 use Rattle.tables.proofs.Accepted.{roomy}
 use Rattle.murm_config.specs.Told.{toldConfig, toldMurm}
 use Rattle.murm.proofs.Answers.{allowed-size}
-use Rattle.murm.proofs.Parts.{PartBounds, part, same-count}
+use Rattle.murm.proofs.Parts.{PartBounds, counted-part, same-count}
 use Rattle.murm.proofs.find_part.Statement.{statement}
 use Rattle.murm.proofs.find_part.Tie as tie
 
 sound : (c : tie.Start) → PartBounds (toldMurm (c .args .table)) (c .args .width)
-sound c = part (toldMurm (c .args .table)) (c .args .width) (c .pre .0 .0) (omega (arith, c .pre .0 .1, c .pre .0 .2))
+sound c = counted-part (toldMurm (c .args .table)) (c .args .width) (c .pre .0 .0) (omega (arith, c .pre .0 .1, c .pre .0 .2))
 
 sub-start : tie.Need-sub-start
 sub-start c = omega (arith, sound (c .before .before .before .before .before) .some)
@@ -31,7 +31,7 @@ find-from-requires c κs =
     let r = roomy (toldConfig (a .table .config)) (arrays (a .fingerprints .now) (a .parents .now) (a .codes .now)) (s .pre .1 .0) in (
       (p .width, omega (arith, p .gates, q .2)),
       (
-        (p .start, p .entries, omega (arith, p .count, s .pre .0 .1)),
+        (p .start, p .entries, omega (arith, p .count, p .counted, s .pre .0 .1)),
         (
           (p .inside _ (r .0), p .inside _ (r .1), p .inside _ (r .2)),
           (allowed-size (a .width) (a .exponent) (a .matrix .now) (q .0) .1, q .1),

@@ -160,3 +160,7 @@ module _ (n basis : ℕ) (small : n ≤ 5) where
 pub joined : (n basis G E : ℕ) → n ≤ 5 → (f u c : List ℕ) → Holding n basis (built n basis G E .nodes) f u c → (x : Exact) (out : List ℕ)
     → answerOf (record { width = n; basis = basis; gates = G; entries = E }) (partWith f u c (length (built n basis G E .nodes))) x out ≡ toldOption (answered n basis G E x) out
 joined n basis G E small f u c h x out = told n basis small G E h x out
+
+pub chain-held : (n basis : ℕ) → n ≤ 5 → (G E : ℕ) {f u c : List ℕ} → Holding n basis (built n basis G E .nodes) f u c → (j : ℕ) → j < length (built n basis G E .nodes)
+    → chainOf n basis u c G j ≡ good (reverse (listAt (built n basis G E .nodes) j))
+chain-held n basis small G E h j l = chain n basis small G E h j l

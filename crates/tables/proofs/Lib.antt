@@ -14,6 +14,7 @@ pub mod OfBuilt
 pub mod Demand2
 pub mod Demand3
 pub mod ListExactly
+pub mod FindWrite
 pub mod Exactly
 pub mod Refused
 pub mod Samples

@@ -1,7 +1,7 @@
 -- What a built table answers: rows 13 and 5 do not refuse it, and a width that it has answers as the walk does. Assumes nothing.
 use mathlib.Core.Path.{_≡_, refl, sym, ap, _∙_}
-use mathlib.Core.Bool.{false}
-use mathlib.Core.List.{List, [], _∷_, _++_}
+use mathlib.Core.Bool.{Bool, true, false}
+use mathlib.Core.List.{List, [], _∷_, _++_, reverse}
 use mathlib.Core.Option.{Option, none, some}
 use Prim.Native.Nat.{ℕ, _+_, _-_, _*_, _≤_, _<_}
 use native.Mathlib.Omega.{arith}
@@ -15,12 +15,14 @@ use Rattle.exact.specs.Matrix.{Exact, Lowest, allDivisible}
 use Rattle.exact.proofs.Values.{pick-ind}
 use Rattle.exact.specs.Places.{read, held}
 use Rattle.walk.proofs.Nodewise.{answered}
-use Rattle.walk.specs.Finds.{partWith}
+use Rattle.walk.specs.Walk.{listAt}
+use Rattle.walk.specs.Chains.{good}
+use Rattle.walk.specs.Finds.{partWith, chainAt}
 use Rattle.walk.specs.Answers.{given, refused, outcome, answerOf}
 use Rattle.walk.specs.Answers as a
 use Rattle.walk.proofs.Meaning.{kind-of}
 use Rattle.tables.specs.Checks.{Row, firstRow, Arrays, placesOf, roomRow, queryRows}
-use Rattle.tables.specs.Tables.{Table, Width, widthAt, walkOf, Query, query, matrixOf, recordRow, listRow, partOf, notAWidth, synthesized, limitsAt, partAt}
+use Rattle.tables.specs.Tables.{Table, Width, widthAt, walkOf, Query, query, matrixOf, recordRow, listRow, partOf, notAWidth, countAt, synthesized, limitsAt, partAt}
 use Rattle.tables.specs.Built.{Built}
 use Rattle.tables.specs.Demand3.{Gives}
 use Rattle.tables.proofs.Rows.{numbered-query, first-past, append-none}
@@ -30,7 +32,7 @@ use Rattle.tables.proofs.Accepted.{above, accepted, roomy}
 use Rattle.tables.proofs.Filled.{part-length, room-at}
 use Rattle.tables.proofs.FromBuild.{walk-count}
 use Rattle.tables.proofs.Counts.{width-is, good-record}
-use Rattle.tables.proofs.Joined.{toldOption, Holding, joined}
+use Rattle.tables.proofs.Joined.{toldOption, Holding, chain-held, joined}
 use Rattle.tables.proofs.Replies.{not-given, one-list, rowOfAnswer, width-asked, gives-asked}
 
 -- ---- numbers of rows
@@ -60,6 +62,14 @@ pub a-width : (t : Table) (w : ℕ) → notAWidth t w ≡ false → (0 < w) × (
 a-width t w e =
     let p = neither (eqb w 0) (ltb (t .limits .qubits) w) e in
     (above w (p .0), ltb-false (t .limits .qubits) w (p .1))
+
+-- a width with entries is one that the table has
+pub counted : (t : Table) (w : ℕ) {k : ℕ} → k < countAt t w → (0 < w) × (w ≤ t .limits .qubits) × (countAt t w ≡ widthAt t w .count)
+counted t w h = by (notAWidth t w) refl
+  where
+    by : (b : Bool) → notAWidth t w ≡ b → (0 < w) × (w ≤ t .limits .qubits) × (countAt t w ≡ widthAt t w .count)
+    by true e = let z : countAt t w ≡ 0 = rw e in absurd (omega (arith, h, z))
+    by false e = let (p, q) = a-width t w e in (p, q, rw e)
 
 -- ---- an answer of the walk, told
 
@@ -137,6 +147,10 @@ module _ (t : Table) (a : Arrays) (b : Built t a) where
           parents = λ j l. in-part (a .parents) j (omega (arith, few)) ∙ b .nodes w p h j l .parent;
           codes = λ j l. in-part (a .codes) j (omega (arith, few)) ∙ b .nodes w p h j l .code;
         }
+
+    -- a node's chain is its list
+    pub chain-at : (k : ℕ) → k < widthAt t w .count → chainAt (limitsAt (t .limits) w) (partAt t a w) k ≡ good (reverse (listAt (walkOf (t .limits) w .nodes) k))
+    chain-at k l = chain-held w B (widths-small w h) G E holding k (omega (arith, l, ap (λ (v : Width). v .count) (width-is t a b w p h)))
 
     -- it answers as the walk does
     pub part-answers : (x : Exact) (out : List ℕ)

@@ -7,3 +7,4 @@ pub mod Demand2
 pub mod Exactly
 pub mod Samples
 pub mod Beside
+pub mod FindWrite

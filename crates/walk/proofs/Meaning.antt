@@ -49,7 +49,7 @@ kind-of e = ap (λ (o : Outcome). kind (o .reply)) e
 
 -- ---- and so is what is found
 
-abbrev found-kind : Finding → ℕ
+abbrev pub found-kind : Finding → ℕ
 found-kind (f.node k m) = 0
 found-kind f.none = 1
 found-kind (f.refused a i) = 2

@@ -16,10 +16,10 @@ use Rattle.width_answer.specs.Answers.{ListFound}
 use Rattle.exact.specs.Matrix.{Exact}
 use Rattle.walk.specs.Finds.{WidthLimits, Finding}
 use Rattle.tables.specs.Checks.{firstRow, limitRows, placesOf}
-use Rattle.tables.specs.Tables.{Table, allWidths, widthAt, badCount, recordRow, notAWidth, countAt}
+use Rattle.tables.specs.Tables.{Table, allWidths, widthAt, badCount, recordRow, countAt}
 use Rattle.murm.specs.Entries.{partFrom}
 use Rattle.tables.proofs.Accepted.{record-limits}
-use Rattle.tables.proofs.OfBuilt.{has-width, a-width}
+use Rattle.tables.proofs.OfBuilt.{has-width, counted}
 use Rattle.tables.proofs.Filled.{room-at}
 use Rattle.tables.proofs.InWords.{any-to}
 
@@ -71,11 +71,7 @@ part t w r p q =
 
 -- the same of a width with entries, which is one that the table has
 pub counted-part : (t : Table) (w : ℕ) → recordRow t .holds ≡ false → 0 < countAt t w → PartBounds t w
-counted-part t w r h = by (notAWidth t w) refl
-  where
-    by : (b : Bool) → notAWidth t w ≡ b → PartBounds t w
-    by true e = let z : countAt t w ≡ 0 = rw e in absurd (omega (arith, h, z))
-    by false e = let (p, q) = a-width t w e in part t w r p q
+counted-part t w r h = let (p, q, z) = counted t w h in part t w r p q
 
 -- ---- what is found in a part that is given by other numbers
 

@@ -99,9 +99,22 @@ module _ (t : Table) (a : Arrays) (q : Query) where
   never-12 n = by (firstRow (findRows t a q)) refl
     where
       other : Without 12 (findRows t a q)
-      other =
-          ((λ e. absurd (omega (arith, e))), ((λ e. absurd (omega (arith, e))), ((λ e. absurd (omega (arith, e))), ((λ e. absurd (omega (arith, e))), ((λ e. absurd (omega (arith, e))),
-          ((λ e. absurd (omega (arith, e))), tt))))))
+      other = (
+        (λ e. absurd (omega (arith, e))),
+        (
+          (λ e. absurd (omega (arith, e))),
+          (
+            (λ e. absurd (omega (arith, e))),
+            (
+              (λ e. absurd (omega (arith, e))),
+              (
+                (λ e. absurd (omega (arith, e))),
+                ((λ e. absurd (omega (arith, e))), tt),
+              ),
+            ),
+          ),
+        ),
+      )
 
       by : (r : ℕ) → firstRow (findRows t a q) ≡ r → ⊥
       by zero e =
@@ -262,10 +275,11 @@ module _ (t t′ : Table) (a a′ : Arrays) (b : Built t a) (b′ : Built t′ a
 node-written : (t : Table) (a : Arrays) → Built t a → (w k : ℕ) → k < countAt t w → (out : List ℕ) → t .limits .gates ≤ length out → (l : List ℕ) × Writes t a w k out l
 node-written t a b w k h out room =
     let (p, c, z) = counted t w h in
-    let e = chain-at t a b w p c k (omega (arith, h, z)) in
-    (reverse (listAt (walkOf (t .limits) w .nodes) k),
-    write-passed t a w k out (rows-passed t a w k out (good-record t a b) (b .room) h (le-ltb (length out) (t .limits .gates) room))
-    ∙ written-good (limitsAt (t .limits) w) (partAt t a w) k out e)
+    let e = chain-at t a b w p c k (omega (arith, h, z)) in (
+      reverse (listAt (walkOf (t .limits) w .nodes) k),
+      write-passed t a w k out (rows-passed t a w k out (good-record t a b) (b .room) h (le-ltb (length out) (t .limits .gates) room))
+          ∙ written-good (limitsAt (t .limits) w) (partAt t a w) k out e,
+    )
 
 pub find-write : FindWrite
 find-write = record {

@@ -1,13 +1,13 @@
 -- What the samples state: computed, or from demand 3. Assumes nothing.
 use mathlib.Core.Path.{_≡_, refl, sym, ap, _∙_, subst}
 use mathlib.Core.Logic.{_⊎_, inl, inr}
-use mathlib.Core.Bool.{false}
+use mathlib.Core.Bool.{true, false}
 use mathlib.Core.List.{List, [], _∷_}
 use mathlib.Core.Option.{Option, none, some}
 use Prim.Native.Nat.{ℕ, zero, suc, _^_, _≤_, _<_}
 use native.Mathlib.Omega.{arith}
-use borrow.Author.Tests.{lt-ltb, le-ltb, eq-eqb}
-use lib.Dec.{eqb}
+use borrow.Author.Tests.{lt-ltb, le-ltb, ltb-true, eq-eqb}
+use lib.Dec.{eqb, ltb}
 use lib.IntN.{pos}
 use lib.ListN.{length}
 use Rattle.ints.specs.Bits.{bit}
@@ -46,10 +46,10 @@ use Rattle.walk.specs.Finds.{rechecked, findOf}
 use Rattle.walk.specs.Answers.{writeOf}
 use Rattle.walk.proofs.Meaning.{kind-of}
 use Rattle.tables.specs.Checks.{firstRow, Limits, limitRows, Arrays, placesOf, roomRow, anyBelow, queryRows}
-use Rattle.tables.specs.Tables.{recordOf, builtTo, buildRows, Query, matrixOf, listRow, foundIn, writtenIn, synthesized}
+use Rattle.tables.specs.Tables.{widthAt, recordOf, builtTo, buildRows, Query, matrixOf, listRow, foundIn, writtenIn, synthesized}
 use Rattle.tables.specs.Built.{Built}
 use Rattle.tables.specs.Demand3.{Gives, GivesNone, Refuses, NotRefused, NoSmaller, Reaches, Complete}
-use Rattle.tables.specs.Samples.{xLimits, largerLimits, chLimits, Places, askX, askT, askZero, lent, damaged, mistaken, circular, foreign, forgotten, Samples}
+use Rattle.tables.specs.Samples.{xLimits, largerLimits, chLimits, Places, askX, askT, askZero, lent, damaged, mistaken, circular, foreign, forgotten, strange, Samples}
 use Rattle.tables.proofs.Rows.{numbered-limits, numbered-query, first-here, first-past, firstRow-append}
 use Rattle.tables.proofs.Accepted.{room-is}
 use Rattle.tables.proofs.FromBuild.{build-fills, build-refusal}
@@ -57,6 +57,8 @@ use Rattle.tables.proofs.Joined.{toldOption}
 use Rattle.tables.proofs.Replies.{rowOfAnswer, row-refuses}
 use Rattle.tables.proofs.OfBuilt.{has-width, not-refusal, rows-are, told-walk}
 use Rattle.tables.proofs.Demand3.{demand}
+use Rattle.tables.proofs.FindWrite.{find-write}
+use Rattle.tables.specs.FindWrite.{Finds, FindsNone, FindRefuses, Writes, WriteRefuses}
 
 -- ---- computed
 
@@ -103,6 +105,16 @@ record Computed : Type 0 where
   circular-x : Refuses (recordOf xLimits) circular askX lent 13
   foreign-x : Refuses (recordOf xLimits) foreign askX lent 13
   forgotten-x : GivesNone (recordOf xLimits) forgotten askX lent
+  damaged-find : Finds (recordOf xLimits) damaged askX 1 1
+  damaged-write : Writes (recordOf xLimits) damaged 1 1 lent (4096 ∷ [])
+  mistaken-find : FindsNone (recordOf xLimits) mistaken askT
+  mistaken-write : Writes (recordOf xLimits) mistaken 1 1 lent (4096 ∷ [])
+  circular-find : FindRefuses (recordOf xLimits) circular askX 13
+  circular-write : WriteRefuses (recordOf xLimits) circular 1 1 lent 13
+  circular-short : WriteRefuses (recordOf xLimits) circular 1 1 [] 12 × Refuses (recordOf xLimits) circular askX [] 12
+  no-node : WriteRefuses (recordOf xLimits) circular 1 2 [] 16
+  strange-count : ltb 0 (widthAt strange 2 .count) ≡ true
+  no-width : WriteRefuses strange damaged 2 0 lent 16 × WriteRefuses strange damaged 0 0 lent 16 × WriteRefuses strange damaged 4294967295 0 lent 16
   root-print : eqb 7 (fingerprint 1 identity) ≡ false
   -- X is of the basis
   x-of : ListOf 1 2 (4096 ∷ [])
@@ -123,6 +135,16 @@ computed = record {
   circular-x = refl;
   foreign-x = refl;
   forgotten-x = refl;
+  damaged-find = refl;
+  damaged-write = refl;
+  mistaken-find = refl;
+  mistaken-write = refl;
+  circular-find = refl;
+  circular-write = refl;
+  circular-short = (refl, refl);
+  no-node = refl;
+  strange-count = refl;
+  no-width = (refl, refl, refl);
   root-print = refl;
   x-of = refl;
 }
@@ -180,6 +202,10 @@ module _ (a : Arrays) (p : Places 2 a) where
   none-t out h =
       told xLimits (builtTo xLimits 1 a) a-table askT out (computed .t-passes) h (omega arith) (omega arith)
       ∙ ap (λ (o : Option (List ℕ)). toldOption o out) (computed .walk-t)
+
+  finds-none-t : FindsNone (recordOf xLimits) (builtTo xLimits 1 a) askT
+  unfolding recordOf
+  finds-none-t = find-write .none-same (recordOf xLimits) (builtTo xLimits 1 a) askT lent (omega arith) .1 (none-t lent (omega arith))
 
   -- none is no refusal
   not-refused : NotRefused (recordOf xLimits) (builtTo xLimits 1 a) askT lent
@@ -282,4 +308,16 @@ samples = record {
   zero-not-unitary = zero-not-unitary;
   zero-passes = λ a p out h. zero-passes a p out h;
   none-zero = λ a p out h. demand .not-unitary (recordOf xLimits) (builtTo xLimits 1 a) askZero out (zero-passes a p out h) zero-not-unitary;
+  finds-x = λ a p. find-write .given-found (recordOf xLimits) (builtTo xLimits 1 a) askX lent (4096 ∷ []) (gives-x a p lent (omega arith));
+  finds-none-t = λ a p. finds-none-t a p;
+  damaged-find = computed .damaged-find;
+  damaged-write = computed .damaged-write;
+  mistaken-find = computed .mistaken-find;
+  mistaken-write = computed .mistaken-write;
+  circular-find = computed .circular-find;
+  circular-write = computed .circular-write;
+  circular-short = computed .circular-short;
+  no-node = computed .no-node;
+  strange-count = ltb-true 0 (widthAt strange 2 .count) (computed .strange-count);
+  no-width = computed .no-width;
 }

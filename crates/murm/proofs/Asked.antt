@@ -26,34 +26,6 @@ use Rattle.tables.proofs.Asked.{partFound, partAsked, good-table, find-refused,
 use Rattle.murm.specs.Entries.{askedOf}
 use Rattle.murm.specs.Work.{Writable, nodeWritten}
 
--- ---- rows after those of the table
-
-numbered-table : (t : Table) (f u c : ℕ) → Numbered (tableRows t f u c)
-numbered-table t f u c = (omega arith, (omega arith, tt))
-
-module _ (t : Table) (f u c : ℕ) (rs : List Row) {x : Check} (e : toldCheck x ≡ byRow (firstRow (tableRows t f u c))) where
-  pub later-rows : x ≡ check.Passed → {r : Reason} → r ≡ byRow (firstRow rs) → r ≡ byRow (firstRow (tableRows t f u c ++ rs))
-  later-rows h g = g ∙ ap byRow (sym (firstRow-append (tableRows t f u c) rs (numbered-table t f u c) (n.passed e h)))
-
-  pub table-refuses : {r : Refusal} → x ≡ check.Refused r → toldRefusal r ≡ byRow (firstRow (tableRows t f u c ++ rs))
-  table-refuses h = let w = n.refused e h in w .told ∙ ap byRow (sym (first-some (tableRows t f u c) rs _ (w .some) refl))
-
--- ---- rows 16 and 12
-
-module _ (t : Table) (w k room : ℕ) where
-  pub no-node : countAt t w ≤ k → 16 ≡ firstRow (nodeRows t w k room)
-  unfolding firstRow
-  no-node h = rw (le-ltb k (countAt t w) h)
-
-  module _ (there : k < countAt t w) where
-    pub too-short : room < t .limits .gates → 12 ≡ firstRow (nodeRows t w k room)
-    unfolding firstRow
-    too-short h = rw (lt-ltb k (countAt t w) there, lt-ltb room (t .limits .gates) h)
-
-    pub long-enough : t .limits .gates ≤ room → 0 ≡ firstRow (nodeRows t w k room)
-    unfolding firstRow
-    long-enough h = rw (lt-ltb k (countAt t w) there, le-ltb room (t .limits .gates) h)
-
 -- ---- a find
 
 pub refused-find : (t : Table) (a : Arrays) (q : Query) {r : Refusal} → Refuses r (firstRow (findRows t a q)) → finds.refused (numberOf r) (positionOf r) ≡ foundIn t a q

@@ -2,7 +2,6 @@
 // `library_circuit_matrix`, `Murm::build`, `Murm::synthesize`; matrix.rs: `unitary_fingerprint`. `find` and `write` are the parts of `synthesize`.
 ghost use mathlib.Core.Path.{_≡_};
 ghost use mathlib.Core.Bool.{false, _&&_};
-ghost use mathlib.Core.List.{_++_};
 ghost use Prim.Native.Nat.{_+_, _*_, _^_, _≤_, _<_};
 ghost use lib.Dec.{ltb};
 ghost use lib.ListN.{length};
@@ -13,9 +12,9 @@ ghost use Rattle.synthesis_arena.specs.Limits.{toldLimits};
 ghost use Rattle.width_answer.specs.Answers.{AskedPlaces, toldFind, ListFound};
 ghost use Rattle.walk.specs.Answers.{outcome as replied};
 ghost use Rattle.tables.specs.Checks.{firstRow, queryRows, arrays, roomRow};
-ghost use Rattle.tables.specs.Tables.{left, buildOf, query, recordRow, tableRows, countAt, nodeRows, foundIn, writtenIn, synthesized};
+ghost use Rattle.tables.specs.Tables.{left, buildOf, query, recordRow, countAt, foundIn, writtenIn, synthesized};
 ghost use Rattle.tables.proofs.Asked.{partFound};
-ghost use Rattle.refusal.specs.Told.{byRow, toldCheck};
+ghost use Rattle.refusal.specs.Told.{toldCheck};
 ghost use Rattle.murm_config.specs.Told.{toldConfig, toldMurm};
 ghost use Rattle.tables.specs.Lists.{firstInvalid, outcome, listed};
 ghost use Rattle.murm.specs.Entries.{partFrom, toldListed, fingerprinted, toldFingerprinted, toldBuilding, toldFoundNode, toldWritten, askedOf, toldSynthesized};
@@ -394,37 +393,6 @@ pub fn find(
     }
 }
 
-// Whether a width has the node, and a list of so many places room for the longest; else 16 or 12.
-fn check_node(table: Murm, width: u32, node: usize, room: usize) -> Check
-    ensures { λ r. ⌜ toldCheck r ≡ byRow (firstRow (nodeRows (toldMurm table) width node room)) ⌝ }
-{
-    if node >= murm_config::count_at(table, width) {
-        return Check::Refused(Refusal::NoSuchNode);
-    }
-    if room < table.config.max_gates as usize {
-        return Check::Refused(Refusal::ListTooShort);
-    }
-    Check::Passed
-}
-
-// Whether the list of a node may be written; else which row of a write is the first to refuse (SPECIFICATION 9.2).
-fn check_write(
-    table: Murm,
-    prints: usize,
-    parents: usize,
-    codes: usize,
-    width: u32,
-    node: usize,
-    room: usize,
-) -> Check
-    ensures { λ r. ⌜ toldCheck r ≡ byRow (firstRow (tableRows (toldMurm table) prints parents codes ++ nodeRows (toldMurm table) width node room)) ⌝ }
-{
-    match murm_config::check_table(table, prints, parents, codes) {
-        Check::Passed => check_node(table, width, node, room),
-        Check::Refused(r) => Check::Refused(r),
-    }
-}
-
 // What a node's list came to: how many gates it has, or why it was refused.
 pub enum Written {
     List(usize),
@@ -474,7 +442,7 @@ pub fn write(
     ensures { λ r. ⌜ replied (toldWritten r) (now (out .exit)) ≡ writtenIn (toldMurm table)
         (arrays (now (fingerprints .entry)) (now (parents .entry)) (now (codes .entry))) width node (now (out .entry)) ⌝ }
 {
-    match check_write(
+    match murm_config::check_write(
         table,
         fingerprints.len(),
         parents.len(),

@@ -5,7 +5,7 @@ use native.Mathlib.Omega.{arith}
 use Rattle.refusal.specs.Told.{Reason}
 use Rattle.refusal.proofs.Numbers.{some}
 use Rattle.murm_config.specs.Told.{toldMurm}
-use Rattle.murm.proofs.Asked.{later-rows, table-refuses}
+use Rattle.murm_config.proofs.Asking.{later-rows, table-refuses}
 use Rattle.murm.proofs.check_find.Statement.{statement}
 use Rattle.murm.proofs.check_find.Tie as tie
 

@@ -1,9 +1,9 @@
 -- `check_write` meets its contract: the rows of the table, then those of the node. Assumes nothing.
 use borrow.Author.Needs.{needs}
 use Rattle.murm_config.specs.Told.{toldMurm}
-use Rattle.murm.proofs.Asked.{later-rows, table-refuses}
-use Rattle.murm.proofs.check_write.Statement.{statement}
-use Rattle.murm.proofs.check_write.Tie as tie
+use Rattle.murm_config.proofs.Asking.{later-rows, table-refuses}
+use Rattle.murm_config.proofs.check_write.Statement.{statement}
+use Rattle.murm_config.proofs.check_write.Tie as tie
 
 returns : tie.Need-returns
 returns c =

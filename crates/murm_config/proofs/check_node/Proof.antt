@@ -3,10 +3,10 @@ use borrow.Author.Needs.{needs}
 use mathlib.Core.Path.{sym, ap, subst}
 use Prim.Native.Nat.{ℕ, _≤_, _<_}
 use Rattle.refusal.specs.Told.{byRow}
 use Rattle.murm_config.specs.Told.{toldMurm}
-use Rattle.murm.proofs.Asked.{no-node, too-short, long-enough}
-use Rattle.murm.proofs.check_node.Statement.{statement}
-use Rattle.murm.proofs.check_node.Tie as tie
+use Rattle.murm_config.proofs.Asking.{no-node, too-short, long-enough}
+use Rattle.murm_config.proofs.check_node.Statement.{statement}
+use Rattle.murm_config.proofs.check_node.Tie as tie
 
 returns : tie.Need-returns
 returns c =

@@ -9,10 +9,10 @@ found-number-spec =
     tie.close
     (tie.spec
     (λ c. search needs)
+    (λ c κs. search needs)
     (λ c. search needs)
     (λ c. search needs)
     (λ c κs. search needs)
-    (λ c κs. search needs)
-    (λ c. ?)
+    (λ c. node-found _ _ (c .before .before .told .given .1) (c .node-number .ensures))
     (λ c. search needs)
-    (λ c. ?))
+    (λ c. find-refused _ (c .before .before .told2 .given .1) (c .refusal-number .ensures)))

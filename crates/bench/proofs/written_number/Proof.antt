@@ -10,7 +10,6 @@ written-number-spec =
     (tie.spec
     (λ c. search needs)
     (λ c. search needs)
-    (λ c. search needs)
     (λ c κs. search needs)
     (λ c. search needs)
     (λ c. write-refused _ (c .before .before .told2 .given .1) (c .refusal-number .ensures)))

@@ -79,7 +79,7 @@ impl Counts {
             .map(|(name, _)| *name)
     }
 
-    /// Numbers and kinds; a refusal is named by its number, after a colon.
+    /// How many of each kind; a kind that begins with a digit is a refusal's.
     fn line(&self) -> String {
         let pairs = self.names.iter().zip(&self.counts);
         let part = |(name, count): (&&str, &usize)| match name.as_bytes()[0] {
@@ -228,13 +228,13 @@ impl Tally {
             Finding::Refused(number) => refused(table, *number),
         });
         self.kind_is(known, table, "find");
-        if expected == Finding::None {
-            if let Some(node) = passed_over(table, asked) {
-                let reply = self.write(table, asked.width, node, table.limits.gates as usize);
-                match reply {
-                    Reply::List(_) => _ = self.among.add(PASSED_OVER),
-                    _ => self.differs(format!("node {node} that was passed over: {reply:?}")),
-                }
+        if expected == Finding::None
+            && let Some(node) = passed_over(table, asked)
+        {
+            let reply = self.write(table, asked.width, node, table.limits.gates as usize);
+            match reply {
+                Reply::List(_) => _ = self.among.add(PASSED_OVER),
+                _ => self.differs(format!("node {node} that was passed over: {reply:?}")),
             }
         }
         found

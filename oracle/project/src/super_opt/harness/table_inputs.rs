@@ -69,7 +69,7 @@ impl Every {
 
     fn takes(&mut self) -> bool {
         self.seen += 1;
-        self.seen % self.step == 0
+        self.seen.is_multiple_of(self.step)
     }
 }
 
@@ -77,9 +77,16 @@ pub(super) fn write(sample: bool, out: &mut dyn Write) -> io::Result<()> {
     for line in BROKEN {
         writeln!(out, "{line}\n{UNASKED}")?;
     }
+    for line in finds(&[UNASKED.to_owned()]) {
+        writeln!(out, "{line}\n{UNWRITTEN}")?;
+    }
     // Of the lines of each sort that `questions` has. The steps are such that
     // every place of a table's lines comes up.
-    let steps = if sample { [1, 10, 4, 307] } else { [1, 1, 1, 11] };
+    let steps = if sample {
+        [1, 11, 4, 307]
+    } else {
+        [1, 1, 1, 11]
+    };
     let mut every = steps.map(Every::of);
     for (group, (limits, wanted, asked)) in GROUPS.iter().enumerate() {
         let mut limits: Vec<(usize, Limits)> = limits().into_iter().enumerate().collect();

@@ -11,9 +11,9 @@
 //   write WIDTH NODE PLACES          the list of a node of the table at hand, with a lent list of PLACES places, at most 64: prints
 //                                    `COUNT CODES..` or `refused N 0`
 // The table at hand is that of the last `table` line; with no such line, or if it was refused, a line that asks it prints `refused 14 0`.
-// Numbers and lines are those of the program `circuits`, and a line of another form prints `refused 14 0`. COUNT is up to 256, K up to 65535.
-// A coefficient is such a number, after a `-` or not, from -128 to 127; there are at most 4097. More than 1 MiB of input prints
-// `refused 15 0` alone. A new word has its case in `First`, or in `Asks` if it asks the table at hand.
+// Numbers and lines are those of the program `circuits`, and a line of another form prints `refused 14 0`. The COUNT of a list is up to
+// 256, K up to 65535. A coefficient is such a number, after a `-` or not, from -128 to 127; there are at most 4097. More than 1 MiB of input
+// prints `refused 15 0` alone. A new word has its case in `First`, or in `Asks` if it asks the table at hand.
 // A function that reads a line has neither the output nor the arrays, so that its many ways out are short to prove.
 ghost use mathlib.Core.Path.{_≡_};
 ghost use Prim.Native.Nat.{_+_, _*_, _≤_};
@@ -402,7 +402,7 @@ enum Asks {
     Write,
 }
 
-// What a table told: its answer to a matrix of this fingerprint, the node found for one, or what the list of a node came to.
+// What a table told: its answer to a matrix of this fingerprint, the node found for one, or what the list of a node came to; or the line is broken.
 enum Told {
     Answer(u64, Synthesized),
     Found(FoundNode),
@@ -439,7 +439,7 @@ fn ask_matrix(
     }
 }
 
-// The node for the matrix of a line is found.
+// The node for the matrix of a line is found (SPECIFICATION 7.10).
 fn ask_find(
     table: Murm,
     fingerprints: &[u64],
@@ -462,7 +462,7 @@ fn ask_find(
     }
 }
 
-// The list of the node of a line is written, into as many of the lent places as the line says.
+// The list of the node of a line is written (SPECIFICATION 7.11), into as many of the lent places as the line says.
 fn ask_write(
     table: Murm,
     fingerprints: &[u64],

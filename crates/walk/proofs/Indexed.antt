@@ -10,7 +10,7 @@ use Rattle.walk.specs.Index.{By, scan, indexed, lookedUp, keptUp, kept, 
 use Rattle.walk.specs.IndexLaws.{Roomy, NodeFrom, Indexing}
 use Rattle.walk.proofs.Lookups.{looks-up}
 use Rattle.walk.proofs.Inserting.{filled-length, filled-cong}
-use Rattle.walk.proofs.Probing.{found-node, filled-scans}
+use Rattle.walk.proofs.Probing.{probes, filled-scans}
 
 -- in the part that goes with a table both find the same node, for every fingerprint
 pub kept-looks-up : (by : By) (fps old : List ℕ) (count from f : ℕ) → Roomy by count old
@@ -37,7 +37,7 @@ pub looked-node : (by : By) (index fps : List ℕ) (count from f v : ℕ) → lo
 looked-node scan index fps count from f v e =
     let w = looks-up fps count from f .is-found v .0 e in
     record { not-before = w .not-before; below = w .below; has = w .has }
-looked-node indexed index fps count from f v e = found-node index fps count from f v e
+looked-node indexed index fps count from f v e = probes index fps count from f .is-found v .0 e .leads-to
 
 pub indexing : Indexing
-indexing = record { same = kept-looks-up; more = kept-more; sound = looked-node }
+indexing = record { same = kept-looks-up; more = kept-more; sound = looked-node; probe = probes }

@@ -14,7 +14,7 @@ use Rattle.ints.specs.Lists.{pick}
 use Rattle.circuit.specs.Codes.{mark}
 use Rattle.walk.specs.Lookup.{Lookup, found, none}
 use Rattle.walk.specs.Index.{placeOf, freeOf, putAt, inserted, filled, leads, probeOf, probed}
-use Rattle.walk.proofs.Rounds.{place-first, place-next, place-below}
+use Rattle.walk.proofs.Rounds.{place-next, place-below}
 
 -- ---- the place of a step
 

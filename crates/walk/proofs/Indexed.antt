@@ -1,9 +1,9 @@
 -- Either look-up finds the lowest node, as long as the part is kept up, and a part that is kept up is what a fill leaves. Assumes nothing.
 use mathlib.Core.Path.{_≡_, refl, sym, ap, _∙_}
 use mathlib.Core.List.{List}
-use Prim.Native.Nat.{ℕ, suc, _≤_, _<_}
+use Prim.Native.Nat.{ℕ, suc, _<_}
 use native.Mathlib.Omega.{arith}
-use lib.ListN.{length, getD, set}
+use lib.ListN.{length, set}
 use lib.Seq.{getD-set-same, getD-set-other}
 use Rattle.walk.specs.Lookup.{found, lowestFrom}
 use Rattle.walk.specs.Index.{By, scan, indexed, lookedUp, keptUp, kept, filled, inserted}

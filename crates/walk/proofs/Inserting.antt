@@ -15,6 +15,7 @@ use Rattle.ints.specs.Lists.{pick}
 use Rattle.circuit.specs.Codes.{mark}
 use Rattle.walk.specs.Lookup.{Lookup, found, none}
 use Rattle.walk.specs.Index.{placeOf, freeOf, putAt, inserted, filled}
+use Rattle.walk.specs.IndexLaws.{atStep}
 use Rattle.walk.proofs.Rounds.{place-below, place-met}
 use Rattle.walk.proofs.Empties.{empties, empties-all, empties-set, empties-some}
 
@@ -63,9 +64,9 @@ free-found index f (suc m) j e l h q = by (eqb (getD index (placeOf (length inde
 -- ---- what a filled part holds
 
 module _ (fps : List ℕ) where
-  -- the place of step j along the probe of node v's fingerprint
+  -- what stands at step j of the probe of node v's fingerprint
   abbrev stepOf : List ℕ → ℕ → ℕ → ℕ
-  stepOf index v j = getD index (placeOf (length index) (getD fps v 0) j) 0
+  stepOf index v j = atStep index (getD fps v 0) j
 
   -- node v stands at step j of its probe, and no place before is empty
   pub record Stands (index : List ℕ) (v j : ℕ) : Type 0 where

@@ -13,7 +13,7 @@ use Rattle.ints.specs.Lists.{pick}
 use Rattle.ints.proofs.Bools.{clash, and-left, and-right}
 use Rattle.circuit.specs.Codes.{mark}
 use Rattle.walk.specs.Lookup.{Lookup, found, none, lowestFrom}
-use Rattle.walk.specs.Index.{placeOf, leads, probeOf, probed, filled}
+use Rattle.walk.specs.Index.{leads, probeOf, probed, filled}
 use Rattle.walk.specs.IndexLaws.{NodeFrom, atStep, ComesTo, ComesToNone, Probes}
 use Rattle.walk.proofs.Lookups.{looks-up}
 use Rattle.walk.proofs.Inserting.{Holds, Stands, filled-holds}

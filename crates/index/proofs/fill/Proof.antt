@@ -1,11 +1,9 @@
 -- `fill` meets its contract: after i turns the nodes below i are in the part. The measure is how many nodes are left. Assumes nothing.
-use mathlib.Core.Path.{_≡_, sym, ap, _∙_, subst}
-use mathlib.Core.List.{List}
+use mathlib.Core.Path.{_≡_, ap, _∙_}
 use Prim.Native.Nat.{ℕ, _≤_, _-_}
 use native.Mathlib.Omega.{arith}
 use lib.ListN.{length, length-replicate}
 use borrow.Author.Needs.{needs}
-use Rattle.circuit.specs.Codes.{mark}
 use Rattle.walk.specs.Index.{filled}
 use Rattle.walk.proofs.Inserting.{filled-length}
 use Rattle.index.proofs.Steps.{fill-start, fill-more}
@@ -19,7 +17,8 @@ abbrev μ-loop : tie.MeasureT-loop
 μ-loop index₀ fingerprints count i₀ index i = count - i
 
 -- the length is as it was
-same : (c : tie.At-loop Inv-loop μ-loop) → length (c .before .before .before .clear .last .0) ≡ length (c .before .before .before .before .before .before .before .args .index .now)
+same : (c : tie.At-loop Inv-loop μ-loop)
+    → length (c .before .before .before .clear .last .0) ≡ length (c .before .before .before .before .before .before .before .args .index .now)
 same c = ap length (c .before .before .before .clear .ensures) ∙ length-replicate _ _
 
 loop-holds : tie.Need-loop-holds Inv-loop μ-loop

@@ -1,5 +1,5 @@
 -- `keep_up` meets its contract: the scan's arm leaves the part. Assumes nothing.
-use mathlib.Core.Path.{_≡_, sym, ap, _∙_}
+use mathlib.Core.Path.{sym, ap, _∙_}
 use borrow.Author.Needs.{needs}
 use Rattle.index.specs.declared.LookupBy.{LookupBy}
 use Rattle.walk.specs.Index.{keptUp}

@@ -1,6 +1,6 @@
 -- `probe` meets its contract: what is left from the step reached is the whole probe. The measure is how many steps are left. Assumes nothing.
-use mathlib.Core.Path.{_≡_, sym, _∙_}
-use Prim.Native.Nat.{ℕ, _-_}
+use mathlib.Core.Path.{sym, _∙_}
+use Prim.Native.Nat.{_-_}
 use native.Mathlib.Omega.{arith}
 use borrow.Author.Needs.{needs}
 use Rattle.index.proofs.Steps.{Probes, probes-none, probes-start, probes-end, probes-below, probes-empty, probes-here, probes-on}

@@ -32,7 +32,7 @@ unfoldable pub probeFrom : List ℕ → List ℕ → ℕ → ℕ → ℕ → ℕ
 probeFrom index fps count from f j = probeOf index fps count from f j (length index - j)
 
 -- the loop has come to step j
-pub record Probes (index fps : List ℕ) (count from f j place : ℕ) : Type 0 where
+pub record ProbeAt (index fps : List ℕ) (count from f j place : ℕ) : Type 0 where
   pub at : place ≡ placeOf (length index) f j
   pub rest : probeFrom index fps count from f j ≡ probed index fps count from f
 
@@ -40,11 +40,11 @@ pub probes-none : (index fps : List ℕ) (count from f : ℕ) → length index �
 unfolding probeOf probed
 probes-none index fps count from f e = rw e
 
-pub probes-start : (index fps : List ℕ) (count from f : ℕ) {place : ℕ} → place ≡ placeOf (length index) f 0 → Probes index fps count from f 0 place
+pub probes-start : (index fps : List ℕ) (count from f : ℕ) {place : ℕ} → place ≡ placeOf (length index) f 0 → ProbeAt index fps count from f 0 place
 unfolding probeFrom probed
 probes-start index fps count from f e = record { at = e; rest = ap (probeOf index fps count from f 0) (sub-zero (length index)) }
 
-module _ {index fps : List ℕ} {count from f j place : ℕ} (w : Probes index fps count from f j place) where
+module _ {index fps : List ℕ} {count from f j place : ℕ} (w : ProbeAt index fps count from f j place) where
   pub probes-end : length index ≤ j → none ≡ probed index fps count from f
   unfolding probeFrom probeOf
   probes-end h =
@@ -72,7 +72,7 @@ module _ {index fps : List ℕ} {count from f j place : ℕ} (w : Probes index f
     probes-here ne e = sym (step ∙ rw (ne-eqb node mark ne, e)) ∙ w .rest
 
     pub probes-on : {next : ℕ} → (node ≡ mark → ⊥) → leads fps count from f node ≡ false → next ≡ (place + 1) % length index
-        → Probes index fps count from f (j + 1) next
+        → ProbeAt index fps count from f (j + 1) next
     probes-on ne e q = record { at = step-more (length index) f j (w .at) q; rest = sym (step ∙ rw (ne-eqb node mark ne, e)) ∙ w .rest }
 
 -- ---- an insertion
@@ -82,7 +82,7 @@ unfoldable pub insertFrom : List ℕ → ℕ → ℕ → ℕ → List ℕ
 insertFrom index f node j = putAt index node (freeOf index f j (length index - j))
 
 -- the loop has come to step j, and the part is as it was
-pub record Inserts (old : List ℕ) (f node j place : ℕ) (new : List ℕ) : Type 0 where
+pub record InsertAt (old : List ℕ) (f node j place : ℕ) (new : List ℕ) : Type 0 where
   pub as-it-was : new ≡ old
   pub at : place ≡ placeOf (length old) f j
   pub rest : insertFrom old f node j ≡ inserted old f node
@@ -91,7 +91,7 @@ pub inserts-none : (old : List ℕ) (f node : ℕ) → length old ≡ 0 → old 
 unfolding freeOf inserted
 inserts-none old f node e = rw e
 
-pub inserts-start : (old : List ℕ) (f node : ℕ) {place : ℕ} → place ≡ placeOf (length old) f 0 → Inserts old f node 0 place old
+pub inserts-start : (old : List ℕ) (f node : ℕ) {place : ℕ} → place ≡ placeOf (length old) f 0 → InsertAt old f node 0 place old
 unfolding insertFrom inserted
 inserts-start old f node e = record {
   as-it-was = refl;
@@ -99,7 +99,7 @@ inserts-start old f node e = record {
   rest = ap (λ (m : ℕ). putAt old node (freeOf old f 0 m)) (sub-zero (length old));
 }
 
-module _ {old new : List ℕ} {f node j place : ℕ} (w : Inserts old f node j place new) where
+module _ {old new : List ℕ} {f node j place : ℕ} (w : InsertAt old f node j place new) where
   pub inserts-end : length old ≤ j → new ≡ inserted old f node
   unfolding insertFrom freeOf
   inserts-end h =
@@ -126,7 +126,7 @@ module _ {old new : List ℕ} {f node j place : ℕ} (w : Inserts old f node j p
         let q : freeOf old f j (length old - j) ≡ found place = free-step ∙ rw (eq-eqb (getD new place 0) mark e) in
         ap (λ (x : List ℕ). set x place node) (w .as-it-was) ∙ sym (ap (putAt old node) q) ∙ w .rest
 
-    pub inserts-on : {next : ℕ} → (getD new place 0 ≡ mark → ⊥) → next ≡ (place + 1) % length old → Inserts old f node (j + 1) next new
+    pub inserts-on : {next : ℕ} → (getD new place 0 ≡ mark → ⊥) → next ≡ (place + 1) % length old → InsertAt old f node (j + 1) next new
     unfolding insertFrom
     inserts-on ne q =
         let s : freeOf old f j (length old - j) ≡ freeOf old f (j + 1) (length old - (j + 1)) = free-step ∙ rw (ne-eqb (getD new place 0) mark ne) in

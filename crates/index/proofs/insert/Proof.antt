@@ -4,12 +4,12 @@ use Prim.Native.Nat.{_-_}
 use native.Mathlib.Omega.{arith}
 use lib.ListN.{length, length-set}
 use borrow.Author.Needs.{needs}
-use Rattle.index.proofs.Steps.{Inserts, inserts-none, inserts-start, inserts-end, inserts-below, inserts-inside, inserts-here, inserts-on}
+use Rattle.index.proofs.Steps.{InsertAt, inserts-none, inserts-start, inserts-end, inserts-below, inserts-inside, inserts-here, inserts-on}
 use Rattle.index.proofs.insert.Statement.{statement}
 use Rattle.index.proofs.insert.Tie as tie
 
 abbrev Inv-loop : tie.InvT-loop
-Inv-loop index₀ fingerprint node size place₀ j₀ index place j = Inserts index₀ fingerprint node j place index
+Inv-loop index₀ fingerprint node size place₀ j₀ index place j = InsertAt index₀ fingerprint node j place index
 
 abbrev μ-loop : tie.MeasureT-loop
 μ-loop index₀ fingerprint node size place₀ j₀ index place j = size - j

@@ -3,12 +3,12 @@ use mathlib.Core.Path.{sym, _∙_}
 use Prim.Native.Nat.{_-_}
 use native.Mathlib.Omega.{arith}
 use borrow.Author.Needs.{needs}
-use Rattle.index.proofs.Steps.{Probes, probes-none, probes-start, probes-end, probes-below, probes-empty, probes-here, probes-on}
+use Rattle.index.proofs.Steps.{ProbeAt, probes-none, probes-start, probes-end, probes-below, probes-empty, probes-here, probes-on}
 use Rattle.index.proofs.probe.Statement.{statement}
 use Rattle.index.proofs.probe.Tie as tie
 
 abbrev Inv-loop : tie.InvT-loop
-Inv-loop index fingerprints count from fingerprint size place₀ j₀ place j = Probes index fingerprints count from fingerprint j place
+Inv-loop index fingerprints count from fingerprint size place₀ j₀ place j = ProbeAt index fingerprints count from fingerprint j place
 
 abbrev μ-loop : tie.MeasureT-loop
 μ-loop index fingerprints count from fingerprint size place₀ j₀ place j = size - j

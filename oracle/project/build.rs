@@ -1,5 +1,5 @@
-//! With the feature `port` the port's archive, `libbench.a` in the folder that
-//! `PORT` names, is linked beside the original.
+//! With the feature `port` the port's archives, `libmurm_c.a` and `libbench.a` in
+//! the folder that `PORT` names, are linked beside the original.
 
 use std::env;
 
@@ -8,8 +8,10 @@ fn main() {
     if env::var_os("CARGO_FEATURE_PORT").is_none() {
         return;
     }
-    let port = env::var("PORT").expect("PORT is the folder of the port's archive");
-    println!("cargo:rerun-if-changed={port}/libbench.a");
+    let port = env::var("PORT").expect("PORT is the folder of the port's archives");
     println!("cargo:rustc-link-search=native={port}");
-    println!("cargo:rustc-link-lib=static=bench");
+    for archive in ["murm_c", "bench"] {
+        println!("cargo:rerun-if-changed={port}/lib{archive}.a");
+        println!("cargo:rustc-link-lib=static={archive}");
+    }
 }

@@ -1,4 +1,4 @@
--- A record's numbers put into places and read from them. Assumes nothing.
+-- A record's numbers put into places. Assumes nothing.
 use mathlib.Core.Path.{_≡_, ap, _∙_}
 use mathlib.Core.List.{List, [], _∷_}
 use Prim.Native.Nat.{ℕ, suc, _≤_, _+_}
@@ -6,9 +6,8 @@ use native.Mathlib.Numerals.{add-one, add-two}
 use lib.ListN.{length, set}
 use lib.Seq.{sets, sets-eq}
 use Rattle.ints.specs.Lists.{over}
-use Rattle.tables.specs.Checks.{Limits}
-use Rattle.tables.specs.Tables.{Width, Table}
-use Rattle.bench.specs.Tables.{widthIn, tableOf, widthNumbers, widthsNumbers}
+use Rattle.tables.specs.Tables.{Width}
+use Rattle.bench.specs.Tables.{widthNumbers, widthsNumbers}
 
 pub three-put : (l : List ℕ) (i a b : ℕ) {x y : ℕ} → x ≡ y → set (set (set l i a) (i + 1) b) (i + 2) x ≡ sets l i (a ∷ b ∷ y ∷ [])
 three-put l i a b e = rw (add-one, add-two) (ap (set (set (set l i a) (suc i) b) (suc (suc i))) e)
@@ -21,8 +20,3 @@ pub five-put : (a b c d e : Width) (o : List ℕ) {o1 o2 o3 o4 o5 : List ℕ} �
 five-put a b c d e o h h1 h2 h3 h4 h5 =
     h5 ∙ (ap (put 12 e) (h4 ∙ ap (put 9 d) (h3 ∙ ap (put 6 c) (h2 ∙ ap (put 3 b) h1)))
     ∙ sets-eq (widthsNumbers (a ∷ b ∷ c ∷ d ∷ e ∷ [])) o 0 h)
-
-pub five-read : (numbers : List ℕ) {l : Limits} {a b c d e : Width} → a ≡ widthIn numbers 0 → b ≡ widthIn numbers 3 → c ≡ widthIn numbers 6
-    → d ≡ widthIn numbers 9 → e ≡ widthIn numbers 12
-    → _≡_ {A = Table} (record { limits = l; widths = a ∷ b ∷ c ∷ d ∷ e ∷ [] }) (tableOf l numbers)
-five-read numbers h1 h2 h3 h4 h5 = rw (h1, h2, h3, h4, h5)

@@ -1,24 +1,21 @@
--- What the entries for tables come to as numbers: a record that is too short, and else the library's answer. Assumes nothing.
+-- What a build comes to as numbers: a record that is too short, and else the library's. Assumes nothing.
 use mathlib.Core.Path.{_≡_, sym, ap, _∙_}
 use mathlib.Core.Bool.{true, false}
 use mathlib.Core.List.{List}
-use Prim.Native.Nat.{ℕ, _+_, _≤_, _<_}
+use Prim.Native.Nat.{ℕ, _≤_, _<_}
 use borrow.Author.Tests.{lt-ltb, le-ltb}
 use lib.ListN.{length}
 use Rattle.ints.specs.Lists.{over}
-use Rattle.walk.specs.Answers.{Reply, outcome}
 use Rattle.tables.specs.Checks.{Limits, Arrays}
-use Rattle.tables.specs.Tables.{Table, BuildReply, Left, left, buildOf, Query, synthesized}
+use Rattle.tables.specs.Tables.{BuildReply, Left, left, buildOf}
 use Rattle.murm_config.specs.Told.{toldMurm}
 use Rattle.murm_config.specs.declared.Murm.{Murm}
 use Rattle.refusal.specs.Told.{numberOf}
 use Rattle.refusal.specs.declared.Refusal.{Refusal}
-use Rattle.murm.specs.Entries.{toldBuilding, toldSynthesized}
+use Rattle.murm.specs.Entries.{toldBuilding}
 use Rattle.murm.specs.declared.Building.{Building}
 use Rattle.murm.specs.declared.Building.the-variants as b
-use Rattle.murm.specs.declared.Synthesized.{Synthesized}
-use Rattle.murm.specs.declared.Synthesized.the-variants as s
-use Rattle.bench.specs.Tables.{limitsIn, tooFew, tableOf, numbersOf, buildNumber, recorded, builtAs, builtBy, benchBuilt, replyNumber, answered, answeredBy, benchAnswered}
+use Rattle.bench.specs.Tables.{limitsIn, tooFew, numbersOf, buildNumber, recorded, builtAs, builtBy, benchBuilt}
 
 -- ---- too few numbers
 
@@ -59,22 +56,3 @@ long-built l a numbers t {a′} {new} h hl e hr hn =
     rw h
     (ap (λ (z : ℕ). builtAs z a′ new) hr
     ∙ (ap (builtAs (buildNumber t) a′) hn ∙ ap (λ (o : Left). builtBy o numbers) (e ∙ ap (λ (z : Limits). buildOf z a) hl)))
-
--- ---- an answer
-
-pub refused-reply : (r : Refusal) {t : Synthesized} {n : ℕ} → t ≡ s.Refused r → n ≡ numberOf r → 2000 + n ≡ replyNumber (toldSynthesized t)
-refused-reply r e h = ap (λ (k : ℕ). 2000 + k) h ∙ ap (λ (x : Synthesized). replyNumber (toldSynthesized x)) (sym e)
-
-pub short-answered : (l numbers : List ℕ) (a : Arrays) (q : Query) (out : List ℕ) → tooFew l numbers ≡ true
-    → answered 2099 out ≡ benchAnswered l numbers a q out
-unfolding benchAnswered
-short-answered l numbers a q out h = rw h
-
-pub long-answered : (l numbers : List ℕ) (a : Arrays) (q : Query) (out : List ℕ) (t : Reply) {l′ : Limits} {m : Table} {r : ℕ} {new : List ℕ}
-    → tooFew l numbers ≡ false → l′ ≡ limitsIn l → m ≡ tableOf l′ numbers → outcome t new ≡ synthesized m a q out → r ≡ replyNumber t
-    → answered r new ≡ benchAnswered l numbers a q out
-unfolding benchAnswered
-long-answered l numbers a q out t {new} h hl hm e hr =
-    rw h
-    (ap (λ (z : ℕ). answered z new) hr
-    ∙ ap answeredBy (e ∙ ap (λ (z : Table). synthesized z a q out) (hm ∙ ap (λ (z : Limits). tableOf z numbers) hl)))

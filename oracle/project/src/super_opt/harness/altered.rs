@@ -12,13 +12,13 @@ pub(super) enum Place {
     Gates,
     Entries,
     Basis,
-    /// Count, depth or saturated of a width.
-    Number(usize),
+    /// The count of a width, whose place in the record this is.
+    Count(usize),
     /// The length of one of the three arrays.
     Length(usize),
 }
 
-use Place::{Basis, Code, Entries, Fingerprint, Gates, Length, Number, Parent, Qubits};
+use Place::{Basis, Code, Count, Entries, Fingerprint, Gates, Length, Parent, Qubits};
 
 impl Place {
     pub(super) fn is_of_node(&self) -> bool {
@@ -36,7 +36,7 @@ impl Place {
             Gates => limits.gates = value as u32,
             Entries => limits.entries = value as u32,
             Basis => limits.basis = value as u32,
-            Number(place) => table.record[place] = value,
+            Count(place) => table.record[place] = value,
             Length(0) => table.fingerprints.truncate(value as usize),
             Length(1) => table.parents.truncate(value as usize),
             Length(_) => table.codes.truncate(value as usize),
@@ -50,11 +50,11 @@ fn put<T>(array: &mut [T], place: usize, value: T) {
     }
 }
 
-/// Every filled place of the three arrays, every number of the record, and the
-/// three lengths.
+/// Every filled place of the three arrays, every limit and every count of the
+/// record, and the three lengths. Depths and flags are not asked with.
 pub(super) fn places(table: &Table) -> Vec<Place> {
     let mut all = vec![Qubits, Gates, Entries, Basis];
-    all.extend((0..15).map(Number));
+    all.extend((0..15).step_by(3).map(Count));
     all.extend((0..3).map(Length));
     for width in 0..table.limits.qubits as usize {
         let start = width * table.limits.entries as usize;
@@ -151,24 +151,20 @@ pub(super) fn values(table: &Table, place: Place, strangers: &[u64]) -> Vec<u64>
             ];
             (old, new.to_vec())
         }
-        Number(place) => {
+        Count(place) => {
             let old = table.record[place];
             let entries = entries as u64;
-            let new = match place % 3 {
-                0 => vec![
-                    0,
-                    1,
-                    old.wrapping_sub(1),
-                    old + 1,
-                    entries,
-                    entries + 1,
-                    old + (1 << 32),
-                    u64::MAX,
-                ],
-                1 => vec![0, old + 1, 4294967295, u64::MAX],
-                _ => vec![0, 1, 2, u64::MAX],
-            };
-            (old, new)
+            let new = [
+                0,
+                1,
+                old.wrapping_sub(1),
+                old + 1,
+                entries,
+                entries + 1,
+                old + (1 << 32),
+                u64::MAX,
+            ];
+            (old, new.to_vec())
         }
         Length(_) => {
             let places = u64::from(limits.qubits) * entries as u64;

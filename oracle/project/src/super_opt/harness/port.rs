@@ -1,16 +1,49 @@
-//! The port's functions, out of the archive that is made from crates/bench. No
-//! other file here names them.
+//! The port's functions, out of the archives that are made from crates/murm_c and
+//! crates/bench. No other file here names them.
 
 use super::tables::Limits;
 
-/// What `bench_synthesize` returns for none, and what it adds to the number of a
-/// refusal.
-const NONE: u64 = 1000;
-const REFUSED: u64 = 2000;
+/// What `murm_synthesize` returns for none. A lower number counts gates; a higher
+/// one is a refusal's number times `STEP`, and its position.
+const NONE: u64 = 4294967295;
+const STEP: u64 = 1 << 32;
+
+#[link(name = "murm_c", kind = "static")]
+unsafe extern "C" {
+    fn murm_library_circuit_matrix(
+        width: u32,
+        codes: *const u32,
+        count: usize,
+        out: *mut i8,
+        places: usize,
+    ) -> u64;
+    fn murm_synthesize(
+        qubits: u32,
+        gates: u32,
+        entries: u32,
+        basis: u32,
+        count1: usize,
+        count2: usize,
+        count3: usize,
+        count4: usize,
+        count5: usize,
+        fingerprints: *const u64,
+        fingerprint_places: usize,
+        parents: *const u32,
+        parent_places: usize,
+        codes: *const u32,
+        code_places: usize,
+        width: u32,
+        exponent: u16,
+        matrix: *const i8,
+        matrix_places: usize,
+        out: *mut u32,
+        places: usize,
+    ) -> u64;
+}
 
 #[link(name = "bench", kind = "static")]
 unsafe extern "C" {
-    fn bench_list(width: u32, codes: *const u32, count: usize, out: *mut i8, places: usize) -> u64;
     fn bench_query(width: u32, exponent: u16, entries: *const i8, places: usize) -> u64;
     fn bench_fingerprint(entries: *const i8, places: usize, width: usize, exponent: u16) -> u64;
     fn bench_build(
@@ -25,30 +58,19 @@ unsafe extern "C" {
         record: *mut u64,
         record_places: usize,
     ) -> u64;
-    fn bench_synthesize(
-        limits: *const u32,
-        limit_places: usize,
-        record: *const u64,
-        record_places: usize,
-        width: u32,
-        exponent: u16,
-        fingerprints: *const u64,
-        fingerprint_places: usize,
-        parents: *const u32,
-        parent_places: usize,
-        codes: *const u32,
-        code_places: usize,
-        matrix: *const i8,
-        matrix_places: usize,
-        out: *mut u32,
-        places: usize,
-    ) -> u64;
 }
 
-/// The exponent, where the list fits.
+/// The exponent, where the list fits; every refusal is above 16 bits.
 pub(super) fn list(width: usize, codes: &[u32], out: &mut [i8]) -> Option<u16> {
-    let (codes, count) = (codes.as_ptr(), codes.len());
-    let told = unsafe { bench_list(width as u32, codes, count, out.as_mut_ptr(), out.len()) };
+    let told = unsafe {
+        murm_library_circuit_matrix(
+            width as u32,
+            codes.as_ptr(),
+            codes.len(),
+            out.as_mut_ptr(),
+            out.len(),
+        )
+    };
     u16::try_from(told).ok()
 }
 
@@ -119,7 +141,8 @@ impl Table {
         }
     }
 
-    /// How many gates the list has, or another number for anything else.
+    /// How many gates the list has, or another number for anything else. Of the
+    /// record only the counts are asked for: no answer depends on the rest.
     pub(super) fn synthesize(
         &self,
         width: u32,
@@ -127,21 +150,27 @@ impl Table {
         matrix: &[i8],
         out: &mut [u32],
     ) -> u64 {
-        let limits = self.limits();
+        let [qubits, gates, entries, basis] = self.limits();
+        let count = |width: usize| self.record[3 * (width - 1)] as usize;
         unsafe {
-            bench_synthesize(
-                limits.as_ptr(),
-                limits.len(),
-                self.record.as_ptr(),
-                self.record.len(),
-                width,
-                exponent,
+            murm_synthesize(
+                qubits,
+                gates,
+                entries,
+                basis,
+                count(1),
+                count(2),
+                count(3),
+                count(4),
+                count(5),
                 self.fingerprints.as_ptr(),
                 self.fingerprints.len(),
                 self.parents.as_ptr(),
                 self.parents.len(),
                 self.codes.as_ptr(),
                 self.codes.len(),
+                width,
+                exponent,
                 matrix.as_ptr(),
                 matrix.len(),
                 out.as_mut_ptr(),
@@ -150,12 +179,15 @@ impl Table {
         }
     }
 
-    /// The answer by its cases.
+    /// The answer by its cases. A table's refusals have the position 0.
     pub(super) fn ask(&self, width: u32, exponent: u16, matrix: &[i8], out: &mut [u32]) -> Reply {
         match self.synthesize(width, exponent, matrix, out) {
             NONE => Reply::None,
             count if count < NONE => Reply::List(out[..count as usize].to_vec()),
-            number => Reply::Refused(number - REFUSED),
+            refusal => {
+                assert_eq!(refusal % STEP, 0, "position");
+                Reply::Refused(refusal / STEP)
+            }
         }
     }
 }

@@ -1,4 +1,5 @@
--- How many numbers a line has, and a matrix that is asked, and how many places are lent for a node's list: none where the line is broken. Assumes nothing.
+-- How many numbers a line has, how many coefficients a matrix that is asked, how many places are lent for a node's list: none where the line
+-- is broken. Assumes nothing.
 use Prim.Native.Nat.{ℕ}
 use Rattle.circuits_text.specs.declared.Line.{Line}
 use Rattle.circuits_text.specs.declared.Line.the-variants as l

@@ -49,7 +49,7 @@ use Rattle.tables.specs.Checks.{firstRow, Limits, limitRows, Arrays, pla
 use Rattle.tables.specs.Tables.{widthAt, recordOf, builtTo, buildRows, Query, matrixOf, listRow, foundIn, writtenIn, synthesized}
 use Rattle.tables.specs.Built.{Built}
 use Rattle.tables.specs.Demand3.{Gives, GivesNone, Refuses, NotRefused, NoSmaller, Reaches, Complete}
-use Rattle.tables.specs.Samples.{xLimits, largerLimits, chLimits, Places, askX, askT, askZero, lent, damaged, mistaken, circular, foreign, forgotten, strange, Samples}
+use Rattle.tables.specs.Samples.{xLimits, largerLimits, chLimits, Places, askX, askT, askZero, lent, damaged, mistaken, circular, foreign, forgotten, strange, fewer, Samples}
 use Rattle.tables.proofs.Rows.{numbered-limits, numbered-query, first-here, first-past, firstRow-append}
 use Rattle.tables.proofs.Accepted.{room-is}
 use Rattle.tables.proofs.FromBuild.{build-fills, build-refusal}
@@ -113,6 +113,7 @@ record Computed : Type 0 where
   circular-write : WriteRefuses (recordOf xLimits) circular 1 1 lent 13
   circular-short : WriteRefuses (recordOf xLimits) circular 1 1 [] 12 × Refuses (recordOf xLimits) circular askX [] 12
   no-node : WriteRefuses (recordOf xLimits) circular 1 2 [] 16
+  past-count : FindsNone fewer damaged askX × WriteRefuses fewer damaged 1 1 lent 16
   strange-count : ltb 0 (widthAt strange 2 .count) ≡ true
   no-width : WriteRefuses strange damaged 2 0 lent 16 × WriteRefuses strange damaged 0 0 lent 16 × WriteRefuses strange damaged 4294967295 0 lent 16
   root-print : eqb 7 (fingerprint 1 identity) ≡ false
@@ -143,6 +144,7 @@ computed = record {
   circular-write = refl;
   circular-short = (refl, refl);
   no-node = refl;
+  past-count = (refl, refl);
   strange-count = refl;
   no-width = (refl, refl, refl);
   root-print = refl;
@@ -318,6 +320,7 @@ samples = record {
   circular-write = computed .circular-write;
   circular-short = computed .circular-short;
   no-node = computed .no-node;
+  past-count = computed .past-count;
   strange-count = ltb-true 0 (widthAt strange 2 .count) (computed .strange-count);
   no-width = computed .no-width;
 }

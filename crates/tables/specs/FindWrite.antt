@@ -79,7 +79,7 @@ pub record FindWrite : Type 0 where
   pub right : (t : Table) (a : Arrays) (q : Query) (k m : ℕ) → Finds t a q k m → (out l : List ℕ) → Writes t a (q .width) k out l
       → (length l ≡ m) × PowerOf (q .width) (matrixOf q) (product (q .width) l) × ListOf (q .width) (t .limits .basis) l × (length l ≤ t .limits .gates)
   pub unitary : (t : Table) (a : Arrays) (q : Query) (k m : ℕ) → Finds t a q k m → Unitary (q .width) (matrixOf q)
-  -- of built tables: a larger one finds a node with the same list, or refuses its write by 12
+  -- of built tables: a larger one finds a node too, of as many gates, and its write gives the same list or is refused by 12
   pub larger : (t t′ : Table) (a a′ : Arrays) → Built t a → Built t′ a′ → NoSmaller (t .limits) (t′ .limits) → (q : Query) (k m : ℕ) → Finds t a q k m
       → (k′ : ℕ) × Finds t′ a′ q k′ m
       × ((out out′ l : List ℕ) → Writes t a (q .width) k out l → Writes t′ a′ (q .width) k′ out′ l ⊎ WriteRefuses t′ a′ (q .width) k′ out′ 12)

@@ -90,6 +90,10 @@ forgotten = arrays (7 ∷ 7 ∷ []) (mark ∷ 0 ∷ []) (mark ∷ 4096 ∷ [])
 abbrev pub strange : Table
 strange = record { limits = xLimits; widths = rowOf xLimits 1 ∷ rowOf xLimits 1 ∷ rowOf xLimits 1 ∷ [] }
 
+-- a record of the same limits whose width 1 has one node, fewer than E
+abbrev pub fewer : Table
+fewer = record { limits = xLimits; widths = record { count = 1; depth = 0; saturated = false } ∷ [] }
+
 pub record Samples : Type 0 where
   -- the queries are the matrices of X, 4096, and of T, 20480
   pub x-is : Equal 1 (matrixOf askX) (product 1 (4096 ∷ []))
@@ -145,6 +149,8 @@ pub record Samples : Type 0 where
   pub circular-write : WriteRefuses (recordOf xLimits) circular 1 1 lent 13
   pub circular-short : WriteRefuses (recordOf xLimits) circular 1 1 [] 12 × Refuses (recordOf xLimits) circular askX [] 12
   pub no-node : WriteRefuses (recordOf xLimits) circular 1 2 [] 16
+  -- what lies past the count is neither found nor written
+  pub past-count : FindsNone fewer damaged askX × WriteRefuses fewer damaged 1 1 lent 16
   -- widths that the table does not have have no nodes, whatever the record says
   pub strange-count : 0 < widthAt strange 2 .count
   pub no-width : WriteRefuses strange damaged 2 0 lent 16 × WriteRefuses strange damaged 0 0 lent 16 × WriteRefuses strange damaged 4294967295 0 lent 16

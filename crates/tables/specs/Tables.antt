@@ -14,7 +14,7 @@ use Rattle.walk.specs.AtWidth.{built, printOf, parentOf}
 use Rattle.walk.specs.Finds.{WidthLimits, Part, partWith, Finding, findOf}
 use Rattle.walk.specs.Finds as f
 use Rattle.walk.specs.Answers.{refused, Outcome, outcome, writeOf, thenWrite}
-use Rattle.tables.specs.Checks.{Row, row, firstRow, Limits, limitRows, Arrays, tooShort, roomRow, queryRows}
+use Rattle.tables.specs.Checks.{Row, row, firstRow, Limits, limitRows, Arrays, shortRow, roomRow, queryRows}
 
 -- ---- the record
 
@@ -141,14 +141,17 @@ recordRow t = row (not (eqb (firstRow (limitRows (t .limits))) 0) || any (badCou
 
 -- 13 of the record, then 5 of arrays of these lengths: what is tried before a table is asked anything (SPECIFICATION 9.2)
 abbrev pub tableRows : Table → ℕ → ℕ → ℕ → List Row
-tableRows t f u c = recordRow t ∷ row (tooShort (t .limits) f u c) 5 ∷ []
+tableRows t f u c = recordRow t ∷ shortRow (t .limits) f u c ∷ []
 
 abbrev pub tableRowsOf : Table → Arrays → List Row
 tableRowsOf t a = tableRows t (length (a .prints)) (length (a .parents)) (length (a .codes))
 
--- row 12: the lent list has fewer places than the gate limit (SPECIFICATION 9.1)
+-- row 12: a lent list of so many places has fewer than the gate limit (SPECIFICATION 9.1)
+abbrev pub placesRow : Table → ℕ → Row
+placesRow t room = row (ltb room (t .limits .gates)) 12
+
 abbrev pub listRow : Table → List ℕ → Row
-listRow t out = row (ltb (length out) (t .limits .gates)) 12
+listRow t out = placesRow t (length out)
 
 -- the table has no such width: 0, or above Q
 abbrev pub notAWidth : Table → ℕ → Bool
@@ -194,7 +197,7 @@ nodeRow t w k = row (not (ltb k (countAt t w))) 16
 
 -- 16, then 12 of a lent list of so many places
 abbrev pub nodeRows : Table → ℕ → ℕ → ℕ → List Row
-nodeRows t w k room = nodeRow t w k ∷ row (ltb room (t .limits .gates)) 12 ∷ []
+nodeRows t w k room = nodeRow t w k ∷ placesRow t room ∷ []
 
 -- 13 of the record, 5, 16, 12 in this order (SPECIFICATION 9.2)
 abbrev pub writeRows : Table → Arrays → ℕ → ℕ → List ℕ → List Row

@@ -131,8 +131,10 @@ pub record WriteMeans (limits : WidthLimits) (part : Part) (node : ℕ) (out : L
   pub is-refused : (a i : ℕ) (after : List ℕ) → (writeOf limits part node out ≡ outcome (refused a i) after)
       ↔ (Fault (limits .width) (limits .basis) (limits .gates) (part .parents) (part .codes) node × (a ≡ 13) × (i ≡ 0) × (after ≡ out))
 
--- what then holds of the list and of the matrix asked, whatever the arrays hold: the product is a power of omega times the matrix, the list is
--- one of the basis at the width and within the gate limit, and the matrix is unitary, so that any other gets none (SPECIFICATION 7.8, 8.3)
+-- ---- what holds of a list answered and of the matrix asked, whatever the arrays hold
+
+-- the product is a power of omega times the matrix, the list is one of the basis at the width and within the gate limit, and the matrix is
+-- unitary, so that any other gets none (SPECIFICATION 7.8, 8.3)
 pub record Right (n basis limit : ℕ) (x : Exact) (l : List ℕ) : Type 0 where
   pub power : PowerOf n x (product n l)
   pub valid : all (validFor n basis) l ≡ true

@@ -1,4 +1,4 @@
-//! Every question of crates/inspect/stdin, asked through this crate. The answers in
+//! Every list and matrix of crates/inspect/stdin, asked through this crate. The answers in
 //! crates/inspect/stdout are the original's; oracle/README.md describes both files.
 
 mod common;
@@ -28,6 +28,8 @@ struct Counts {
     tables: usize,
     /// Tables that `build` refused. The functions of this crate build none.
     tables_refused: usize,
+    /// Lines about nodes, which no function of this crate tells.
+    nodes: usize,
     /// Lines that the program refused by 14, for their form or for want of a table.
     broken: usize,
 }
@@ -52,6 +54,8 @@ fn every_recorded_question() {
         } else if let Some(matrix) = question.strip_prefix("matrix ") {
             let table = table.as_ref().expect("no table is refused by 14");
             compare_query(table, matrix, answer, &mut counts);
+        } else if question.starts_with("find ") || question.starts_with("write ") {
+            counts.nodes += 1;
         } else {
             panic!("{question}: {answer}");
         }

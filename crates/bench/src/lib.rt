@@ -1,5 +1,5 @@
-// C functions over the entries for fingerprints and builds, which murm_c does not export, and nothing else. `oracle/bench` and `oracle/damage` link both
-// crates beside the original, in one process; lists and answers they ask by murm_c.
+// C functions over the entries for fingerprints, builds, finds and writes, which murm_c does not export, and nothing else. `oracle/bench` and
+// `oracle/damage` link both crates beside the original, in one process; lists and answers they ask by murm_c.
 ghost use mathlib.Core.Path.{_≡_};
 ghost use Prim.Native.Nat.{_+_, _*_, _^_, _≤_};
 ghost use lib.ListN.{length};
@@ -8,15 +8,20 @@ ghost use Rattle.ints.specs.Lists.{over};
 ghost use Rattle.exact.proofs.Words.{AllSmall};
 ghost use Rattle.exact.specs.Fingerprint.{fingerprint};
 ghost use Rattle.exact.specs.Places.{read, held};
+ghost use Rattle.tables.specs.Checks.{limitsOf, arrays};
+ghost use Rattle.tables.specs.Tables.{query, foundIn, writtenIn};
 ghost use Rattle.circuits_answers.specs.Lent.{lent, left};
 ghost use Rattle.murm_config.specs.Told.{toldConfig, toldWidth, toldMurm};
-ghost use Rattle.murm.specs.Entries.{fingerprinted, toldBuilding};
-ghost use Rattle.bench.specs.Numbers.{orElse};
+ghost use Rattle.murm.specs.Entries.{fingerprinted, toldBuilding, toldFoundNode, toldWritten};
+ghost use Rattle.murm_c.specs.Numbers.{replyNumber, countsTable};
+ghost use Rattle.bench.specs.Numbers.{orElse, nodeNumber, foundNumber};
 ghost use Rattle.bench.specs.Tables.{limitsIn, widthNumbers, numbersOf, buildNumber, recorded, builtAs, benchBuilt};
 use circuit::GateSet;
 use cyclotomic::Coefficient;
 use murm::Building;
 use murm::Fingerprinted;
+use murm::FoundNode;
+use murm::Written;
 use murm_config::Murm;
 use murm_config::MurmConfig;
 use width_table::WidthTable;
@@ -111,4 +116,95 @@ pub extern "C" fn bench_build(
     }
     let building = murm::build(config_of(limits), fingerprints, parents, codes);
     built(building, numbers)
+}
+
+// A node and its gate count as one number.
+fn node_number(node: usize, gates: usize) -> u64
+    ensures { λ r. ⌜ r ≡ nodeNumber node gates ⌝ }
+{
+    if node > 1000000 {
+        return 4294967294;
+    }
+    if gates > 64 {
+        return 4294967294;
+    }
+    node as u64 * 128 + gates as u64
+}
+
+// What was found: a node, 4294967295 for none, or why it was refused.
+fn found_number(told: FoundNode) -> u64
+    ensures { λ r. ⌜ r ≡ foundNumber (toldFoundNode told) ⌝ }
+{
+    match told {
+        FoundNode::Node(node, gates) => node_number(node, gates),
+        FoundNode::Nothing => 4294967295,
+        FoundNode::Refused(r) => murm_c::refusal_number(r),
+    }
+}
+
+// The entry for finds (SPECIFICATION 7.10), with the table's record as numbers.
+#[no_mangle]
+pub extern "C" fn bench_find(
+    q: u32,
+    g: u32,
+    e: u32,
+    b: u32,
+    count1: usize,
+    count2: usize,
+    count3: usize,
+    count4: usize,
+    count5: usize,
+    fingerprints: &[u64],
+    parents: &[u32],
+    codes: &[u32],
+    width: u32,
+    exponent: u16,
+    matrix: &[Coefficient],
+) -> u64
+    ensures { λ r. ⌜ r ≡ foundNumber (foundIn (countsTable (limitsOf q g e b) count1 count2 count3 count4 count5)
+        (arrays (now (fingerprints .entry)) (now (parents .entry)) (now (codes .entry)))
+        (query width exponent (now (matrix .entry)))) ⌝ }
+{
+    let table = murm_c::counts_table(q, g, e, b, count1, count2, count3, count4, count5);
+    let told = murm::find(table, fingerprints, parents, codes, width, exponent, matrix);
+    found_number(told)
+}
+
+// What a write came to: the gate count, or why it was refused.
+fn written_number(told: Written) -> u64
+    ensures { λ r. ⌜ r ≡ replyNumber (toldWritten told) ⌝ }
+{
+    match told {
+        Written::List(m) => m as u64,
+        Written::Refused(r) => murm_c::refusal_number(r),
+    }
+}
+
+// The entry for writes (SPECIFICATION 7.11), with the table's record as numbers.
+#[no_mangle]
+pub extern "C" fn bench_write(
+    q: u32,
+    g: u32,
+    e: u32,
+    b: u32,
+    count1: usize,
+    count2: usize,
+    count3: usize,
+    count4: usize,
+    count5: usize,
+    fingerprints: &[u64],
+    parents: &[u32],
+    codes: &[u32],
+    width: u32,
+    node: usize,
+    out: &mut [u32],
+) -> u64
+    ensures number { λ r. ⌜ r ≡ replyNumber (writtenIn (countsTable (limitsOf q g e b) count1 count2 count3 count4 count5)
+        (arrays (now (fingerprints .entry)) (now (parents .entry)) (now (codes .entry))) width node (now (out .entry)) .reply) ⌝ }
+    ensures places { λ _. ⌜ now (out .exit) ≡ writtenIn (countsTable (limitsOf q g e b) count1 count2 count3 count4 count5)
+        (arrays (now (fingerprints .entry)) (now (parents .entry)) (now (codes .entry))) width node (now (out .entry)) .list ⌝ }
+{
+    let table = murm_c::counts_table(q, g, e, b, count1, count2, count3, count4, count5);
+    let told = murm::write(table, fingerprints, parents, codes, width, node, out);
+    written_number(told)
 }

@@ -9,7 +9,7 @@ use lib.ListN.{length, getD, drop}
 use Rattle.ints.specs.Lists.{pick}
 use Rattle.tables.specs.Checks.{Arrays, placesOf}
 use Rattle.tables.specs.Tables.{Table, recordRow}
-use Rattle.murm.proofs.Parts.{record-limits}
+use Rattle.tables.proofs.Accepted.{record-limits}
 use Rattle.circuits_text.specs.Reading.{words, allNumbers, numbers}
 use Rattle.circuits_text.specs.Writing.{glyph, decimalIn, decimal}
 use Rattle.circuits_text.proofs.Split.{numbers-length}

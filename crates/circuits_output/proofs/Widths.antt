@@ -13,19 +13,9 @@ use Rattle.ints.specs.Lists.{range, each}
 use Rattle.ints.proofs.Runs.{range-snoc, each-append}
 use Rattle.tables.specs.Checks.{arrays, placesOf}
 use Rattle.tables.specs.Tables.{Width, Table, widthAt, recordRow}
-use Rattle.murm.proofs.Parts.{PartBounds, part}
 use Rattle.circuits_lines.specs.Lines.{tableLine, nodeLine, nodeLines}
 use Rattle.circuits_lines.proofs.Each.{each-one}
 use Rattle.circuits_output.specs.Texts.{rowText, widthText, widthTexts}
-
--- where a width's part lies
-pub lies :
-    (t : Table) (parents codes : List ℕ) (w : ℕ) → recordRow t .holds ≡ false →
-    placesOf (t .limits) ≤ length parents → placesOf (t .limits) ≤ length codes →
-    0 < w → w ≤ t .limits .qubits → PartBounds t (arrays parents parents codes) w
-lies t parents codes w r hu hc p q =
-    part t (arrays parents parents codes) w r
-    (rw (le-ltb (length parents) (placesOf (t .limits)) hu, le-ltb (length codes) (placesOf (t .limits)) hc)) p q
 
 -- ---- a width
 

@@ -1,9 +1,12 @@
--- How many numbers a line has, and a matrix that is asked: none where the line is broken. Assumes nothing.
+-- How many numbers a line has, how many coefficients a matrix that is asked, how many places are lent for a node's list: none where the line
+-- is broken. Assumes nothing.
 use Prim.Native.Nat.{ℕ}
 use Rattle.circuits_text.specs.declared.Line.{Line}
 use Rattle.circuits_text.specs.declared.Line.the-variants as l
 use Rattle.inspect.specs.declared.Asked.{Asked}
 use Rattle.inspect.specs.declared.Asked.the-variants as a
+use Rattle.inspect.specs.declared.Wanted.{Wanted}
+use Rattle.inspect.specs.declared.Wanted.the-variants as w
 
 abbrev pub counted : Line → ℕ
 counted (l.Numbers n) = n
@@ -12,3 +15,7 @@ counted l.Broken = 0
 abbrev pub askedCount : Asked → ℕ
 askedCount (a.Matrix width k n) = n
 askedCount a.Broken = 0
+
+abbrev pub wantedPlaces : Wanted → ℕ
+wantedPlaces (w.Node width node places) = places
+wantedPlaces w.Broken = 0

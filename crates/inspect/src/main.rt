@@ -4,16 +4,21 @@
 //                                    in the order of the lent places, or `refused N P`
 //   table Q G E B                    builds in arrays of 100,000 places, and prints for each width `table WIDTH ENTRIES DEPTH SATURATED`
 //                                    and then its nodes, each a line `FINGERPRINT PARENT CODE`; or `refused N 0`
-//   matrix WIDTH K COEFFICIENTS..    asks the table of the last `table` line, with a lent list of 64 places, and prints `FINGERPRINT none`,
-//                                    `FINGERPRINT COUNT CODES..` or `refused N 0`; with no such line, or if it was refused, `refused 14 0`
-// Numbers and lines are those of the program `circuits`, and a line of another form prints `refused 14 0`. COUNT is up to 256, K up to 65535.
-// A coefficient is such a number, after a `-` or not, from -128 to 127; there are at most 4097. More than 1 MiB of input prints
-// `refused 15 0` alone. A new word has its case in `First`.
+//   matrix WIDTH K COEFFICIENTS..    asks the table at hand, with a lent list of 64 places, and prints `FINGERPRINT none`,
+//                                    `FINGERPRINT COUNT CODES..` or `refused N 0`
+//   find WIDTH K COEFFICIENTS..      the node that the table at hand has for a matrix: prints `NODE COUNT`, the count that of its gates, `none`
+//                                    or `refused N 0`
+//   write WIDTH NODE PLACES          the list of a node of the table at hand, with a lent list of PLACES places, at most 64: prints
+//                                    `COUNT CODES..` or `refused N 0`
+// The table at hand is that of the last `table` line; with no such line, or if it was refused, a line that asks it prints `refused 14 0`.
+// Numbers and lines are those of the program `circuits`, and a line of another form prints `refused 14 0`. The COUNT of a list is up to
+// 256, K up to 65535. A coefficient is such a number, after a `-` or not, from -128 to 127; there are at most 4097. More than 1 MiB of input
+// prints `refused 15 0` alone. A new word has its case in `First`, or in `Asks` if it asks the table at hand.
 // A function that reads a line has neither the output nor the arrays, so that its many ways out are short to prove.
 ghost use mathlib.Core.Path.{_≡_};
 ghost use Prim.Native.Nat.{_+_, _*_, _≤_};
 ghost use lib.ListN.{length};
-ghost use Rattle.inspect.specs.Counted.{counted, askedCount};
+ghost use Rattle.inspect.specs.Counted.{counted, askedCount, wantedPlaces};
 use circuits_input::LineOne;
 use circuits_input::Question;
 use circuits_text::Line;
@@ -25,8 +30,10 @@ use libc::STDIN_FILENO;
 use libc::STDOUT_FILENO;
 use murm::Building;
 use murm::Fingerprinted;
+use murm::FoundNode;
 use murm::Listed;
 use murm::Synthesized;
+use murm::Written;
 use murm_config::Murm;
 use refusal::Refusal;
 
@@ -341,7 +348,7 @@ enum Asked {
     Broken,
 }
 
-// What follows the word `matrix` and its space: WIDTH K COEFFICIENTS.., the coefficients into the lent places.
+// What follows the word `matrix` or `find` and its space: WIDTH K COEFFICIENTS.., the coefficients into the lent places.
 fn read_matrix(rest: &[u8], coefficients: &mut [Coefficient]) -> Asked
     ensures { λ r. ⌜ askedCount r ≤ length (now (coefficients .entry)) ⌝ }
 {
@@ -359,14 +366,52 @@ fn read_matrix(rest: &[u8], coefficients: &mut [Coefficient]) -> Asked
     }
 }
 
-// What a table answered to a matrix, and the matrix's fingerprint.
-struct Told {
-    fingerprint: u64,
-    answer: Synthesized,
+// ---- a node
+
+// A node whose list is wanted: its width, its number, and how many places are lent for the list.
+enum Wanted {
+    Node(u32, u32, usize),
+    Broken,
+}
+
+// What follows the word `write` and its space: WIDTH NODE PLACES.
+fn read_node(rest: &[u8]) -> Wanted
+    ensures { λ r. ⌜ wantedPlaces r ≤ 64 ⌝ }
+{
+    let mut numbers = [0u32; 3];
+    match circuits_text::numbers(rest, &mut numbers) {
+        Line::Numbers(n) => {
+            if n != 3 {
+                return Wanted::Broken;
+            }
+            if 64 < numbers[2] {
+                return Wanted::Broken;
+            }
+            Wanted::Node(numbers[0], numbers[1], numbers[2] as usize)
+        }
+        Line::Broken => Wanted::Broken,
+    }
+}
+
+// ---- what a table is asked
+
+// A word that asks a table.
+enum Asks {
+    Matrix,
+    Find,
+    Write,
+}
+
+// What a table told: its answer to a matrix of this fingerprint, the node found for one, or what the list of a node came to; or the line is broken.
+enum Told {
+    Answer(u64, Synthesized),
+    Found(FoundNode),
+    List(Written),
+    Broken,
 }
 
 // A table is asked for the matrix of a line.
-fn ask(
+fn ask_matrix(
     table: Murm,
     fingerprints: &[u64],
     parents: &[u32],
@@ -388,60 +433,170 @@ fn ask(
                 &space[..n],
                 list,
             );
-            Told {
-                fingerprint,
-                answer,
-            }
+            Told::Answer(fingerprint, answer)
         }
-        Asked::Broken => Told {
-            fingerprint: 0,
-            answer: Synthesized::Refused(Refusal::BrokenLine),
-        },
+        Asked::Broken => Told::Broken,
     }
 }
 
-// A fingerprint, and that there is no list: 22 bytes.
-fn put_none(out: &mut [u8], at: usize, fingerprint: u64) -> usize
-    requires { ⌜ at + 22 ≤ length (now out) ⌝ }
-    ensures { λ r. ⌜ r ≤ at + 22 ⌝ }
+// The node for the matrix of a line is found (SPECIFICATION 7.10).
+fn ask_find(
+    table: Murm,
+    fingerprints: &[u64],
+    parents: &[u32],
+    codes: &[u32],
+    rest: &[u8],
+) -> Told {
+    let mut space = coefficient_space();
+    match read_matrix(rest, &mut space) {
+        Asked::Matrix(width, k, n) => Told::Found(murm::find(
+            table,
+            fingerprints,
+            parents,
+            codes,
+            width,
+            k,
+            &space[..n],
+        )),
+        Asked::Broken => Told::Broken,
+    }
+}
+
+// The list of the node of a line is written (SPECIFICATION 7.11), into as many of the lent places as the line says.
+fn ask_write(
+    table: Murm,
+    fingerprints: &[u64],
+    parents: &[u32],
+    codes: &[u32],
+    rest: &[u8],
+    list: &mut [u32],
+) -> Told
+    requires { ⌜ 64 ≤ length (now list) ⌝ }
+{
+    match read_node(rest) {
+        Wanted::Node(width, node, places) => Told::List(murm::write(
+            table,
+            fingerprints,
+            parents,
+            codes,
+            width,
+            node as usize,
+            &mut list[..places],
+        )),
+        Wanted::Broken => Told::Broken,
+    }
+}
+
+// A table is asked by a line.
+fn ask(
+    what: Asks,
+    table: Murm,
+    fingerprints: &[u64],
+    parents: &[u32],
+    codes: &[u32],
+    rest: &[u8],
+    list: &mut [u32],
+) -> Told
+    requires { ⌜ 64 ≤ length (now list) ⌝ }
+{
+    match what {
+        Asks::Matrix => ask_matrix(table, fingerprints, parents, codes, rest, list),
+        Asks::Find => ask_find(table, fingerprints, parents, codes, rest),
+        Asks::Write => ask_write(table, fingerprints, parents, codes, rest, list),
+    }
+}
+
+// A fingerprint and a space: 17 bytes.
+fn put_fingerprint(out: &mut [u8], at: usize, fingerprint: u64) -> usize
+    requires { ⌜ at + 17 ≤ length (now out) ⌝ }
+    ensures { λ r. ⌜ r ≤ at + 17 ⌝ }
 {
     let next = circuits_text::put_hex(out, at, fingerprint);
-    circuits_text::put_bytes(out, next, b" none\n")
+    circuits_text::put_byte(out, next, SPACE)
 }
 
-// A fingerprint and a list of at most 64 codes: at most 1382 bytes.
-fn put_circuit(out: &mut [u8], at: usize, fingerprint: u64, list: &[u32]) -> usize
-    requires { ⌜ (at + 1382 ≤ length (now out)) × (length (now list) ≤ 64) ⌝ }
-    ensures { λ r. ⌜ r ≤ at + 1382 ⌝ }
+// How many codes a list has, at most 64, and the codes: at most 735 bytes.
+fn put_circuit(out: &mut [u8], at: usize, list: &[u32]) -> usize
+    requires { ⌜ (at + 735 ≤ length (now out)) × (length (now list) ≤ 64) ⌝ }
+    ensures { λ r. ⌜ r ≤ at + 735 ⌝ }
 {
-    let first = circuits_text::put_hex(out, at, fingerprint);
-    let second = circuits_text::put_byte(out, first, SPACE);
-    let third = circuits_text::put_decimal(out, second, list.len() as u64);
-    let fourth = circuits_lines::put_codes(out, third, list);
-    circuits_text::put_byte(out, fourth, NEWLINE)
+    let next = circuits_text::put_decimal(out, at, list.len() as u64);
+    let end = circuits_lines::put_codes(out, next, list);
+    circuits_text::put_byte(out, end, NEWLINE)
 }
 
-// What a table answered, with the list lent to it. That a list is no longer than the lent one is tested, so that no contract of the entry is
-// used.
-fn put_told(told: Told, list: &[u32], out: &mut [u8], at: usize) -> usize
-    requires { ⌜ (at + 1382 ≤ length (now out)) × (length (now list) ≤ 64) ⌝ }
-    ensures { λ r. ⌜ r ≤ at + 1382 ⌝ }
+// What the list of a node came to, with the list lent for it: at most 735 bytes. That a list is no longer than the lent one is tested, so
+// that no contract of an entry is used.
+fn put_written(written: Written, list: &[u32], out: &mut [u8], at: usize) -> usize
+    requires { ⌜ (at + 735 ≤ length (now out)) × (length (now list) ≤ 64) ⌝ }
+    ensures { λ r. ⌜ r ≤ at + 735 ⌝ }
 {
-    let answer = told.answer;
-    match answer {
-        Synthesized::Circuit(m) => {
+    match written {
+        Written::List(m) => {
             if list.len() < m {
                 return circuits_lines::put_refused(out, at, Refusal::ListTooShort);
             }
-            put_circuit(out, at, told.fingerprint, &list[..m])
+            put_circuit(out, at, &list[..m])
         }
-        Synthesized::Nothing => put_none(out, at, told.fingerprint),
+        Written::Refused(r) => circuits_lines::put_refused(out, at, r),
+    }
+}
+
+// The node found: at most 50 bytes.
+fn put_found(found: FoundNode, out: &mut [u8], at: usize) -> usize
+    requires { ⌜ at + 50 ≤ length (now out) ⌝ }
+    ensures { λ r. ⌜ r ≤ at + 50 ⌝ }
+{
+    match found {
+        FoundNode::Node(node, size) => {
+            let next = circuits_lines::put_number(out, at, node as u64, SPACE);
+            circuits_lines::put_number(out, next, size as u64, NEWLINE)
+        }
+        FoundNode::Nothing => circuits_text::put_bytes(out, at, b"none\n"),
+        FoundNode::Refused(r) => circuits_lines::put_refused(out, at, r),
+    }
+}
+
+// A table's answer to a matrix of this fingerprint, with the list lent for it: at most 752 bytes.
+fn put_answer(
+    fingerprint: u64,
+    answer: Synthesized,
+    list: &[u32],
+    out: &mut [u8],
+    at: usize,
+) -> usize
+    requires { ⌜ (at + 752 ≤ length (now out)) × (length (now list) ≤ 64) ⌝ }
+    ensures { λ r. ⌜ r ≤ at + 752 ⌝ }
+{
+    match answer {
+        Synthesized::Circuit(m) => {
+            let next = put_fingerprint(out, at, fingerprint);
+            put_written(Written::List(m), list, out, next)
+        }
+        Synthesized::Nothing => {
+            let next = put_fingerprint(out, at, fingerprint);
+            put_found(FoundNode::Nothing, out, next)
+        }
         Synthesized::Refused(r) => circuits_lines::put_refused(out, at, r),
     }
 }
 
-// What the last table answers to the matrix of a line.
-fn put_matrix_line(
+// What a table told, with the list lent to it: at most 752 bytes.
+fn put_told(told: Told, list: &[u32], out: &mut [u8], at: usize) -> usize
+    requires { ⌜ (at + 752 ≤ length (now out)) × (length (now list) ≤ 64) ⌝ }
+    ensures { λ r. ⌜ r ≤ at + 752 ⌝ }
+{
+    match told {
+        Told::Answer(fingerprint, answer) => put_answer(fingerprint, answer, list, out, at),
+        Told::Found(found) => put_found(found, out, at),
+        Told::List(written) => put_written(written, list, out, at),
+        Told::Broken => circuits_lines::put_refused(out, at, Refusal::BrokenLine),
+    }
+}
+
+// What the last table tells to a line that asks it.
+fn put_asked(
+    what: Asks,
     built: Building,
     fingerprints: &[u64],
     parents: &[u32],
@@ -450,14 +605,14 @@ fn put_matrix_line(
     out: &mut [u8],
     at: usize,
 ) -> usize
-    requires { ⌜ at + 1382 ≤ length (now out) ⌝ }
-    ensures { λ r. ⌜ r ≤ at + 1382 ⌝ }
+    requires { ⌜ at + 752 ≤ length (now out) ⌝ }
+    ensures { λ r. ⌜ r ≤ at + 752 ⌝ }
 {
     let Building::Table(table) = built else {
         return circuits_lines::put_refused(out, at, Refusal::BrokenLine);
     };
     let mut list = [0u32; 64];
-    let told = ask(table, fingerprints, parents, codes, rest, &mut list);
+    let told = ask(what, table, fingerprints, parents, codes, rest, &mut list);
     put_told(told, &list, out, at)
 }
 
@@ -467,7 +622,7 @@ fn put_matrix_line(
 enum First {
     List,
     Table,
-    Matrix,
+    Asks(Asks),
     Other,
 }
 
@@ -479,7 +634,13 @@ fn first_word(word: &[u8]) -> First {
         return First::Table;
     }
     if circuits_text::same_bytes(word, b"matrix") {
-        return First::Matrix;
+        return First::Asks(Asks::Matrix);
+    }
+    if circuits_text::same_bytes(word, b"find") {
+        return First::Asks(Asks::Find);
+    }
+    if circuits_text::same_bytes(word, b"write") {
+        return First::Asks(Asks::Write);
     }
     First::Other
 }
@@ -547,7 +708,7 @@ fn put_line(
     match word {
         First::List => put_list_line(rest, out, at),
         First::Table => put_table(table, fingerprints, parents, codes, out, at),
-        First::Matrix => put_matrix_line(table, fingerprints, parents, codes, rest, out, at),
+        First::Asks(what) => put_asked(what, table, fingerprints, parents, codes, rest, out, at),
         First::Other => circuits_lines::put_refused(out, at, Refusal::BrokenLine),
     }
 }

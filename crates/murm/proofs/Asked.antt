@@ -1,59 +1,80 @@
--- What a table answers, row by row, as the definition has it. Assumes nothing.
+-- What a table finds, writes and answers, row by row, as the definitions have it. Assumes nothing.
 use mathlib.Core.Path.{_≡_, refl, sym, ap, _∙_}
 use mathlib.Core.Bool.{true, false}
-use mathlib.Core.List.{List}
-use Prim.Native.Nat.{ℕ, _≤_, _<_}
-use borrow.Author.Tests.{eq-eqb, ne-eqb, lt-ltb, le-ltb}
-use lib.ListN.{length}
-use Rattle.walk.specs.Answers.{none, refused, outcome}
-use Rattle.refusal.specs.Told.{Reason, numberOf, positionOf}
+use mathlib.Core.List.{List, [], _∷_, _++_}
+use Prim.Native.Nat.{ℕ, _-_, _+_, _*_, _≤_, _<_}
+use native.Mathlib.Omega.{arith}
+use borrow.Author.Tests.{lt-ltb, le-ltb, ltb-true, ltb-false, not-false}
+use lib.Dec.{ltb}
+use lib.ListN.{length, take, drop}
+use Rattle.walk.specs.Chains.{chainOf}
+use Rattle.walk.specs.Finds as finds
+use Rattle.walk.specs.Answers.{given, none, refused, Outcome, outcome, written, writeOf}
+use Rattle.synthesis_arena.specs.Chains.{toldCircuit}
+use Rattle.synthesis_arena.specs.declared.NodeCircuit.{NodeCircuit}
+use Rattle.refusal.specs.Told.{Reason, byRow, toldRefusal, toldCheck, numberOf, positionOf}
 use Rattle.refusal.specs.declared.Refusal.{Refusal}
+use Rattle.refusal.specs.declared.Check.{Check}
+use Rattle.refusal.specs.declared.Check.the-variants as check
 use Rattle.refusal.proofs.Numbers.{Refuses}
-use Rattle.tables.specs.Checks.{firstRow, Arrays, roomRow, queryRows}
-use Rattle.tables.specs.Tables.{Table, Query, recordRow, answerRows, partAsked, repliedBy, synthesized}
-use Rattle.tables.proofs.Rows.{first-here, first-past, first-some, firstRow-append, numbered-query}
+use Rattle.refusal.proofs.Numbers as n
+use Rattle.tables.specs.Checks.{Row, firstRow, Arrays}
+use Rattle.tables.specs.Tables.{Table, Query, recordRow, tableRows, countAt, partOf, nodeRow, nodeRows, findRows, foundIn, writeRows, writtenIn, synthesized}
+use Rattle.tables.proofs.Rows.{Numbered, first-none, first-some, firstRow-append}
+use Rattle.tables.proofs.Accepted.{roomy}
+use Rattle.tables.proofs.Asked.{partFound, partAsked, good-table, find-refused, write-passed, write-refused, answer-refused, numbered-find}
 use Rattle.murm.specs.Entries.{askedOf}
+use Rattle.murm.specs.Work.{Writable, nodeWritten}
+
+-- ---- a find
+
+pub refused-find : (t : Table) (a : Arrays) (q : Query) {r : Refusal} → Refuses r (firstRow (findRows t a q)) → finds.refused (numberOf r) (positionOf r) ≡ foundIn t a q
+refused-find t a q x = ap (λ (z : Reason). finds.refused (z .number) (z .position)) (x .told) ∙ sym (find-refused t a q _ (x .some) refl)
+
+-- ---- a write
+
+module _ (t : Table) (a : Arrays) (w k : ℕ) (out : List ℕ) where
+  -- no row of a write refuses
+  pub writable : firstRow (writeRows t a w k out) ≡ 0 → Writable t w k (length (a .parents)) (length (a .codes)) (length out)
+  writable e =
+      let (g, h, l) = good-table t a _ e in
+      let r = roomy (t .limits) a h in
+      let (i, m) = first-none (nodeRow t w k) _ (omega arith) l in
+      record {
+        good = g;
+        in-parents = r .1;
+        in-codes = r .2;
+        node = ltb-true k (countAt t w) (not-false _ i);
+        long = ltb-false (length out) (t .limits .gates) (first-none _ [] (omega arith) m .0);
+      }
+
+  pub node-written : firstRow (writeRows t a w k out) ≡ 0 → nodeWritten t (a .parents) (a .codes) w k out ≡ writtenIn t a w k out
+  unfolding writeOf
+  node-written e = sym (write-passed t a w k out e)
+
+  pub refused-write : {r : Refusal} → Refuses r (firstRow (writeRows t a w k out)) → outcome (refused (numberOf r) (positionOf r)) out ≡ writtenIn t a w k out
+  refused-write x = ap (λ (z : Reason). outcome (refused (z .number) (z .position)) out) (x .told) ∙ sym (write-refused t a w k out _ (x .some) refl)
+
+-- a chain that was read, as the part of the width has it
+module _ (n basis limit start entries k : ℕ) (parents codes out : List ℕ) {new : List ℕ} {r : NodeCircuit} where
+  pub told-as : {s : NodeCircuit} → r ≡ s
+      → outcome (toldCircuit r) new ≡ written out (chainOf n basis (take (start + entries - start) (drop start parents)) (take (start + entries - start) (drop start codes)) limit k)
+      → outcome (toldCircuit s) new ≡ written out (chainOf n basis (take entries (drop start parents)) (take entries (drop start codes)) limit k)
+  told-as e h =
+      let size : start + entries - start ≡ entries = omega arith in
+      ap (λ (x : NodeCircuit). outcome (toldCircuit x) new) (sym e) ∙ h
+      ∙ ap (λ (j : ℕ). written out (chainOf n basis (take j (drop start parents)) (take j (drop start codes)) limit k)) size
+
+-- ---- an answer
 
 module _ (t : Table) (a : Arrays) (q : Query) (out : List ℕ) where
-  -- ---- once the checks up to 11 are passed
+  pub short-list : length out < t .limits .gates → outcome (refused 12 0) out ≡ askedOf t a q out
+  short-list h = rw (lt-ltb (length out) (t .limits .gates) h)
 
-  pub short : length out < t .limits .gates → outcome (refused 12 0) out ≡ askedOf t a q out
-  unfolding firstRow
-  short h = rw (lt-ltb (length out) (t .limits .gates) h)
+  pub long-list : t .limits .gates ≤ length out → {o : Outcome} → o ≡ partAsked t a q out → o ≡ askedOf t a q out
+  long-list h e = e ∙ rw (le-ltb (length out) (t .limits .gates) h)
 
-  module _ (room : t .limits .gates ≤ length out) where
-    pub width-zero : q .width ≡ 0 → outcome none out ≡ askedOf t a q out
-    unfolding firstRow
-    width-zero e = rw (le-ltb (length out) (t .limits .gates) room, eq-eqb (q .width) 0 e)
-
-    module _ (some : q .width ≡ 0 → ⊥) where
-      pub width-above : t .limits .qubits < q .width → outcome none out ≡ askedOf t a q out
-      unfolding firstRow
-      width-above h = rw (le-ltb (length out) (t .limits .gates) room, ne-eqb (q .width) 0 some, lt-ltb (t .limits .qubits) (q .width) h)
-
-      pub width-built : q .width ≤ t .limits .qubits → partAsked t a q out ≡ askedOf t a q out
-      unfolding firstRow
-      width-built h = rw (le-ltb (length out) (t .limits .gates) room, ne-eqb (q .width) 0 some, le-ltb (t .limits .qubits) (q .width) h)
-
-  -- ---- from the first row on
-
-  by-row : {r : ℕ} → firstRow (answerRows t a q out) ≡ r → repliedBy t a q out r ≡ synthesized t a q out
-  unfolding synthesized
-  by-row e = ap (repliedBy t a q out) (sym e)
-
-  pub bad-record : recordRow t .holds ≡ true → outcome (refused 13 0) out ≡ synthesized t a q out
-  bad-record e = by-row (first-here _ _ e)
-
-  module _ (good : recordRow t .holds ≡ false) where
-    pub no-room : roomRow (t .limits) a .holds ≡ true → outcome (refused 5 0) out ≡ synthesized t a q out
-    no-room e = by-row (first-past _ _ good ∙ first-here _ _ e)
-
-    module _ (roomy : roomRow (t .limits) a .holds ≡ false) where
-      -- the query's rows
-      pub bad-query : {r : Refusal} → Refuses r (firstRow (queryRows (q .width) (q .exponent) (q .bytes))) → outcome (refused (numberOf r) (positionOf r)) out ≡ synthesized t a q out
-      bad-query x =
-          ap (λ (z : Reason). outcome (refused (z .number) (z .position)) out) (x .told)
-          ∙ rw (x .test) at (by-row (first-past _ _ good ∙ first-past _ _ roomy ∙ first-some _ _ _ (x .some) refl))
-
-      pub good-query : firstRow (queryRows (q .width) (q .exponent) (q .bytes)) ≡ 0 → askedOf t a q out ≡ synthesized t a q out
-      good-query e = by-row (first-past _ _ good ∙ first-past _ _ roomy ∙ firstRow-append _ _ (numbered-query (q .width) (q .exponent) (q .bytes)) e)
+  pub refused-answer : {r : Refusal} → Refuses r (firstRow (findRows t a q)) → outcome (refused (numberOf r) (positionOf r)) out ≡ synthesized t a q out
+  refused-answer x =
+      ap (λ (z : Reason). outcome (refused (z .number) (z .position)) out) (x .told)
+      ∙ sym (answer-refused t a q out _ (x .some) (first-some (findRows t a q) _ _ (x .some) refl))

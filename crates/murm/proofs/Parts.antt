@@ -1,23 +1,25 @@
 -- A width's part of a table whose record and arrays are not refused: where it lies, and how many of its places are counted. Assumes nothing.
-use mathlib.Core.Path.{_≡_, refl, sym, ap, _∙_}
+use mathlib.Core.Path.{_≡_, refl, subst}
 use mathlib.Core.Bool.{Bool, true, false, not, _&&_}
 use mathlib.Core.List.{List}
 use Prim.Native.Nat.{ℕ, _+_, _*_, _-_, _≤_, _<_}
 use native.Mathlib.Omega.{arith}
 use native.Mathlib.Nat.{mul-le-mul}
-use borrow.Author.Tests.{ltb-false, eqb-true, le-ltb, not-false}
+use borrow.Author.Tests.{ltb-false, le-ltb}
 use lib.Dec.{eqb, ltb}
-use lib.ListN.{length}
+use lib.ListN.{length, take, drop, length-drop}
+use lib.Seq.{length-take-le}
 use Rattle.ints.specs.Lists.{range}
 use Rattle.ints.proofs.Bools.{neither, clash}
 use Rattle.walk.specs.Walk.{any}
-use Rattle.width_answer.specs.Answers.{toldAnswered}
-use Rattle.walk.specs.Answers.{Outcome, outcome, answerOf}
-use Rattle.width_answer.specs.declared.Answered.{Answered}
-use Rattle.tables.specs.Checks.{firstRow, limitRows, Arrays, roomRow}
-use Rattle.tables.specs.Tables.{Width, Table, allWidths, widthAt, badCount, recordRow, Query, matrixOf, limitsAt, partAsked}
+use Rattle.width_answer.specs.Answers.{ListFound}
+use Rattle.exact.specs.Matrix.{Exact}
+use Rattle.walk.specs.Finds.{WidthLimits, Finding}
+use Rattle.tables.specs.Checks.{firstRow, limitRows, placesOf}
+use Rattle.tables.specs.Tables.{Table, allWidths, widthAt, badCount, recordRow, countAt}
 use Rattle.murm.specs.Entries.{partFrom}
-use Rattle.tables.proofs.Accepted.{Accepted, accepted, roomy}
+use Rattle.tables.proofs.Accepted.{record-limits}
+use Rattle.tables.proofs.OfBuilt.{has-width, counted}
 use Rattle.tables.proofs.Filled.{room-at}
 use Rattle.tables.proofs.InWords.{any-to}
 
@@ -30,58 +32,56 @@ count-good t w e p q = by (badCount t w) refl
     by true h = clash (any-to (badCount t) 5 1 w (omega arith) (omega arith) h) e
     by false h = h
 
-pub record PartBounds (t : Table) (a : Arrays) (w : ℕ) : Type 0 where
+-- where the part of a width lies, and how many of its places are counted
+pub record PartBounds (t : Table) (w : ℕ) : Type 0 where
+  pub some : 0 < w
   pub width : w ≤ 5
   pub gates : t .limits .gates ≤ 64
   pub entries : t .limits .entries ≤ 1000000
   pub start : (w - 1) * t .limits .entries ≤ 5000000
-  pub in-f : (w - 1) * t .limits .entries + t .limits .entries ≤ length (a .prints)
-  pub in-u : (w - 1) * t .limits .entries + t .limits .entries ≤ length (a .parents)
-  pub in-c : (w - 1) * t .limits .entries + t .limits .entries ≤ length (a .codes)
+  pub inside : (n : ℕ) → placesOf (t .limits) ≤ n → (w - 1) * t .limits .entries + t .limits .entries ≤ n
+  pub counted : countAt t w ≡ widthAt t w .count
   pub count : widthAt t w .count ≤ t .limits .entries
 
--- the limits of a record that is not refused
-pub record-limits : (t : Table) → recordRow t .holds ≡ false → Accepted (t .limits)
-record-limits t r = accepted (t .limits) (eqb-true (firstRow (limitRows (t .limits))) 0 (not-false _ (neither (not (eqb (firstRow (limitRows (t .limits))) 0)) _ r .0)))
-
-pub part : (t : Table) (a : Arrays) (w : ℕ) → recordRow t .holds ≡ false → roomRow (t .limits) a .holds ≡ false → 0 < w → w ≤ t .limits .qubits → PartBounds t a w
-part t a w r m p q =
+pub part : (t : Table) (w : ℕ) → recordRow t .holds ≡ false → 0 < w → w ≤ t .limits .qubits → PartBounds t w
+part t w r p q =
     let l = record-limits t r in
-    let s = roomy (t .limits) a m in
     let b = room-at (w - 1) (t .limits .qubits) (t .limits .entries) (omega arith) in
     let few : w ≤ 5 = omega (arith, l .widths) in
     let four : w - 1 ≤ 4 = omega (arith, few) in
     record {
+      some = p;
       width = few;
       gates = l .gates;
       entries = l .entries;
       start = omega (arith, mul-le-mul four (l .entries));
-      in-f = omega (arith, b, s .0);
-      in-u = omega (arith, b, s .1);
-      in-c = omega (arith, b, s .2);
-      count = counted (count-good t w (neither (not (eqb (firstRow (limitRows (t .limits))) 0)) _ r .1) p few);
+      inside = λ n m. omega (arith, b, m);
+      counted = rw (has-width t w p q);
+      count = good (count-good t w (neither (not (eqb (firstRow (limitRows (t .limits))) 0)) _ r .1) p few);
     }
   where
-    counted : badCount t w ≡ false → widthAt t w .count ≤ t .limits .entries
-    counted e = ltb-false (t .limits .entries) (widthAt t w .count) (neither (eqb (widthAt t w .count) 0) _ (with-width (ltb (t .limits .qubits) w) (le-ltb (t .limits .qubits) w q) e) .1)
+    good : badCount t w ≡ false → widthAt t w .count ≤ t .limits .entries
+    good e =
+        ltb-false (t .limits .entries) (widthAt t w .count)
+        (neither (eqb (widthAt t w .count) 0) _ (with-width (ltb (t .limits .qubits) w) (le-ltb (t .limits .qubits) w q) e) .1)
       where
         with-width : (x : Bool) → x ≡ false → {y : Bool} → (not x && y) ≡ false → y ≡ false
         with-width true z f = clash refl z
         with-width false z f = f
 
--- ---- an answer of the part, told on
+-- the same of a width with entries, which is one that the table has
+pub counted-part : (t : Table) (w : ℕ) → recordRow t .holds ≡ false → 0 < countAt t w → PartBounds t w
+counted-part t w r h = let (p, q, z) = counted t w h in part t w r p q
 
-pub told-as : {r s : Answered} {l : List ℕ} {o : Outcome} → r ≡ s → outcome (toldAnswered r) l ≡ o → outcome (toldAnswered s) l ≡ o
-told-as {l = l} e h = ap (λ (x : Answered). outcome (toldAnswered x) l) (sym e) ∙ h
+-- ---- what is found in a part that is given by other numbers
 
--- the count is the record's
-pub with-count : (t : Table) (a : Arrays) (q : Query) (out : List ℕ) {v : Width} → v ≡ widthAt t (q .width)
-    → answerOf (limitsAt (t .limits) (q .width)) (partFrom ((q .width - 1) * t .limits .entries) (t .limits .entries) (v .count) (a .prints) (a .parents) (a .codes))
-    (matrixOf q) out
-    ≡ partAsked t a q out
-with-count t a q out e =
-    ap
-    (λ (v : Width).
-    answerOf (limitsAt (t .limits) (q .width))
-    (partFrom ((q .width - 1) * t .limits .entries) (t .limits .entries) (v .count) (a .prints) (a .parents) (a .codes)) (matrixOf q) out)
-    e
+module _ (limits : WidthLimits) (x : Exact) (start entries : ℕ) (f u c : List ℕ) {g : Finding} {list : List ℕ} where
+  pub same-size : {size count : ℕ} → size ≡ entries → ListFound limits (partFrom start size count f u c) x g list → ListFound limits (partFrom start entries count f u c) x g list
+  same-size {count = count} e = subst (λ (k : ℕ). ListFound limits (partFrom start k count f u c) x g list) e
+
+  pub same-count : {count m : ℕ} → count ≡ m → ListFound limits (partFrom start entries count f u c) x g list → ListFound limits (partFrom start entries m f u c) x g list
+  same-count e = subst (λ (k : ℕ). ListFound limits (partFrom start entries k f u c) x g list) e
+
+-- the part has as many places as were asked for
+pub room : (start entries count : ℕ) (xs : List ℕ) → start + entries ≤ length xs → count ≤ entries → count ≤ length (take (start + entries - start) (drop start xs))
+room start entries count xs h k = omega (arith, length-take-le (start + entries - start) (drop start xs) (omega (arith, length-drop start xs)))

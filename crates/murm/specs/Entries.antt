@@ -1,6 +1,6 @@
 -- The answers of the public entries, case by case: the values, or the refusal's number and position (SPECIFICATION 12.8); and what the entry for
 -- fingerprints answers. What the others answer is in tables/specs. Assumes nothing.
-use mathlib.Core.List.{List, [], _∷_}
+use mathlib.Core.List.{List}
 use Prim.Native.Nat.{ℕ}
 use lib.IntN.{ℤ}
 use lib.Dec.{eqb}
@@ -9,10 +9,13 @@ use Rattle.ints.specs.Lists.{pick}
 use Rattle.exact.specs.Answers.{Answer, given, refused}
 use Rattle.exact.specs.Fingerprint.{fingerprint}
 use Rattle.exact.specs.Places.{held}
-use Rattle.walk.specs.Answers.{Part, partWith, Reply}
+use Rattle.walk.specs.Finds.{Part, partWith, Finding}
+use Rattle.walk.specs.Finds as finds
+use Rattle.walk.specs.Answers.{Reply}
 use Rattle.walk.specs.Answers as a
 use Rattle.tables.specs.Checks.{firstRow, queryRows, Arrays}
-use Rattle.tables.specs.Tables.{Table, BuildReply, table, refusal, Query, listRow, repliedBy}
+use Rattle.tables.specs.Tables.{Table, BuildReply, table, refusal, Query, listRow}
+use Rattle.tables.proofs.Asked.{partAsked}
 use Rattle.refusal.specs.Told.{numberOf, positionOf}
 use Rattle.murm_config.specs.Told.{toldMurm}
 use Rattle.murm.specs.declared.Listed.{Listed}
@@ -21,6 +24,10 @@ use Rattle.murm.specs.declared.Fingerprinted.{Fingerprinted}
 use Rattle.murm.specs.declared.Fingerprinted.the-variants as f
 use Rattle.murm.specs.declared.Building.{Building}
 use Rattle.murm.specs.declared.Building.the-variants as b
+use Rattle.murm.specs.declared.FoundNode.{FoundNode}
+use Rattle.murm.specs.declared.FoundNode.the-variants as n
+use Rattle.murm.specs.declared.Written.{Written}
+use Rattle.murm.specs.declared.Written.the-variants as w
 use Rattle.murm.specs.declared.Synthesized.{Synthesized}
 use Rattle.murm.specs.declared.Synthesized.the-variants as s
 
@@ -53,6 +60,17 @@ abbrev pub toldBuilding : Building → BuildReply
 toldBuilding (b.Table m) = table (toldMurm m)
 toldBuilding (b.Refused r) = refusal (numberOf r) (positionOf r)
 
+-- what is found, as the definitions have it
+abbrev pub toldFoundNode : FoundNode → Finding
+toldFoundNode (n.Node k m) = finds.node k m
+toldFoundNode n.Nothing = finds.none
+toldFoundNode (n.Refused r) = finds.refused (numberOf r) (positionOf r)
+
+-- what a write came to, as the definitions have it
+abbrev pub toldWritten : Written → Reply
+toldWritten (w.List m) = a.given m
+toldWritten (w.Refused r) = a.refused (numberOf r) (positionOf r)
+
 -- an answer to a query, as the definitions have it
 abbrev pub toldSynthesized : Synthesized → Reply
 toldSynthesized (s.Circuit m) = a.given m
@@ -65,4 +83,4 @@ partFrom start entries count f u c = partWith (take entries (drop start f)) (tak
 
 -- what is answered to a query that row 13 of the record and rows 5 to 11 do not refuse
 abbrev pub askedOf : Table → Arrays → Query → List ℕ → a.Outcome
-askedOf t m q out = repliedBy t m q out (firstRow (listRow t out ∷ []))
+askedOf t m q out = pick (listRow t out .holds) (a.outcome (a.refused 12 0) out) (partAsked t m q out)

@@ -1,7 +1,8 @@
--- What the tests of coefficients tell, besides the row: that all are within the limit, as the functions below ask. Assumes nothing.
+-- What the functions below the entries tell and ask: besides the row, that all coefficients are within the limit; the list of what is found; a
+-- node that may be written. Assumes nothing.
 use mathlib.Core.Path.{_≡_}
 use mathlib.Core.Bool.{Bool, true, false, not}
-use mathlib.Core.List.{List}
+use mathlib.Core.List.{List, _++_}
 use Prim.Native.Nat.{ℕ, _≤_, _<_}
 use lib.IntN.{ℤ, pos, negsuc, natAbs}
 use lib.ListN.{length, getD}
@@ -9,7 +10,12 @@ use Rattle.cyclotomic.specs.Zomega.{limit, eqZ}
 use Rattle.exact.proofs.Words.{AllSmall}
 use Rattle.exact.specs.Places.{read}
 use Rattle.refusal.specs.Told.{Reason, byRow}
-use Rattle.tables.specs.Checks.{anyBelow, firstRow, queryRows}
+use Rattle.walk.specs.Chains.{chainOf}
+use Rattle.walk.specs.Finds.{Finding}
+use Rattle.walk.specs.Answers.{Outcome, written}
+use Rattle.width_answer.specs.Answers.{ListFound}
+use Rattle.tables.specs.Checks.{anyBelow, firstRow, queryRows, Arrays, placesOf}
+use Rattle.tables.specs.Tables.{Table, Query, matrixOf, recordRow, tableRows, countAt, partOf, limitsAt, partAt}
 
 -- whether a coefficient is -128; one that is not is within the limit
 pub record PastLimit (x : ℤ) (r : Bool) : Type 0 where
@@ -25,3 +31,25 @@ pub record InRange (l : List ℤ) (r : Bool) : Type 0 where
 pub record Checked (n k : ℕ) (l : List ℤ) (r : Reason) : Type 0 where
   pub told : r ≡ byRow (firstRow (queryRows n k l))
   pub small : r .number ≡ 0 → AllSmall n (read n l)
+
+-- the checks of a find, by the row that refuses; of a query that none refuses all coefficients are within the limit
+pub record FindChecked (t : Table) (f u c n k : ℕ) (l : List ℤ) (r : Reason) : Type 0 where
+  pub told : r ≡ byRow (firstRow (tableRows t f u c ++ queryRows n k l))
+  pub small : r .number ≡ 0 → AllSmall n (read n l)
+
+-- this is found in the part of the query's width, and its list, copied, is what is answered
+abbrev pub FoundFor : Table → Arrays → Query → Finding → List ℕ → Type 0
+FoundFor t a q g list = ListFound (limitsAt (t .limits) (q .width)) (partAt t a (q .width)) (matrixOf q) g list
+
+-- a node of a width that may be written: no row of a write refuses it
+pub record Writable (t : Table) (w k parents codes room : ℕ) : Type 0 where
+  pub good : recordRow t .holds ≡ false
+  pub in-parents : placesOf (t .limits) ≤ parents
+  pub in-codes : placesOf (t .limits) ≤ codes
+  pub node : k < countAt t w
+  pub long : t .limits .gates ≤ room
+
+-- the list of a node, written; fingerprints play no part
+abbrev pub nodeWritten : Table → List ℕ → List ℕ → ℕ → ℕ → List ℕ → Outcome
+nodeWritten t parents codes w k out = written out
+    (chainOf w (t .limits .basis) (partOf w (t .limits .entries) parents) (partOf w (t .limits .entries) codes) (t .limits .gates) k)

@@ -1,23 +1,24 @@
 // The public entries: none asks anything of its caller, and each decides every input (SPECIFICATION 8.1). murm.rs of the original:
-// `library_circuit_matrix`, `Murm::build`, `Murm::synthesize`; matrix.rs: `unitary_fingerprint`.
+// `library_circuit_matrix`, `Murm::build`, `Murm::synthesize`; matrix.rs: `unitary_fingerprint`. `find` and `write` are the parts of `synthesize`.
 ghost use mathlib.Core.Path.{_≡_};
 ghost use mathlib.Core.Bool.{false, _&&_};
 ghost use Prim.Native.Nat.{_+_, _*_, _^_, _≤_, _<_};
 ghost use lib.Dec.{ltb};
-ghost use lib.ListN.{length, take, drop};
+ghost use lib.ListN.{length};
 ghost use Rattle.exact.specs.Matrix.{allDivisible};
 ghost use Rattle.exact.proofs.Words.{AllSmall};
 ghost use Rattle.exact.specs.Places.{read, held};
 ghost use Rattle.synthesis_arena.specs.Limits.{toldLimits};
-ghost use Rattle.width_answer.specs.Answers.{AskedPlaces, toldAnswered};
-ghost use Rattle.walk.specs.Answers.{answerOf, outcome as replied};
+ghost use Rattle.width_answer.specs.Answers.{AskedPlaces, toldFind, ListFound};
+ghost use Rattle.walk.specs.Answers.{outcome as replied};
 ghost use Rattle.tables.specs.Checks.{firstRow, queryRows, arrays, roomRow};
-ghost use Rattle.tables.specs.Tables.{left, buildOf, query, recordRow, partAsked, synthesized};
+ghost use Rattle.tables.specs.Tables.{left, buildOf, query, recordRow, countAt, foundIn, writtenIn, synthesized};
+ghost use Rattle.tables.proofs.Asked.{partFound};
 ghost use Rattle.refusal.specs.Told.{toldCheck};
 ghost use Rattle.murm_config.specs.Told.{toldConfig, toldMurm};
 ghost use Rattle.tables.specs.Lists.{firstInvalid, outcome, listed};
-ghost use Rattle.murm.specs.Entries.{partFrom, toldListed, fingerprinted, toldFingerprinted, toldBuilding, askedOf, toldSynthesized};
-ghost use Rattle.murm.specs.Work.{PastLimit, InRange, Checked};
+ghost use Rattle.murm.specs.Entries.{partFrom, toldListed, fingerprinted, toldFingerprinted, toldBuilding, toldFoundNode, toldWritten, askedOf, toldSynthesized};
+ghost use Rattle.murm.specs.Work.{PastLimit, InRange, Checked, FindChecked, FoundFor, Writable, nodeWritten};
 use circuit::LibraryGate;
 use cyclotomic::Coefficient;
 use cyclotomic::LIMIT;
@@ -27,8 +28,9 @@ use murm_config::Murm;
 use murm_config::MurmConfig;
 use refusal::Check;
 use refusal::Refusal;
+use synthesis_arena::NodeCircuit;
 use synthesis_arena::WidthLimits;
-use width_answer::Answered;
+use width_answer::Find;
 
 // What a list became: a matrix of this exponent, or why it was refused.
 pub enum Listed {
@@ -190,15 +192,26 @@ pub fn build(
     }
 }
 
-// What a table answers: a list, by how many gates it has; none; or why it was refused.
-pub enum Synthesized {
-    Circuit(usize),
-    Nothing,
-    Refused(Refusal),
+// Whether a table with arrays of these lengths may be asked for a matrix; else which row of a find is the first to refuse (SPECIFICATION 9.2).
+fn check_find(
+    table: Murm,
+    prints: usize,
+    parents: usize,
+    codes: usize,
+    width: u32,
+    exponent: u16,
+    matrix: &[Coefficient],
+) -> Check
+    ensures { λ r. ⌜ FindChecked (toldMurm table) prints parents codes width exponent (now (matrix .entry)) (toldCheck r) ⌝ }
+{
+    match murm_config::check_table(table, prints, parents, codes) {
+        Check::Passed => check_query(width, exponent, matrix),
+        Check::Refused(r) => Check::Refused(r),
+    }
 }
 
-// The places from `start` on, as many as a width has, are asked.
-fn ask_from(
+// The places from `start` on, as many as a width has, are searched.
+fn find_from(
     limits: WidthLimits,
     start: usize,
     count: usize,
@@ -207,20 +220,19 @@ fn ask_from(
     parents: &[u32],
     codes: &[u32],
     matrix: &[Coefficient],
-    out: &mut [u32],
-) -> Answered
-    requires { ⌜ (limits .width ≤ 5) × (limits .gates ≤ 64) × (limits .gates ≤ length (now out)) ⌝ }
+    list: &mut [u32],
+) -> Find
+    requires { ⌜ (limits .width ≤ 5) × (limits .gates ≤ length (now list)) ⌝ }
     requires { ⌜ (start ≤ 5000000) × (limits .entries ≤ 1000000) × (count ≤ limits .entries) ⌝ }
     requires { ⌜ (start + limits .entries ≤ length (now fingerprints)) × (start + limits .entries ≤ length (now parents))
         × (start + limits .entries ≤ length (now codes)) ⌝ }
     requires { ⌜ AskedPlaces (limits .width) (now matrix) ⌝ }
-    ensures { λ r. ⌜ replied (toldAnswered r) (now (out .exit))
-        ≡ answerOf (toldLimits limits)
+    ensures { λ r. ⌜ ListFound (toldLimits limits)
         (partFrom start (limits .entries) count (now (fingerprints .entry)) (now (parents .entry)) (now (codes .entry)))
-        (held (limits .width) exponent (now (matrix .entry))) (now (out .entry)) ⌝ }
+        (held (limits .width) exponent (now (matrix .entry))) (toldFind r) (now (list .exit)) ⌝ }
 {
     let end = start + limits.entries;
-    width_answer::answer_width(
+    width_answer::find_width(
         limits,
         count,
         exponent,
@@ -228,31 +240,30 @@ fn ask_from(
         &parents[start..end],
         &codes[start..end],
         matrix,
-        out,
+        list,
     )
 }
 
-// The part of a width from 1 to Q is asked.
-fn ask_part(
+// The part of a width that has entries is searched.
+fn find_part(
     table: Murm,
     fingerprints: &[u64],
     parents: &[u32],
     codes: &[u32],
     width: u32,
+    count: usize,
     exponent: u16,
     matrix: &[Coefficient],
-    out: &mut [u32],
-) -> Synthesized
-    requires { ⌜ (0 < width) × (width ≤ table .config .«max_qubits») × (recordRow (toldMurm table) .holds ≡ false) ⌝ }
+    list: &mut [u32],
+) -> Find
+    requires { ⌜ (recordRow (toldMurm table) .holds ≡ false) × (count ≡ countAt (toldMurm table) width) × (0 < count) ⌝ }
     requires { ⌜ roomRow (toldConfig (table .config)) (arrays (now fingerprints) (now parents) (now codes)) .holds ≡ false ⌝ }
-    requires { ⌜ (firstRow (queryRows width exponent (now matrix)) ≡ 0) × AllSmall width (read width (now matrix)) ⌝ }
-    requires { ⌜ table .config .«max_gates» ≤ length (now out) ⌝ }
-    ensures { λ r. ⌜ replied (toldSynthesized r) (now (out .exit))
-        ≡ partAsked (toldMurm table) (arrays (now (fingerprints .entry)) (now (parents .entry)) (now (codes .entry))) (query width exponent (now (matrix .entry))) (now (out .entry)) ⌝ }
+    requires { ⌜ (firstRow (queryRows width exponent (now matrix)) ≡ 0) × AllSmall width (read width (now matrix)) × (64 ≤ length (now list)) ⌝ }
+    ensures { λ r. ⌜ FoundFor (toldMurm table) (arrays (now (fingerprints .entry)) (now (parents .entry)) (now (codes .entry)))
+        (query width exponent (now (matrix .entry))) (toldFind r) (now (list .exit)) ⌝ }
 {
     let e = table.config.max_entries_per_qubit as usize;
     let start = (width as usize - 1) * e;
-    let row = murm_config::width_table(table, width);
     let basis = table.config.basis;
     let limits = WidthLimits {
         width,
@@ -260,24 +271,199 @@ fn ask_part(
         gates: table.config.max_gates as usize,
         entries: e,
     };
-    match ask_from(
+    find_from(
         limits,
         start,
-        row.count,
+        count,
         exponent,
         fingerprints,
         parents,
         codes,
         matrix,
-        out,
-    ) {
-        Answered::List(m) => Synthesized::Circuit(m),
-        Answered::Nothing => Synthesized::Nothing,
-        Answered::BadChain => Synthesized::Refused(Refusal::BadTable),
+        list,
+    )
+}
+
+// The node that answers a matrix that no row up to 11 refuses, with its list in the first places of `list`. A width without entries has none
+// (SPECIFICATION 7.3).
+fn find_any(
+    table: Murm,
+    fingerprints: &[u64],
+    parents: &[u32],
+    codes: &[u32],
+    width: u32,
+    exponent: u16,
+    matrix: &[Coefficient],
+    list: &mut [u32],
+) -> Find
+    requires { ⌜ recordRow (toldMurm table) .holds ≡ false ⌝ }
+    requires { ⌜ roomRow (toldConfig (table .config)) (arrays (now fingerprints) (now parents) (now codes)) .holds ≡ false ⌝ }
+    requires { ⌜ (firstRow (queryRows width exponent (now matrix)) ≡ 0) × AllSmall width (read width (now matrix)) × (64 ≤ length (now list)) ⌝ }
+    ensures { λ r. ⌜ FoundFor (toldMurm table) (arrays (now (fingerprints .entry)) (now (parents .entry)) (now (codes .entry)))
+        (query width exponent (now (matrix .entry))) (toldFind r) (now (list .exit)) ⌝ }
+{
+    let count = murm_config::count_at(table, width);
+    if count == 0 {
+        return Find::Nothing;
+    }
+    find_part(
+        table,
+        fingerprints,
+        parents,
+        codes,
+        width,
+        count,
+        exponent,
+        matrix,
+        list,
+    )
+}
+
+// What is found for a matrix: a node, and how many gates its list has; none; or why it was refused.
+pub enum FoundNode {
+    Node(usize, usize),
+    Nothing,
+    Refused(Refusal),
+}
+
+// The same, of what a width's part told.
+fn found_node(found: Find) -> FoundNode
+    ensures { λ r. ⌜ toldFoundNode r ≡ toldFind found ⌝ }
+{
+    match found {
+        Find::Node(node, size) => FoundNode::Node(node, size),
+        Find::Nothing => FoundNode::Nothing,
+        Find::BadChain => FoundNode::Refused(Refusal::BadTable),
     }
 }
 
-// Row 12, after which a width that the table does not have gets none, and the part of any other is asked (SPECIFICATION 7.3).
+// A find that no row refuses. Its list is not kept.
+fn find_passed(
+    table: Murm,
+    fingerprints: &[u64],
+    parents: &[u32],
+    codes: &[u32],
+    width: u32,
+    exponent: u16,
+    matrix: &[Coefficient],
+) -> FoundNode
+    requires { ⌜ recordRow (toldMurm table) .holds ≡ false ⌝ }
+    requires { ⌜ roomRow (toldConfig (table .config)) (arrays (now fingerprints) (now parents) (now codes)) .holds ≡ false ⌝ }
+    requires { ⌜ (firstRow (queryRows width exponent (now matrix)) ≡ 0) × AllSmall width (read width (now matrix)) ⌝ }
+    ensures { λ r. ⌜ toldFoundNode r ≡ partFound (toldMurm table)
+        (arrays (now (fingerprints .entry)) (now (parents .entry)) (now (codes .entry))) (query width exponent (now (matrix .entry))) ⌝ }
+{
+    let mut list: [u32; 64] = [0; 64];
+    found_node(find_any(
+        table,
+        fingerprints,
+        parents,
+        codes,
+        width,
+        exponent,
+        matrix,
+        &mut list,
+    ))
+}
+
+// The node that answers a matrix is found (SPECIFICATION 7.10): 13 of the record, then 5, 6, 9, 10, 11, then 13 of the chain found.
+pub fn find(
+    table: Murm,
+    fingerprints: &[u64],
+    parents: &[u32],
+    codes: &[u32],
+    width: u32,
+    exponent: u16,
+    matrix: &[Coefficient],
+) -> FoundNode
+    ensures { λ r. ⌜ toldFoundNode r ≡ foundIn (toldMurm table)
+        (arrays (now (fingerprints .entry)) (now (parents .entry)) (now (codes .entry))) (query width exponent (now (matrix .entry))) ⌝ }
+{
+    match check_find(
+        table,
+        fingerprints.len(),
+        parents.len(),
+        codes.len(),
+        width,
+        exponent,
+        matrix,
+    ) {
+        Check::Passed => find_passed(table, fingerprints, parents, codes, width, exponent, matrix),
+        Check::Refused(r) => FoundNode::Refused(r),
+    }
+}
+
+// What a node's list came to: how many gates it has, or why it was refused.
+pub enum Written {
+    List(usize),
+    Refused(Refusal),
+}
+
+// The list of a node that the width has.
+fn write_part(
+    table: Murm,
+    parents: &[u32],
+    codes: &[u32],
+    width: u32,
+    node: usize,
+    out: &mut [u32],
+) -> Written
+    requires { ⌜ Writable (toldMurm table) width node (length (now parents)) (length (now codes)) (length (now out)) ⌝ }
+    ensures { λ r. ⌜ replied (toldWritten r) (now (out .exit)) ≡ nodeWritten (toldMurm table) (now (parents .entry)) (now (codes .entry)) width node (now (out .entry)) ⌝ }
+{
+    let e = table.config.max_entries_per_qubit as usize;
+    let start = (width as usize - 1) * e;
+    let end = start + e;
+    match synthesis_arena::circuit(
+        &parents[start..end],
+        &codes[start..end],
+        width,
+        table.config.basis,
+        table.config.max_gates as usize,
+        node,
+        out,
+    ) {
+        NodeCircuit::Length(size) => Written::List(size),
+        NodeCircuit::Bad => Written::Refused(Refusal::BadTable),
+    }
+}
+
+// The list of a node is written (SPECIFICATION 7.11): 13 of the record, then 5, 16, 12, then 13 of the node's chain. The lent list keeps what it
+// held unless a list is written, which fills its first places. Its product is not looked at.
+pub fn write(
+    table: Murm,
+    fingerprints: &[u64],
+    parents: &[u32],
+    codes: &[u32],
+    width: u32,
+    node: usize,
+    out: &mut [u32],
+) -> Written
+    ensures { λ r. ⌜ replied (toldWritten r) (now (out .exit)) ≡ writtenIn (toldMurm table)
+        (arrays (now (fingerprints .entry)) (now (parents .entry)) (now (codes .entry))) width node (now (out .entry)) ⌝ }
+{
+    match murm_config::check_write(
+        table,
+        fingerprints.len(),
+        parents.len(),
+        codes.len(),
+        width,
+        node,
+        out.len(),
+    ) {
+        Check::Passed => write_part(table, parents, codes, width, node, out),
+        Check::Refused(r) => Written::Refused(r),
+    }
+}
+
+// What a table answers: a list, by how many gates it has; none; or why it was refused.
+pub enum Synthesized {
+    Circuit(usize),
+    Nothing,
+    Refused(Refusal),
+}
+
+// Row 12, after which the list of the node found is copied to the lent list.
 fn ask(
     table: Murm,
     fingerprints: &[u64],
@@ -297,13 +483,8 @@ fn ask(
     if out.len() < table.config.max_gates as usize {
         return Synthesized::Refused(Refusal::ListTooShort);
     }
-    if width == 0 {
-        return Synthesized::Nothing;
-    }
-    if width > table.config.max_qubits {
-        return Synthesized::Nothing;
-    }
-    ask_part(
+    let mut list: [u32; 64] = [0; 64];
+    match find_any(
         table,
         fingerprints,
         parents,
@@ -311,12 +492,19 @@ fn ask(
         width,
         exponent,
         matrix,
-        out,
-    )
+        &mut list,
+    ) {
+        Find::Node(_, size) => {
+            width_answer::copy_codes(out, &list[0..size]);
+            Synthesized::Circuit(size)
+        }
+        Find::Nothing => Synthesized::Nothing,
+        Find::BadChain => Synthesized::Refused(Refusal::BadTable),
+    }
 }
 
-// A matrix is answered (SPECIFICATION, chapter 7): 13 of the record, then 5, 6, 9, 10, 11, 12, then 13 of the chain found. The lent list
-// keeps what it held unless a list is answered, which fills its first places.
+// A matrix is answered (SPECIFICATION, chapter 7): 13 of the record, then 5, 6, 9, 10, 11, 12; then it is the find, followed by the write of the
+// node found. The lent list keeps what it held unless a list is answered, which fills its first places.
 pub fn synthesize(
     table: Murm,
     fingerprints: &[u64],
@@ -330,13 +518,15 @@ pub fn synthesize(
     ensures { λ r. ⌜ replied (toldSynthesized r) (now (out .exit))
         ≡ synthesized (toldMurm table) (arrays (now (fingerprints .entry)) (now (parents .entry)) (now (codes .entry))) (query width exponent (now (matrix .entry))) (now (out .entry)) ⌝ }
 {
-    if murm_config::bad_record(table) {
-        return Synthesized::Refused(Refusal::BadTable);
-    }
-    if murm_config::too_short(table.config, fingerprints.len(), parents.len(), codes.len()) {
-        return Synthesized::Refused(Refusal::ArrayTooShort);
-    }
-    match check_query(width, exponent, matrix) {
+    match check_find(
+        table,
+        fingerprints.len(),
+        parents.len(),
+        codes.len(),
+        width,
+        exponent,
+        matrix,
+    ) {
         Check::Passed => ask(
             table,
             fingerprints,

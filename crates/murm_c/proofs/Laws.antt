@@ -23,7 +23,8 @@ use Rattle.walk.proofs.Meaning.{kind, size}
 use Rattle.walk.proofs.Sequences.{lt-or}
 use Rattle.tables.specs.Checks.{firstRow, limitRows, Arrays}
 use Rattle.tables.specs.Lists.{ListOutcome, outcome, formed, listed}
-use Rattle.tables.specs.Tables.{Table, widthAt, Query, partAsked, synthesized}
+use Rattle.tables.specs.Tables.{Table, widthAt, Query, synthesized}
+use Rattle.tables.proofs.Asked.{partAsked}
 use Rattle.tables.specs.Demand3.{Decided, a-list, no-list, a-refusal}
 use Rattle.tables.specs.Exactly.{Cause, First, listCauses, answerCauses, bad-limits}
 use Rattle.tables.proofs.Causes.{first-to, none-to}

@@ -33,7 +33,7 @@ fn cap(position: u64) -> u64
 }
 
 // Refusal × 2^32 + position.
-fn refusal_number(why: Refusal) -> u64
+pub fn refusal_number(why: Refusal) -> u64
     ensures { λ r. ⌜ r ≡ refusalNumber (numberOf why) (positionOf why) ⌝ }
 {
     let told = refusal::number_of(why);
@@ -73,7 +73,7 @@ fn counted_row(count: usize) -> WidthTable
 }
 
 // The record of Q, G, E, B and five counts.
-fn counts_table(
+pub fn counts_table(
     q: u32,
     g: u32,
     e: u32,

@@ -1,8 +1,9 @@
 // The limits of a table, config.rs of the original, `MurmConfig`; and its record, murm.rs, `Murm`, whose nodes are in three lent arrays.
 ghost use mathlib.Core.Path.{_≡_};
+ghost use mathlib.Core.List.{_++_};
 ghost use Prim.Native.Nat.{_<_, _≤_};
 ghost use Rattle.tables.specs.Checks.{firstRow, limitRows, tooShort};
-ghost use Rattle.tables.specs.Tables.{allWidths, widthAt, badCountOf, badCount, recordRow};
+ghost use Rattle.tables.specs.Tables.{allWidths, widthAt, badCountOf, badCount, recordRow, tableRows, countAt, nodeRows};
 ghost use Rattle.walk.specs.Walk.{any};
 ghost use Rattle.refusal.specs.Told.{byRow, toldCheck};
 ghost use Rattle.murm_config.specs.Told.{toldConfig, toldWidth, toldMurm, withWidth, emptyOf};
@@ -133,6 +134,60 @@ pub fn bad_record(table: Murm) -> bool
     match limits(table.config) {
         Check::Passed => bad_counts(table),
         Check::Refused(_) => true,
+    }
+}
+
+// Whether a table with arrays of these lengths may be asked; else 13 of the record or 5 (SPECIFICATION 9.2).
+pub fn check_table(table: Murm, prints: usize, parents: usize, codes: usize) -> Check
+    ensures { λ r. ⌜ toldCheck r ≡ byRow (firstRow (tableRows (toldMurm table) prints parents codes)) ⌝ }
+{
+    if bad_record(table) {
+        return Check::Refused(Refusal::BadTable);
+    }
+    if too_short(table.config, prints, parents, codes) {
+        return Check::Refused(Refusal::ArrayTooShort);
+    }
+    Check::Passed
+}
+
+// How many entries a width has: none where the table does not have the width, whatever the record says (SPECIFICATION 7.3).
+pub fn count_at(table: Murm, width: u32) -> usize
+    ensures { λ r. ⌜ r ≡ countAt (toldMurm table) width ⌝ }
+{
+    if width > table.config.max_qubits {
+        return 0;
+    }
+    width_table(table, width).count
+}
+
+// Whether a width has the node, and a list of so many places room for the longest; else 16 or 12.
+fn check_node(table: Murm, width: u32, node: usize, room: usize) -> Check
+    ensures { λ r. ⌜ toldCheck r ≡ byRow (firstRow (nodeRows (toldMurm table) width node room)) ⌝ }
+{
+    if node >= count_at(table, width) {
+        return Check::Refused(Refusal::NoSuchNode);
+    }
+    if room < table.config.max_gates as usize {
+        return Check::Refused(Refusal::ListTooShort);
+    }
+    Check::Passed
+}
+
+// Whether the list of a node may be written; else which row of a write is the first to refuse (SPECIFICATION 9.2).
+pub fn check_write(
+    table: Murm,
+    prints: usize,
+    parents: usize,
+    codes: usize,
+    width: u32,
+    node: usize,
+    room: usize,
+) -> Check
+    ensures { λ r. ⌜ toldCheck r ≡ byRow (firstRow (tableRows (toldMurm table) prints parents codes ++ nodeRows (toldMurm table) width node room)) ⌝ }
+{
+    match check_table(table, prints, parents, codes) {
+        Check::Passed => check_node(table, width, node, room),
+        Check::Refused(r) => Check::Refused(r),
     }
 }
 

@@ -28,6 +28,7 @@ some r.ListTooShort = omega arith
 some r.BadTable = omega arith
 some r.BrokenLine = omega arith
 some r.LongInput = omega arith
+some r.NoSuchNode = omega arith
 
 -- ---- a check, by the first row that holds
 

@@ -1,5 +1,5 @@
 // Why an operation is refused: a case for each number of SPECIFICATION 9.1. A new number is a case here, a line in `number_of`, a line in
-// specs/Told.antt and a line of `some` in proofs/Numbers.antt.
+// specs/Told.antt, a line of `some` in proofs/Numbers.antt and two lines in proofs/number_of.
 ghost use mathlib.Core.Path.{_≡_};
 ghost use Prim.Native.Nat.{_≤_};
 ghost use Rattle.refusal.specs.Told.{numberOf, positionOf};
@@ -20,6 +20,7 @@ pub enum Refusal {
     BadTable,
     BrokenLine,
     LongInput,
+    NoSuchNode,
 }
 
 // What a check comes to.
@@ -34,7 +35,7 @@ pub struct Numbered(pub u64, pub u64);
 pub fn number_of(refusal: Refusal) -> Numbered
     ensures number { λ r. ⌜ r .0 ≡ numberOf refusal ⌝ }
     ensures position { λ r. ⌜ r .1 ≡ positionOf refusal ⌝ }
-    ensures most { λ r. ⌜ r .0 ≤ 15 ⌝ }
+    ensures most { λ r. ⌜ r .0 ≤ 16 ⌝ }
 {
     match refusal {
         Refusal::WidthLimit => Numbered(1, 0),
@@ -52,5 +53,6 @@ pub fn number_of(refusal: Refusal) -> Numbered
         Refusal::BadTable => Numbered(13, 0),
         Refusal::BrokenLine => Numbered(14, 0),
         Refusal::LongInput => Numbered(15, 0),
+        Refusal::NoSuchNode => Numbered(16, 0),
     }
 }

@@ -8,8 +8,8 @@ use lib.Seq.{take-at, drop-at}
 use Rattle.synthesis_arena.specs.Lookup.{toldFound}
 use Rattle.walk.specs.Lookup.{lowestFrom}
 use Rattle.walk.specs.Meaning.{LowestNode, Nowhere, Gates}
-use Rattle.exact.specs.Answers.{given, refused}
-use Rattle.synthesis_arena.specs.Chains.{circuitOf, toldCircuit, ChainWritten, written}
+use Rattle.synthesis_arena.specs.Chains.{toldCircuit}
+use Rattle.walk.specs.Answers.{given, refused, Outcome, outcome, written}
 use Rattle.walk.specs.Chains.{Chain, good, bad, chainOf}
 use Rattle.synthesis_arena.specs.declared.Found.{Found}
 use Rattle.synthesis_arena.specs.declared.Found.the-variants.{At, NotFound}
@@ -44,15 +44,15 @@ module _ (n basis : ℕ) (parents codes : List ℕ) (limit node : ℕ) (old new 
     pub is-bad : chainOf n basis parents codes limit node ≡ bad
     pub same : new ≡ old
 
-  module _ {r : NodeCircuit} (told : written (toldCircuit r) new ≡ circuitOf (chainOf n basis parents codes limit node) old) where
+  module _ {r : NodeCircuit} (told : outcome (toldCircuit r) new ≡ written old (chainOf n basis parents codes limit node)) where
     pub circuit-read : {m : ℕ} → r ≡ Length m → ChainRead m
-    circuit-read {m} e = by (chainOf n basis parents codes limit node) refl (sym (ap (λ (x : NodeCircuit). written (toldCircuit x) new) e) ∙ told)
+    circuit-read {m} e = by (chainOf n basis parents codes limit node) refl (sym (ap (λ (x : NodeCircuit). outcome (toldCircuit x) new) e) ∙ told)
       where
-        by : (k : Chain) → chainOf n basis parents codes limit node ≡ k → written (given m) new ≡ circuitOf k old → ChainRead m
+        by : (k : Chain) → chainOf n basis parents codes limit node ≡ k → outcome (given m) new ≡ written old k → ChainRead m
         by (good l) f h =
-            let a = ap (λ (o : ChainWritten). o .answer) h in
+            let a = ap (λ (o : Outcome). o .reply) h in
             let z : m ≡ length l = cc in
-            let b : new ≡ l ++ drop (length l) old = ap (λ (o : ChainWritten). o .list) h in
+            let b : new ≡ l ++ drop (length l) old = ap (λ (o : Outcome). o .list) h in
             record {
               list = l;
               is = f;
@@ -61,11 +61,11 @@ module _ (n basis : ℕ) (parents codes : List ℕ) (limit node : ℕ) (old new 
               first = ap (take m) b ∙ take-at l (drop (length l) old) m (sym z);
               later = ap (drop m) b ∙ drop-at l (drop (length l) old) m (sym z) ∙ ap (λ (i : ℕ). drop i old) (sym z);
             }
-        by bad f h = let a = ap (λ (o : ChainWritten). o .answer) h in let z : _≡_ {A = ℕ} 0 1 = cc in absurd (omega arith)
+        by bad f h = let a = ap (λ (o : Outcome). o .reply) h in let z : _≡_ {A = ℕ} 0 1 = cc in absurd (omega arith)
 
     pub circuit-refused : r ≡ Bad → Refused
-    circuit-refused e = by (chainOf n basis parents codes limit node) refl (sym (ap (λ (x : NodeCircuit). written (toldCircuit x) new) e) ∙ told)
+    circuit-refused e = by (chainOf n basis parents codes limit node) refl (sym (ap (λ (x : NodeCircuit). outcome (toldCircuit x) new) e) ∙ told)
       where
-        by : (k : Chain) → chainOf n basis parents codes limit node ≡ k → written (refused 13 0) new ≡ circuitOf k old → Refused
-        by (good l) f h = let a = ap (λ (o : ChainWritten). o .answer) h in let z : _≡_ {A = ℕ} 0 1 = cc in absurd (omega arith)
-        by bad f h = record { is-bad = f; same = ap (λ (o : ChainWritten). o .list) h }
+        by : (k : Chain) → chainOf n basis parents codes limit node ≡ k → outcome (refused 13 0) new ≡ written old k → Refused
+        by (good l) f h = let a = ap (λ (o : Outcome). o .reply) h in let z : _≡_ {A = ℕ} 0 1 = cc in absurd (omega arith)
+        by bad f h = record { is-bad = f; same = ap (λ (o : Outcome). o .list) h }

@@ -6,7 +6,9 @@ use native.Mathlib.Omega.{arith}
 use lib.ListN.{length, getD, take, drop, set, length-append, length-set, take-append-drop}
 use lib.Seq.{take-suc, set-at, length-take-le}
 use Rattle.exact.specs.Answers.{given, refused}
-use Rattle.synthesis_arena.specs.Chains.{depthOf, toldDepth, circuitOf, written}
+use Rattle.synthesis_arena.specs.Chains.{depthOf, toldDepth}
+use Rattle.walk.specs.Answers.{outcome, written}
+use Rattle.walk.specs.Answers as a
 use Rattle.walk.specs.Chains.{Chain, good, chainOf}
 use Rattle.synthesis_arena.specs.declared.NodeDepth.{NodeDepth}
 use Rattle.synthesis_arena.specs.declared.NodeDepth.the-variants.{At, Bad}
@@ -77,13 +79,13 @@ module _ (n basis : ℕ) (parents codes : List ℕ) (limit node : ℕ) (old : Li
               ∙ set-at (take m old) (getD old m 0) behind g m (length-take-le m old (omega (arith, w .sum, w .room)));
         }
 
-    pub writing-end : size ≤ i → written (given size) out ≡ circuitOf (chainOf n basis parents codes limit node) old
+    pub writing-end : size ≤ i → outcome (a.given size) out ≡ written old (chainOf n basis parents codes limit node)
     writing-end h =
         let none : w .rest ≡ [] = empty (w .rest) (omega (arith, w .sum)) in
         let e : size ≡ length (w .done) = omega (arith, w .sum, w .count) in
-        ap (written (given size)) (w .is ∙ ap (λ (l : List ℕ). take (length l) old ++ (w .done ++ drop size old)) none)
-        ∙ ap (λ (m : ℕ). written (given m) (w .done ++ drop m old)) e
-        ∙ sym (ap (λ (k : Chain). circuitOf k old) (w .whole ∙ ap (λ (l : List ℕ). good (l ++ w .done)) none))
+        ap (outcome (a.given size)) (w .is ∙ ap (λ (l : List ℕ). take (length l) old ++ (w .done ++ drop size old)) none)
+        ∙ ap (λ (m : ℕ). outcome (a.given m) (w .done ++ drop m old)) e
+        ∙ sym (ap (written old) (w .whole ∙ ap (λ (l : List ℕ). good (l ++ w .done)) none))
 
-  pub written-not : {r : NodeDepth} → r ≡ Bad → toldDepth r ≡ depthOf (chainOf n basis parents codes limit node) → written (refused 13 0) old ≡ circuitOf (chainOf n basis parents codes limit node) old
-  written-not e h = sym (ap (λ (k : Chain). circuitOf k old) (not-deep n basis parents codes limit node e h))
+  pub written-not : {r : NodeDepth} → r ≡ Bad → toldDepth r ≡ depthOf (chainOf n basis parents codes limit node) → outcome (a.refused 13 0) old ≡ written old (chainOf n basis parents codes limit node)
+  written-not e h = sym (ap (written old) (not-deep n basis parents codes limit node e h))

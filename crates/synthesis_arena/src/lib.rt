@@ -7,7 +7,8 @@ ghost use Prim.Native.Nat.{ℕ, _%_, _<_, _≤_};
 ghost use lib.ListN.{length};
 ghost use Rattle.synthesis_arena.specs.Lookup.{toldFound};
 ghost use Rattle.walk.specs.Lookup.{lowestFrom};
-ghost use Rattle.synthesis_arena.specs.Chains.{depthOf, toldDepth, circuitOf, toldCircuit, written};
+ghost use Rattle.synthesis_arena.specs.Chains.{depthOf, toldDepth, toldCircuit};
+ghost use Rattle.walk.specs.Answers.{outcome, written};
 ghost use Rattle.walk.specs.Chains.{marked, chainOf};
 use circuit::GateSet;
 use circuit::LibraryGate;
@@ -157,8 +158,8 @@ pub fn circuit(
     out: &mut [u32],
 ) -> NodeCircuit
     requires there { ⌜ (node < length (now parents)) × (node < length (now codes)) × (limit ≤ length (now out)) ⌝ }
-    ensures written { λ r. ⌜ written (toldCircuit r) (now (out .exit))
-        ≡ circuitOf (chainOf width (basis .0) (now (parents .entry)) (now (codes .entry)) limit node) (now (out .entry)) ⌝ }
+    ensures written { λ r. ⌜ outcome (toldCircuit r) (now (out .exit))
+        ≡ written (now (out .entry)) (chainOf width (basis .0) (now (parents .entry)) (now (codes .entry)) limit node) ⌝ }
 {
     let NodeDepth::At(size) = depth(parents, codes, width, basis, limit, node) else {
         return NodeCircuit::Bad;

@@ -1,14 +1,15 @@
 -- What limits are that no row refuses, and that arrays have room exactly where row 5 does not refuse. Assumes nothing.
 use mathlib.Core.Path.{_≡_, refl}
 use mathlib.Core.Logic.{inl, inr}
-use mathlib.Core.Bool.{false, _||_}
+use mathlib.Core.Bool.{false, not, _||_}
 use Prim.Native.Nat.{ℕ, _≤_, _<_}
 use native.Mathlib.Omega.{arith}
-use borrow.Author.Tests.{eqb-false, ltb-false, le-ltb}
+use borrow.Author.Tests.{eqb-true, eqb-false, ltb-false, le-ltb, not-false}
 use lib.Dec.{eqb, ltb}
 use lib.ListN.{length}
 use Rattle.ints.proofs.Bools.{neither}
 use Rattle.tables.specs.Checks.{firstRow, Limits, limitRows, Arrays, placesOf, roomRow}
+use Rattle.tables.specs.Tables.{Table, recordRow}
 use Rattle.tables.proofs.Causes.{none-to}
 use Rattle.tables.proofs.InWords.{limits-in-words}
 
@@ -56,3 +57,7 @@ pub room-is : (l : Limits) (a : Arrays) → placesOf l ≤ length (a .prints) �
     → roomRow l a .holds ≡ false
 room-is l a p q r =
     rw (le-ltb (length (a .prints)) (placesOf l) p, le-ltb (length (a .parents)) (placesOf l) q, le-ltb (length (a .codes)) (placesOf l) r)
+
+-- the limits of a record that is not refused
+pub record-limits : (t : Table) → recordRow t .holds ≡ false → Accepted (t .limits)
+record-limits t r = accepted (t .limits) (eqb-true (firstRow (limitRows (t .limits))) 0 (not-false _ (neither (not (eqb (firstRow (limitRows (t .limits))) 0)) _ r .0)))

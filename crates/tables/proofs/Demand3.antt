@@ -6,7 +6,6 @@ use mathlib.Core.List.{List, [], _∷_}
 use mathlib.Core.Option.{Option, some}
 use Prim.Native.Nat.{ℕ, _≤_, _<_}
 use native.Mathlib.Omega.{arith}
-use borrow.Author.Tests.{le-ltb, ne-eqb}
 use Rattle.exact.specs.Matrix.{Lowest}
 use Rattle.exact.specs.Unitary.{Unitary}
 use Rattle.walk.specs.AtWidth.{atWidth}
@@ -28,12 +27,8 @@ use Rattle.tables.proofs.Counts.{width-is, counts}
 use Rattle.tables.proofs.Joined.{toldOption}
 use Rattle.tables.proofs.Replies.{number-of, rowOfAnswer, ReplyCase, not-a-width, part-asked, by-row, row-refuses, cases}
 use Rattle.tables.proofs.Replies.{gives-asked, no-row, decided, gives-right}
-use Rattle.tables.proofs.OfBuilt.{asked-lowest, a-width, told-none, not-refusal, rows-are, rows-up-to, query-passed}
+use Rattle.tables.proofs.OfBuilt.{asked-lowest, has-width, a-width, told-none, not-refusal, rows-are, rows-up-to, query-passed}
 use Rattle.tables.proofs.OfBuilt.{widths-small, told-walk, gives-walk}
-
--- a width from 1 to Q is one that the table has
-pub has-width : (t : Table) (q : Query) → 0 < q .width → q .width ≤ t .limits .qubits → notAWidth t q ≡ false
-has-width t q p h = rw (ne-eqb (q .width) 0 (omega arith), le-ltb (t .limits .qubits) (q .width) h)
 
 -- ---- (a) and (d), whatever the memory holds
 
@@ -49,15 +44,15 @@ not-unitary t a q out h u = by (decided t a q out)
 
 module _ (t t′ : Table) (a a′ : Arrays) (b : Built t a) (b′ : Built t′ a′) (s : NoSmaller (t .limits) (t′ .limits)) (q : Query) where
   -- it has the widths of the other, and gives the same lists there
-  same-list : (out′ l : List ℕ) → notAWidth t q ≡ false → rowOfAnswer t′ a′ q out′ ≡ 0
+  same-list : (out′ l : List ℕ) → notAWidth t (q .width) ≡ false → rowOfAnswer t′ a′ q out′ ≡ 0
       → answered (q .width) (t .limits .basis) (t .limits .gates) (t .limits .entries) (matrixOf q) ≡ some l → Gives t′ a′ q out′ l
   same-list out′ l f e g =
-      let w = a-width t q f in
+      let w = a-width t (q .width) f in
       let h : q .width ≤ t′ .limits .qubits = omega (arith, w .1, s .qubits) in
       let more =
       at-width.demand (q .width) (t .limits .basis) (widths-small t a b (q .width) (w .1)) .larger (t .limits .gates) (t′ .limits .gates)
       (t .limits .entries) (t′ .limits .entries) (s .gates) (s .entries) (matrixOf q) l g in
-      told-walk t′ a′ b′ q out′ e (has-width t′ q (w .0) h)
+      told-walk t′ a′ b′ q out′ e (has-width t′ (q .width) (w .0) h)
       ∙ ap (λ (z : ℕ). toldOption (answered (q .width) z (t′ .limits .gates) (t′ .limits .entries) (matrixOf q)) out′) (s .basis)
       ∙ ap (λ (o : Option (List ℕ)). toldOption o out′) more
 
@@ -84,10 +79,10 @@ module _ (t : Table) (a : Arrays) (b : Built t a) where
   answers-complete : (q : Query) → (q .width ≤ 5 → WidthComplete (q .width) (t .limits .basis) (t .limits .gates) (t .limits .entries)) → Complete t a q
   answers-complete q w = record {
     shortest = λ out l g m r.
-        w (small (a-width t q (gives-asked t a q out l g .1) .1)) .shortest (matrixOf q) (low out (gives-asked t a q out l g .0)) l
+        w (small (a-width t (q .width) (gives-asked t a q out l g .1) .1)) .shortest (matrixOf q) (low out (gives-asked t a q out l g .0)) l
         (gives-walk t a b q out l g) m (r .of-basis) (r .power);
     none-exactly = λ p h s out n. let e = no-row t a q out n in
-        let k = told-walk t a b q out e (has-width t q p h) in
+        let k = told-walk t a b q out e (has-width t (q .width) p h) in
         let f = ap (λ (v : Width). v .saturated) (sym (width-is t a b (q .width) p h)) ∙ s in
         let x = w (small h) .none-exactly f (matrixOf q) (low out e) in (
           (λ g m r c. x .0 (told-none _ out (sym k ∙ g)) m (r .of-basis) c (r .power)),

@@ -4,18 +4,20 @@ use mathlib.Core.Logic.{_↔_, _⊎_, inl, inr}
 use mathlib.Core.List.{List, [], _∷_}
 use Prim.Native.Nat.{ℕ, zero, suc}
 use native.Mathlib.Omega.{arith}
+use Rattle.walk.specs.Finds.{Finding}
+use Rattle.walk.specs.Finds as f
 use Rattle.walk.specs.Answers.{Reply, given, none, refused, Outcome, outcome}
-use Rattle.walk.proofs.Meaning.{kind-of}
+use Rattle.walk.proofs.Meaning.{kind-of, find-means, write-means}
 use Rattle.tables.specs.Checks.{firstRow, Limits, Arrays}
-use Rattle.tables.specs.Tables.{Table, BuildReply, table, refusal, Left, left, recordOf, builtTo, buildRows, buildOf, Query, synthesized}
-use Rattle.tables.specs.Exactly.{Cause, cause, First, NoCause, buildCauses, BadChain, answerCauses, Exactly}
+use Rattle.tables.specs.Tables.{Table, BuildReply, table, refusal, Left, left, recordOf, builtTo, buildRows, buildOf, Query, matrixOf, limitsAt, partAt, findRows, foundIn, writeRows, writtenIn, synthesized}
+use Rattle.tables.specs.Exactly.{Cause, cause, First, NoCause, buildCauses, BadChain, answerCauses, findCauses, BadNode, writeCauses, Exactly}
 use Rattle.tables.proofs.FromBuild.{build-refusal, build-fills}
 use Rattle.tables.proofs.Replies.{ReplyCase, not-a-width, part-asked, by-row, row-refuses, width-asked, cases, asked-means}
-use Rattle.tables.proofs.OfBuilt.{a-width}
-use Rattle.tables.proofs.Demand3.{has-width}
+use Rattle.tables.proofs.OfBuilt.{has-width, a-width, counted}
+use Rattle.tables.proofs.Asked.{find-passed, find-refused, write-passed, write-refused}
 use Rattle.tables.proofs.Causes.{first-to, first-from, none-to, none-from, first-more, first-later, first-split}
 use Rattle.tables.proofs.ListExactly.{list, formed}
-use Rattle.tables.proofs.InWords.{build-in-words, rowCauses, answer-in-words}
+use Rattle.tables.proofs.InWords.{build-in-words, findRowCauses, find-in-words, rowCauses, answer-in-words, writeRowCauses, write-in-words}
 
 -- ---- a build
 
@@ -82,7 +84,7 @@ module _ (t : Table) (a : Arrays) (q : Query) (out : List ℕ) where
       to n (not-a-width f w m) = absurd (omega (arith, kind-of (sym m ∙ n)))
       to n (part-asked f w m) =
           let (x, y, z, u) = asked-means t a q out .is-refused r p after .0 (sym m ∙ n) in
-          let v = a-width t q w in (
+          let v = a-width t (q .width) w in (
             told 13 (first-later (rowCauses t a q out) (chain ∷ []) 13 0 (none-to (answer-in-words t a q out) f)
                 (inl (refl, (record { some = v .0; has = v .1; fault = x }, refl)))) (sym y) (sym z),
             u,
@@ -100,15 +102,93 @@ module _ (t : Table) (a : Arrays) (q : Query) (out : List ℕ) where
           let (x, h, y) = first-from (answer-in-words t a q out) r p f in
           row-refuses t a q out r h x ∙ (λ k. outcome (refused r (sym y k)) (sym z k))
       from (inr (n, inl (x, (c, y)))) z =
-          width-asked t a q out (none-from (answer-in-words t a q out) n) (has-width t q (c .some) (c .has))
+          width-asked t a q out (none-from (answer-in-words t a q out) n) (has-width t (q .width) (c .some) (c .has))
           ∙ asked-means t a q out .is-refused r p after .1 (c .fault, sym x, y, z)
       from (inr (n, inr (m, f))) z = absurd f
+
+-- ---- a find
+
+abbrev found-first : Finding → ℕ
+found-first (f.node k m) = 0
+found-first f.none = 0
+found-first (f.refused r p) = r
+
+abbrev found-second : Finding → ℕ
+found-second (f.node k m) = 0
+found-second f.none = 0
+found-second (f.refused r p) = p
+
+module _ (t : Table) (a : Arrays) (q : Query) where
+  find : (r p : ℕ) → (foundIn t a q ≡ f.refused r p) ↔ First r p (findCauses t a q)
+  find r p = (λ n. to n (firstRow (findRows t a q)) refl, λ x. from (first-split (findRowCauses t a q) (last-cause ∷ []) r p x))
+    where
+      last-cause : Cause
+      last-cause = cause 13 (BadChain t a q)
+
+      told : (s : ℕ) → First s 0 (findCauses t a q) → s ≡ r → 0 ≡ p → First r p (findCauses t a q)
+      told s g x y = subst (λ (j : ℕ). First r j (findCauses t a q)) y (subst (λ (j : ℕ). First j 0 (findCauses t a q)) x g)
+
+      to : foundIn t a q ≡ f.refused r p → (s : ℕ) → firstRow (findRows t a q) ≡ s → First r p (findCauses t a q)
+      to n zero e =
+          let (x, y, z) = find-means (limitsAt (t .limits) (q .width)) (partAt t a (q .width)) (matrixOf q) .is-refused r p .0 (sym (find-passed t a q e) ∙ n) in
+          let v = counted t (q .width) (x .lowest .below) in
+          told 13 (first-later (findRowCauses t a q) (last-cause ∷ []) 13 0 (none-to (find-in-words t a q) e)
+          (inl (refl, (record { some = v .0; has = v .1; fault = x }, refl)))) (sym y) (sym z)
+      to n (suc s) e =
+          let z = sym (find-refused t a q (suc s) (omega arith) e) ∙ n in
+          told (suc s) (first-more (findRowCauses t a q) (last-cause ∷ []) (suc s) 0 (first-to (find-in-words t a q) (suc s) (omega arith) e))
+          (ap found-first z) (ap found-second z)
+
+      from : First r p (findRowCauses t a q) ⊎ (NoCause (findRowCauses t a q) × First r p (last-cause ∷ [])) → foundIn t a q ≡ f.refused r p
+      from (inl g) = let (x, h, y) = first-from (find-in-words t a q) r p g in find-refused t a q r h x ∙ ap (f.refused r) (sym y)
+      from (inr (n, inl (x, (c, y)))) =
+          find-passed t a q (none-from (find-in-words t a q) n)
+          ∙ find-means (limitsAt (t .limits) (q .width)) (partAt t a (q .width)) (matrixOf q) .is-refused r p .1 (c .fault, sym x, y)
+      from (inr (n, inr (m, g))) = absurd g
+
+-- ---- a write
+
+module _ (t : Table) (a : Arrays) (w k : ℕ) (out : List ℕ) where
+  write : (after : List ℕ) (r p : ℕ) → (writtenIn t a w k out ≡ outcome (refused r p) after) ↔ (First r p (writeCauses t a w k out) × (after ≡ out))
+  write after r p = (λ n. to n (firstRow (writeRows t a w k out)) refl, λ x. from (first-split (writeRowCauses t a w k out) (last-cause ∷ []) r p (x .0)) (x .1))
+    where
+      last-cause : Cause
+      last-cause = cause 13 (BadNode t a w k)
+
+      told : (s : ℕ) → First s 0 (writeCauses t a w k out) → s ≡ r → 0 ≡ p → First r p (writeCauses t a w k out)
+      told s g x y = subst (λ (j : ℕ). First r j (writeCauses t a w k out)) y (subst (λ (j : ℕ). First j 0 (writeCauses t a w k out)) x g)
+
+      to : writtenIn t a w k out ≡ outcome (refused r p) after → (s : ℕ) → firstRow (writeRows t a w k out) ≡ s
+          → First r p (writeCauses t a w k out) × (after ≡ out)
+      to n zero e =
+          let (x, y, z, u) = write-means (limitsAt (t .limits) w) (partAt t a w) k out .is-refused r p after .0 (sym (write-passed t a w k out e) ∙ n) in (
+            told 13 (first-later (writeRowCauses t a w k out) (last-cause ∷ []) 13 0 (none-to (write-in-words t a w k out) e) (inl (refl, (x, refl)))) (sym y) (sym z),
+            u,
+          )
+      to n (suc s) e =
+          let z = sym (write-refused t a w k out (suc s) (omega arith) e) ∙ n in (
+            told (suc s) (first-more (writeRowCauses t a w k out) (last-cause ∷ []) (suc s) 0 (first-to (write-in-words t a w k out) (suc s) (omega arith) e))
+                (ap (λ (o : Outcome). first (o .reply)) z) (ap (λ (o : Outcome). second (o .reply)) z),
+            sym (ap (λ (o : Outcome). o .list) z),
+          )
+
+      from : First r p (writeRowCauses t a w k out) ⊎ (NoCause (writeRowCauses t a w k out) × First r p (last-cause ∷ [])) → after ≡ out
+          → writtenIn t a w k out ≡ outcome (refused r p) after
+      from (inl g) z =
+          let (x, h, y) = first-from (write-in-words t a w k out) r p g in
+          write-refused t a w k out r h x ∙ (λ j. outcome (refused r (sym y j)) (sym z j))
+      from (inr (n, inl (x, (c, y)))) z =
+          write-passed t a w k out (none-from (write-in-words t a w k out) n)
+          ∙ write-means (limitsAt (t .limits) w) (partAt t a w) k out .is-refused r p after .1 (c, sym x, y, z)
+      from (inr (n, inr (m, g))) z = absurd g
 
 pub exactly : Exactly
 exactly = record {
   build = build;
   built = built;
   answer = answer;
+  find = find;
+  write = write;
   list = list;
   formed = formed;
 }

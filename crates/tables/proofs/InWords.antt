@@ -1,17 +1,17 @@
--- The rows of a build and of an answer, each test against its words. Assumes nothing.
+-- The rows of a build, of a find, of a write and of an answer, each test against its words. Assumes nothing.
 use mathlib.Core.Path.{_≡_, refl, ap, _∙_, sym}
 use mathlib.Core.Logic.{_⊎_, inl, inr}
-use mathlib.Core.Bool.{true, _||_, Bool, not}
+use mathlib.Core.Bool.{true, false, _||_, Bool, not}
 use mathlib.Core.List.{List, [], _∷_, _++_}
 use Prim.Native.Nat.{ℕ, zero, suc, _<_, _+_, _≤_}
 use native.Mathlib.Omega.{arith}
 use native.Mathlib.Decide.{ℕ-discrete}
-use borrow.Author.Tests.{ne-eqb}
+use borrow.Author.Tests.{ne-eqb, le-ltb, ltb-false, not-true}
 use lib.IntN.{ℤ, pos, negsuc}
 use lib.ListN.{length, getD}
-use lib.Dec.{eqb}
+use lib.Dec.{eqb, ltb}
 use Rattle.ints.proofs.Bools.{clash, or-right}
-use Rattle.ints.specs.Lists.{range}
+use Rattle.ints.specs.Lists.{pick, range}
 use Rattle.cyclotomic.specs.Zomega.{limit, eqZ}
 use Rattle.cyclotomic.proofs.Answers.{eqZ-true, eqZ-self}
 use Rattle.circuit.specs.Sets.{supported, subset}
@@ -20,8 +20,8 @@ use Rattle.exact.specs.Places.{read}
 use Rattle.walk.proofs.Sequences.{or-cases}
 use Rattle.walk.specs.Walk.{any}
 use Rattle.tables.specs.Checks.{Limits, limitRows, Arrays, placesOf, roomRow, byteCount, anyBelow, queryRows, firstRow}
-use Rattle.tables.specs.Tables.{buildRows, Query, Table, widthAt, allWidths, badCount, recordRow, answerRows}
-use Rattle.tables.specs.Exactly.{limitCauses, Short, buildCauses, Below, queryCauses, Cause, cause, BadRecord, bad-limits, bad-count}
+use Rattle.tables.specs.Tables.{buildRows, Query, Table, widthAt, allWidths, badCount, recordRow, tableRowsOf, notAWidth, findRows, nodeRow, writeRows, answerRows}
+use Rattle.tables.specs.Exactly.{limitCauses, Short, buildCauses, Below, queryCauses, Cause, cause, BadRecord, bad-limits, bad-count, tableCauses, NoNode, no-width, too-few}
 use Rattle.tables.proofs.Causes.{Decides, is-eq, is-lt, is-true, is-false, is-not, is-or, is-and, InWords, done, more, words-append, first-to, first-from, none-to}
 
 -- ---- a build
@@ -124,14 +124,45 @@ module _ (t : Table) where
               any-to (badCount t) 5 1 w (omega arith) (omega arith) (is-bad-count w .from ((λ q. omega arith), c))
           by (suc r) e = let x = ne-eqb (suc r) 0 (omega arith) in rw x
 
--- ---- an answer, up to row 12
+-- ---- what a table is asked
 
+pub table-in-words : (t : Table) (a : Arrays) → InWords (tableRowsOf t a) (tableCauses t a)
+table-in-words t a = more 13 (omega arith) (is-record t) (more 5 (omega arith) (is-short (t .limits) a) done)
+
+-- a find, up to row 11
+abbrev pub findRowCauses : Table → Arrays → Query → List Cause
+findRowCauses t a q = tableCauses t a ++ queryCauses q
+
+pub find-in-words : (t : Table) (a : Arrays) (q : Query) → InWords (findRows t a q) (findRowCauses t a q)
+find-in-words t a q = words-append (table-in-words t a) (query-in-words q)
+
+-- an answer, up to row 12
 abbrev pub rowCauses : Table → Arrays → Query → List ℕ → List Cause
-rowCauses t a q out =
-    cause 13 (BadRecord t) ∷ cause 5 (Short (t .limits) a) ∷ (queryCauses q ++ (cause 12 (length out < t .limits .gates) ∷ []))
+rowCauses t a q out = tableCauses t a ++ (queryCauses q ++ (cause 12 (length out < t .limits .gates) ∷ []))
 
 pub answer-in-words : (t : Table) (a : Arrays) (q : Query) (out : List ℕ) → InWords (answerRows t a q out) (rowCauses t a q out)
 answer-in-words t a q out =
-    more 13 (omega arith) (is-record t)
-    (more 5 (omega arith) (is-short (t .limits) a)
-    (words-append (query-in-words q) (more 12 (omega arith) (is-lt (length out) (t .limits .gates)) done)))
+    words-append (table-in-words t a) (words-append (query-in-words q) (more 12 (omega arith) (is-lt (length out) (t .limits .gates)) done))
+
+-- a write, up to row 12
+is-missing : (t : Table) (w k : ℕ) → Decides (NoNode t w k) (nodeRow t w k .holds)
+is-missing t w k = record { to = λ e. to (notAWidth t w) refl e; from = λ c. from (notAWidth t w) refl c }
+  where
+    out-of : Decides ((w ≡ 0) ⊎ (t .limits .qubits < w)) (notAWidth t w)
+    out-of = is-or (is-eq w 0) (is-lt (t .limits .qubits) w)
+
+    to : (b : Bool) → notAWidth t w ≡ b → not (ltb k (pick b 0 (widthAt t w .count))) ≡ true → NoNode t w k
+    to true f e = no-width (out-of .to f)
+    to false f e = too-few (ltb-false k (widthAt t w .count) (not-true _ e))
+
+    from : (b : Bool) → notAWidth t w ≡ b → NoNode t w k → not (ltb k (pick b 0 (widthAt t w .count))) ≡ true
+    from true f c = let z = le-ltb k 0 (omega arith) in rw z
+    from false f (no-width c) = clash (out-of .from c) f
+    from false f (too-few c) = let z = le-ltb k (widthAt t w .count) c in rw z
+
+abbrev pub writeRowCauses : Table → Arrays → ℕ → ℕ → List ℕ → List Cause
+writeRowCauses t a w k out = tableCauses t a ++ (cause 16 (NoNode t w k) ∷ cause 12 (length out < t .limits .gates) ∷ [])
+
+pub write-in-words : (t : Table) (a : Arrays) (w k : ℕ) (out : List ℕ) → InWords (writeRows t a w k out) (writeRowCauses t a w k out)
+write-in-words t a w k out =
+    words-append (table-in-words t a) (more 16 (omega arith) (is-missing t w k) (more 12 (omega arith) (is-lt (length out) (t .limits .gates)) done))

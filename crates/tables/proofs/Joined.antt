@@ -14,7 +14,7 @@ use Rattle.exact.specs.Matrix.{Exact}
 use Rattle.exact.specs.Fingerprint.{fingerprint}
 use Rattle.walk.specs.Lookup.{Lookup, found, lowestOf, lowestFrom}
 use Rattle.walk.specs.Lookup as lookup
-use Rattle.walk.specs.Chains.{good, chainOf}
+use Rattle.walk.specs.Chains.{Chain, good, chainOf}
 use Rattle.walk.specs.Walk.{Node, root, gate, listAt}
 use Rattle.walk.proofs.Nodewise.{lowest, recheck, answerBy, answersTo, oldestFirst, answered}
 use Rattle.walk.specs.AtWidth.{samePrint, atWidth, built, printOf, parentOf}
@@ -23,8 +23,11 @@ use Rattle.walk.proofs.Layers.{walk-shape}
 use Rattle.walk.proofs.Rechecks.{recheck-exactly}
 use Rattle.walk.proofs.Held.{chain-is}
 use Rattle.walk.proofs.Exactly.{print-is}
-use Rattle.walk.specs.Answers.{WidthLimits, partWith, rechecked, given, Outcome, outcome, ofChain, ofLookup, answerOf}
+use Rattle.walk.specs.Finds.{WidthLimits, Part, partWith, rechecked, Finding, node, chainAt, byChain, byLookup, findOf}
+use Rattle.walk.specs.Finds as finds
+use Rattle.walk.specs.Answers.{given, Outcome, outcome, writeOf, thenWrite, answerOf}
 use Rattle.walk.specs.Answers as a
+use Rattle.walk.proofs.Meaning.{written-good}
 use Rattle.walk.proofs.Rechecked.{rechecked-exactly}
 
 -- what a width that a build left answers, as an outcome with the lent list
@@ -120,30 +123,35 @@ module _ (n basis : ℕ) (small : n ≤ 5) where
             let z : 0 + j ≡ j = omega arith in
             ap (λ (i : ℕ). eqb (getD f i 0) (fingerprint n x)) z ∙ ap (λ (p : ℕ). eqb p (fingerprint n x)) (h .prints j l ∙ print-is n basis (getD ns j root))
 
+    abbrev part : Part
+    part = partWith f u c (length ns)
+
     module _ (x : Exact) (out : List ℕ) where
-      -- a list by the recheck's answer
-      by-test : (l : List ℕ) (t : Bool)
-          → pick t (outcome (given (length (reverse l))) (reverse l ++ drop (length (reverse l)) out)) (outcome a.none out)
-          ≡ toldOption (oldestFirst (pick t (some l) none)) out
-      by-test l true = refl
-      by-test l false = refl
+      -- a find, followed by the write of the node found
+      abbrev after : Finding → Outcome
+      after g = thenWrite (λ k. writeOf at part k out) out g
 
-      -- a node's answer
+      -- a node's answer, by its recheck
+      by-test : (j : ℕ) → j < length ns → (t : Bool)
+          → after (pick t (node j (length (reverse (listAt ns j)))) finds.none) ≡ toldOption (oldestFirst (pick t (some (listAt ns j)) none)) out
+      by-test j l true = written-good at part j out (chain j l)
+      by-test j l false = refl
+
       at-node : (j : ℕ) → j < length ns
-          → ofChain n x out (chainOf n basis u c G j)
-          ≡ toldOption (oldestFirst (pick (recheck (atWidth n basis) (listAt ns j) x) (some (listAt ns j)) none)) out
+          → after (byChain n x j finds.none (chainAt at part j)) ≡ toldOption (oldestFirst (pick (recheck (atWidth n basis) (listAt ns j) x) (some (listAt ns j)) none)) out
       at-node j l =
-          ap (ofChain n x out) (chain j l) ∙ rw (recheck-same (listAt ns j) x) (by-test (listAt ns j) (recheck (atWidth n basis) (listAt ns j) x))
+          ap (λ (k : Chain). after (byChain n x j finds.none k)) (chain j l)
+          ∙ rw (recheck-same (listAt ns j) x) (by-test j l (recheck (atWidth n basis) (listAt ns j) x))
 
-      told : answerOf at (partWith f u c (length ns)) x out ≡ toldOption (answered n basis G E x) out
-      unfolding answerOf answerBy
-      told = ap (ofLookup at (partWith f u c (length ns)) x out) (looked-up x) ∙ by (ltb k (length ns)) refl
+      told : answerOf at part x out ≡ toldOption (answered n basis G E x) out
+      unfolding answerOf findOf answerBy
+      told = ap (λ (g : Lookup). after (byLookup at part x finds.none g)) (looked-up x) ∙ by (ltb k (length ns)) refl
         where
           k : ℕ
           k = lowest (answersTo (atWidth n basis) x) ns
 
           by : (t : Bool) → ltb k (length ns) ≡ t
-              → ofLookup at (partWith f u c (length ns)) x out (pick t (found k) lookup.none)
+              → after (byLookup at part x finds.none (pick t (found k) lookup.none))
               ≡ toldOption (oldestFirst (pick t (pick (recheck (atWidth n basis) (listAt ns k) x) (some (listAt ns k)) none) none)) out
           by true e = at-node k (ltb-true k (length ns) e)
           by false e = refl
@@ -152,3 +160,7 @@ module _ (n basis : ℕ) (small : n ≤ 5) where
 pub joined : (n basis G E : ℕ) → n ≤ 5 → (f u c : List ℕ) → Holding n basis (built n basis G E .nodes) f u c → (x : Exact) (out : List ℕ)
     → answerOf (record { width = n; basis = basis; gates = G; entries = E }) (partWith f u c (length (built n basis G E .nodes))) x out ≡ toldOption (answered n basis G E x) out
 joined n basis G E small f u c h x out = told n basis small G E h x out
+
+pub chain-held : (n basis : ℕ) → n ≤ 5 → (G E : ℕ) {f u c : List ℕ} → Holding n basis (built n basis G E .nodes) f u c → (j : ℕ) → j < length (built n basis G E .nodes)
+    → chainOf n basis u c G j ≡ good (reverse (listAt (built n basis G E .nodes) j))
+chain-held n basis small G E h j l = chain n basis small G E h j l

@@ -8,11 +8,13 @@ pub mod Filled
 pub mod FromBuild
 pub mod Counts
 pub mod Joined
+pub mod Asked
 pub mod Replies
 pub mod OfBuilt
 pub mod Demand2
 pub mod Demand3
 pub mod ListExactly
+pub mod FindWrite
 pub mod Exactly
 pub mod Refused
 pub mod Samples

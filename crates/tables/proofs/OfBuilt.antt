@@ -1,11 +1,11 @@
 -- What a built table answers: rows 13 and 5 do not refuse it, and a width that it has answers as the walk does. Assumes nothing.
 use mathlib.Core.Path.{_≡_, refl, sym, ap, _∙_}
-use mathlib.Core.Bool.{false}
-use mathlib.Core.List.{List, [], _∷_, _++_}
+use mathlib.Core.Bool.{Bool, true, false}
+use mathlib.Core.List.{List, [], _∷_, _++_, reverse}
 use mathlib.Core.Option.{Option, none, some}
 use Prim.Native.Nat.{ℕ, _+_, _-_, _*_, _≤_, _<_}
 use native.Mathlib.Omega.{arith}
-use borrow.Author.Tests.{ltb-false}
+use borrow.Author.Tests.{ltb-false, le-ltb, ne-eqb}
 use lib.Dec.{eqb, ltb}
 use lib.IntN.{ℤ}
 use lib.ListN.{length, getD, drop}
@@ -15,11 +15,14 @@ use Rattle.exact.specs.Matrix.{Exact, Lowest, allDivisible}
 use Rattle.exact.proofs.Values.{pick-ind}
 use Rattle.exact.specs.Places.{read, held}
 use Rattle.walk.proofs.Nodewise.{answered}
-use Rattle.walk.specs.Answers.{partWith, given, refused, outcome, answerOf}
+use Rattle.walk.specs.Walk.{listAt}
+use Rattle.walk.specs.Chains.{good}
+use Rattle.walk.specs.Finds.{partWith, chainAt}
+use Rattle.walk.specs.Answers.{given, refused, outcome, answerOf}
 use Rattle.walk.specs.Answers as a
 use Rattle.walk.proofs.Meaning.{kind-of}
 use Rattle.tables.specs.Checks.{Row, firstRow, Arrays, placesOf, roomRow, queryRows}
-use Rattle.tables.specs.Tables.{Table, Width, widthAt, walkOf, Query, query, matrixOf, recordRow, listRow, partOf, notAWidth, synthesized, limitsAt, partAt}
+use Rattle.tables.specs.Tables.{Table, Width, widthAt, walkOf, Query, query, matrixOf, recordRow, listRow, partOf, notAWidth, countAt, synthesized, limitsAt, partAt}
 use Rattle.tables.specs.Built.{Built}
 use Rattle.tables.specs.Demand3.{Gives}
 use Rattle.tables.proofs.Rows.{numbered-query, first-past, append-none}
@@ -29,7 +32,7 @@ use Rattle.tables.proofs.Accepted.{above, accepted, roomy}
 use Rattle.tables.proofs.Filled.{part-length, room-at}
 use Rattle.tables.proofs.FromBuild.{walk-count}
 use Rattle.tables.proofs.Counts.{width-is, good-record}
-use Rattle.tables.proofs.Joined.{toldOption, Holding, joined}
+use Rattle.tables.proofs.Joined.{toldOption, Holding, chain-held, joined}
 use Rattle.tables.proofs.Replies.{not-given, one-list, rowOfAnswer, width-asked, gives-asked}
 
 -- ---- numbers of rows
@@ -51,11 +54,22 @@ first-up-to m (r ∷ rs) u = pick-ind (λ (z : ℕ). z ≤ m) (r .holds) (λ e. 
 pub asked-lowest : (n k : ℕ) (bytes : List ℤ) → firstRow (queryRows n k bytes) ≡ 0 → Lowest n (held n k bytes)
 asked-lowest n k bytes e = record { lowest = λ h. fails (is-true (allDivisible n (read n bytes))) (λ d. none-to (query-in-words (query n k bytes)) e .1 .1 .1 .0 0 ((h, d), refl)) }
 
--- a width that a table has
-pub a-width : (t : Table) (q : Query) → notAWidth t q ≡ false → (0 < q .width) × (q .width ≤ t .limits .qubits)
-a-width t q e =
-    let p = neither (eqb (q .width) 0) (ltb (t .limits .qubits) (q .width)) e in
-    (above (q .width) (p .0), ltb-false (t .limits .qubits) (q .width) (p .1))
+-- a width that a table has, and back
+pub has-width : (t : Table) (w : ℕ) → 0 < w → w ≤ t .limits .qubits → notAWidth t w ≡ false
+has-width t w p h = rw (ne-eqb w 0 (omega arith), le-ltb (t .limits .qubits) w h)
+
+pub a-width : (t : Table) (w : ℕ) → notAWidth t w ≡ false → (0 < w) × (w ≤ t .limits .qubits)
+a-width t w e =
+    let p = neither (eqb w 0) (ltb (t .limits .qubits) w) e in
+    (above w (p .0), ltb-false (t .limits .qubits) w (p .1))
+
+-- a width with entries is one that the table has
+pub counted : (t : Table) (w : ℕ) {k : ℕ} → k < countAt t w → (0 < w) × (w ≤ t .limits .qubits) × (countAt t w ≡ widthAt t w .count)
+counted t w h = by (notAWidth t w) refl
+  where
+    by : (b : Bool) → notAWidth t w ≡ b → (0 < w) × (w ≤ t .limits .qubits) × (countAt t w ≡ widthAt t w .count)
+    by true e = let z : countAt t w ≡ 0 = rw e in absurd (omega (arith, h, z))
+    by false e = let (p, q) = a-width t w e in (p, q, rw e)
 
 -- ---- an answer of the walk, told
 
@@ -134,13 +148,17 @@ module _ (t : Table) (a : Arrays) (b : Built t a) where
           codes = λ j l. in-part (a .codes) j (omega (arith, few)) ∙ b .nodes w p h j l .code;
         }
 
+    -- a node's chain is its list
+    pub chain-at : (k : ℕ) → k < widthAt t w .count → chainAt (limitsAt (t .limits) w) (partAt t a w) k ≡ good (reverse (listAt (walkOf (t .limits) w .nodes) k))
+    chain-at k l = chain-held w B (widths-small w h) G E holding k (omega (arith, l, ap (λ (v : Width). v .count) (width-is t a b w p h)))
+
     -- it answers as the walk does
     pub part-answers : (x : Exact) (out : List ℕ)
         → answerOf (limitsAt (t .limits) w) (partAt t a w) x out
         ≡ toldOption (answered w B G E x) out
     part-answers x out =
-        ap (λ (v : Width). answerOf (limitsAt (t .limits) w) (partWith (partOf w E (a .prints)) (partOf w E (a .parents)) (partOf w E (a .codes)) (v .count)) x out)
-        (width-is t a b w p h)
+        ap (λ (j : ℕ). answerOf (limitsAt (t .limits) w) (partWith (partOf w E (a .prints)) (partOf w E (a .parents)) (partOf w E (a .codes)) j) x out)
+        (rw (has-width t w p h) (ap (λ (v : Width). v .count) (width-is t a b w p h)))
         ∙ joined w B G E (widths-small w h) (partOf w E (a .prints)) (partOf w E (a .parents))
         (partOf w E (a .codes)) holding x out
 
@@ -148,8 +166,8 @@ module _ (t : Table) (a : Arrays) (b : Built t a) where
 
   module _ (q : Query) (out : List ℕ) where
     -- that no row refuses, of a width that the table has
-    pub told-walk : rowOfAnswer t a q out ≡ 0 → notAWidth t q ≡ false → synthesized t a q out ≡ toldOption (answered (q .width) B G E (matrixOf q)) out
-    told-walk e f = let w = a-width t q f in width-asked t a q out e f ∙ part-answers (q .width) (w .0) (w .1) (matrixOf q) out
+    pub told-walk : rowOfAnswer t a q out ≡ 0 → notAWidth t (q .width) ≡ false → synthesized t a q out ≡ toldOption (answered (q .width) B G E (matrixOf q)) out
+    told-walk e f = let w = a-width t (q .width) f in width-asked t a q out e f ∙ part-answers (q .width) (w .0) (w .1) (matrixOf q) out
 
     -- a list is the walk's
     pub gives-walk : (l : List ℕ) → Gives t a q out l → answered (q .width) B G E (matrixOf q) ≡ some l

@@ -34,7 +34,7 @@ module _ (t : Table) (a : Arrays) (q : Query) (out : List ℕ) where
   -- a refusal comes from the first row that holds, or is 13 for the chain found
   data Refusal (r : ℕ) : Type 0 where
     row-holds : 0 < r → rowOfAnswer t a q out ≡ r → Refusal r
-    chain-bad : r ≡ 13 → rowOfAnswer t a q out ≡ 0 → notAWidth t q ≡ false → BadPart → Refusal r
+    chain-bad : r ≡ 13 → rowOfAnswer t a q out ≡ 0 → notAWidth t (q .width) ≡ false → BadPart → Refusal r
 
   refused-by : (r : ℕ) → Refuses t a q out r → Refusal r
   refused-by r n = by (cases t a q out)
@@ -45,24 +45,24 @@ module _ (t : Table) (a : Arrays) (q : Query) (out : List ℕ) where
       by (by-row s h e m) = let z = number-of (sym m ∙ n) in row-holds (omega arith) (e ∙ z)
 
   -- none is told exactly where no row holds, and the table has not the width or the part of the width has no list
-  pub none-exactly : GivesNone t a q out ↔ ((rowOfAnswer t a q out ≡ 0) × ((notAWidth t q ≡ true) ⊎ ((notAWidth t q ≡ false) × NoPart)))
+  pub none-exactly : GivesNone t a q out ↔ ((rowOfAnswer t a q out ≡ 0) × ((notAWidth t (q .width) ≡ true) ⊎ ((notAWidth t (q .width) ≡ false) × NoPart)))
   none-exactly = (to, from)
     where
-      to : GivesNone t a q out → (rowOfAnswer t a q out ≡ 0) × ((notAWidth t q ≡ true) ⊎ ((notAWidth t q ≡ false) × NoPart))
+      to : GivesNone t a q out → (rowOfAnswer t a q out ≡ 0) × ((notAWidth t (q .width) ≡ true) ⊎ ((notAWidth t (q .width) ≡ false) × NoPart))
       to n = by (cases t a q out)
         where
-          by : ReplyCase t a q out → (rowOfAnswer t a q out ≡ 0) × ((notAWidth t q ≡ true) ⊎ ((notAWidth t q ≡ false) × NoPart))
+          by : ReplyCase t a q out → (rowOfAnswer t a q out ≡ 0) × ((notAWidth t (q .width) ≡ true) ⊎ ((notAWidth t (q .width) ≡ false) × NoPart))
           by (not-a-width e w m) = (e, inl w)
           by (part-asked e w p) = (e, inr (w, asked-means t a q out .is-none out .0 (sym p ∙ n) .0))
           by (by-row s h e m) = absurd (omega (arith, kind-of (sym m ∙ n)))
 
-      from : (rowOfAnswer t a q out ≡ 0) × ((notAWidth t q ≡ true) ⊎ ((notAWidth t q ≡ false) × NoPart)) → GivesNone t a q out
+      from : (rowOfAnswer t a q out ≡ 0) × ((notAWidth t (q .width) ≡ true) ⊎ ((notAWidth t (q .width) ≡ false) × NoPart)) → GivesNone t a q out
       from (e, inl w) = width-none t a q out e w
       from (e, inr (w, x)) = width-asked t a q out e w ∙ asked-means t a q out .is-none out .1 (x, refl)
 
   -- a list is given exactly where no row holds, the table has the width, and the part of the width has the list
   pub gives-exactly : (l : List ℕ) → Gives t a q out l
-      ↔ ((rowOfAnswer t a q out ≡ 0) × (notAWidth t q ≡ false)
+      ↔ ((rowOfAnswer t a q out ≡ 0) × (notAWidth t (q .width) ≡ false)
       × AnsweredBy (limitsAt (t .limits) (q .width)) (partAt t a (q .width)) (matrixOf q) l)
   gives-exactly l = (
     (λ g. let (e, w, p) = gives-asked t a q out l g in (e, w, gives-answers t a q out l g)),

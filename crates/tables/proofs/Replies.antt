@@ -12,7 +12,8 @@ use Rattle.walk.specs.Answers.{Reply, given, none, refused, Outcome, outcome}
 use Rattle.walk.specs.Meaning.{AnsweredBy, Means, Right}
 use Rattle.walk.proofs.Meaning.{kind, size, kind-of, means, answers-right}
 use Rattle.tables.specs.Checks.{firstRow, Arrays}
-use Rattle.tables.specs.Tables.{Table, widthAt, Query, matrixOf, answerRows, partOf, partAsked, notAWidth, repliedBy, synthesized, limitsAt, partAt}
+use Rattle.tables.specs.Tables.{Table, Query, matrixOf, answerRows, notAWidth, synthesized, limitsAt, partAt}
+use Rattle.tables.proofs.Asked.{partAsked, no-part, answer-passed, answer-refused, asked-by}
 use Rattle.tables.specs.Demand3.{Gives, GivesNone, Refuses, NotRefused, Decided, a-list, no-list, a-refusal}
 
 -- ---- one answer is one case alone
@@ -45,43 +46,40 @@ module _ (t : Table) (a : Arrays) (q : Query) (out : List ℕ) where
   rowOfAnswer = firstRow (answerRows t a q out)
 
   pub data ReplyCase : Type 0 where
-    not-a-width : rowOfAnswer ≡ 0 → notAWidth t q ≡ true → GivesNone t a q out → ReplyCase
-    part-asked : rowOfAnswer ≡ 0 → notAWidth t q ≡ false → synthesized t a q out ≡ partAsked t a q out → ReplyCase
+    not-a-width : rowOfAnswer ≡ 0 → notAWidth t (q .width) ≡ true → GivesNone t a q out → ReplyCase
+    part-asked : rowOfAnswer ≡ 0 → notAWidth t (q .width) ≡ false → synthesized t a q out ≡ partAsked t a q out → ReplyCase
     by-row : (r : ℕ) → 0 < r → rowOfAnswer ≡ r → Refuses t a q out r → ReplyCase
 
   -- ---- from the rows to the answer
 
   pub row-refuses : (r : ℕ) → 0 < r → rowOfAnswer ≡ r → Refuses t a q out r
-  unfolding synthesized
-  row-refuses r h e = ap (repliedBy t a q out) e ∙ rw (ne-eqb r 0 (omega arith))
+  row-refuses = answer-refused t a q out
 
-  pub width-none : rowOfAnswer ≡ 0 → notAWidth t q ≡ true → GivesNone t a q out
-  unfolding synthesized
-  width-none e f = ap (repliedBy t a q out) e ∙ rw f
+  pub width-none : rowOfAnswer ≡ 0 → notAWidth t (q .width) ≡ true → GivesNone t a q out
+  width-none e f = answer-passed t a q out e ∙ asked-by t a q out (no-part t a q f)
 
-  pub width-asked : rowOfAnswer ≡ 0 → notAWidth t q ≡ false → synthesized t a q out ≡ partAsked t a q out
-  unfolding synthesized
-  width-asked e f = ap (repliedBy t a q out) e ∙ rw f
+  pub width-asked : rowOfAnswer ≡ 0 → notAWidth t (q .width) ≡ false → synthesized t a q out ≡ partAsked t a q out
+  width-asked e f = answer-passed t a q out e
 
   pub cases : ReplyCase
   cases = by rowOfAnswer refl
     where
-      at : rowOfAnswer ≡ 0 → (b : Bool) → notAWidth t q ≡ b → ReplyCase
+      at : rowOfAnswer ≡ 0 → (b : Bool) → notAWidth t (q .width) ≡ b → ReplyCase
       at e true f = not-a-width e f (width-none e f)
       at e false f = part-asked e f (width-asked e f)
 
       by : (r : ℕ) → rowOfAnswer ≡ r → ReplyCase
-      by zero e = at e (notAWidth t q) refl
+      by zero e = at e (notAWidth t (q .width)) refl
       by (suc r) e = by-row (suc r) (omega arith) e (row-refuses (suc r) (omega arith) e)
 
   -- ---- and back
 
   -- a list comes from the part of the width
   pub gives-asked : (l : List ℕ) → Gives t a q out l
-      → (rowOfAnswer ≡ 0) × (notAWidth t q ≡ false) × (partAsked t a q out ≡ outcome (given (length l)) (l ++ drop (length l) out))
+      → (rowOfAnswer ≡ 0) × (notAWidth t (q .width) ≡ false) × (partAsked t a q out ≡ outcome (given (length l)) (l ++ drop (length l) out))
   gives-asked l g = by cases
     where
-      by : ReplyCase → (rowOfAnswer ≡ 0) × (notAWidth t q ≡ false) × (partAsked t a q out ≡ outcome (given (length l)) (l ++ drop (length l) out))
+      by : ReplyCase → (rowOfAnswer ≡ 0) × (notAWidth t (q .width) ≡ false) × (partAsked t a q out ≡ outcome (given (length l)) (l ++ drop (length l) out))
       by (not-a-width e f n) = not-given (omega arith) (sym n ∙ g)
       by (part-asked e f p) = (e, f, sym p ∙ g)
       by (by-row r h e n) = not-given (omega arith) (sym n ∙ g)

@@ -33,6 +33,11 @@ pub first-past : (r : Row) (rs : List Row) → r .holds ≡ false → firstRow (
 unfolding firstRow
 first-past r rs e = rw e
 
+-- the last row does not hold
+pub first-last : (r : Row) → r .holds ≡ false → firstRow (r ∷ []) ≡ 0
+unfolding firstRow
+first-last r e = rw e
+
 -- where no row holds, the first one does not, and none of the rest does
 pub first-none : (r : Row) (rs : List Row) → 0 < r .number → firstRow (r ∷ rs) ≡ 0 → (r .holds ≡ false) × (firstRow rs ≡ 0)
 unfolding firstRow

@@ -1,13 +1,13 @@
 -- What the samples state: computed, or from demand 3. Assumes nothing.
 use mathlib.Core.Path.{_≡_, refl, sym, ap, _∙_, subst}
 use mathlib.Core.Logic.{_⊎_, inl, inr}
-use mathlib.Core.Bool.{false}
+use mathlib.Core.Bool.{true, false}
 use mathlib.Core.List.{List, [], _∷_}
 use mathlib.Core.Option.{Option, none, some}
 use Prim.Native.Nat.{ℕ, zero, suc, _^_, _≤_, _<_}
 use native.Mathlib.Omega.{arith}
-use borrow.Author.Tests.{lt-ltb, le-ltb, eq-eqb}
-use lib.Dec.{eqb}
+use borrow.Author.Tests.{lt-ltb, le-ltb, ltb-true, eq-eqb}
+use lib.Dec.{eqb, ltb}
 use lib.IntN.{pos}
 use lib.ListN.{length}
 use Rattle.ints.specs.Bits.{bit}
@@ -42,20 +42,23 @@ use Rattle.walk.proofs.Layers.{walk-shape}
 use Rattle.walk.proofs.Known.{present-no-clash}
 use Rattle.walk.proofs.Exactly.{no-clash}
 use Rattle.walk.proofs.NotEmpty.{no-shared, unsaturated}
-use Rattle.walk.specs.Answers.{rechecked, answerOf}
+use Rattle.walk.specs.Finds.{rechecked, findOf}
+use Rattle.walk.specs.Answers.{writeOf}
 use Rattle.walk.proofs.Meaning.{kind-of}
 use Rattle.tables.specs.Checks.{firstRow, Limits, limitRows, Arrays, placesOf, roomRow, anyBelow, queryRows}
-use Rattle.tables.specs.Tables.{recordOf, builtTo, buildRows, Query, matrixOf, listRow, synthesized}
+use Rattle.tables.specs.Tables.{widthAt, recordOf, builtTo, buildRows, Query, matrixOf, listRow, foundIn, writtenIn, synthesized}
 use Rattle.tables.specs.Built.{Built}
 use Rattle.tables.specs.Demand3.{Gives, GivesNone, Refuses, NotRefused, NoSmaller, Reaches, Complete}
-use Rattle.tables.specs.Samples.{xLimits, largerLimits, chLimits, Places, askX, askT, askZero, lent, damaged, mistaken, circular, foreign, forgotten, Samples}
+use Rattle.tables.specs.Samples.{xLimits, largerLimits, chLimits, Places, askX, askT, askZero, lent, damaged, mistaken, circular, foreign, forgotten, strange, fewer, Samples}
 use Rattle.tables.proofs.Rows.{numbered-limits, numbered-query, first-here, first-past, firstRow-append}
 use Rattle.tables.proofs.Accepted.{room-is}
 use Rattle.tables.proofs.FromBuild.{build-fills, build-refusal}
 use Rattle.tables.proofs.Joined.{toldOption}
 use Rattle.tables.proofs.Replies.{rowOfAnswer, row-refuses}
-use Rattle.tables.proofs.OfBuilt.{not-refusal, rows-are, told-walk}
-use Rattle.tables.proofs.Demand3.{has-width, demand}
+use Rattle.tables.proofs.OfBuilt.{has-width, not-refusal, rows-are, told-walk}
+use Rattle.tables.proofs.Demand3.{demand}
+use Rattle.tables.proofs.FindWrite.{find-write}
+use Rattle.tables.specs.FindWrite.{Finds, FindsNone, FindRefuses, Writes, WriteRefuses}
 
 -- ---- computed
 
@@ -102,12 +105,23 @@ record Computed : Type 0 where
   circular-x : Refuses (recordOf xLimits) circular askX lent 13
   foreign-x : Refuses (recordOf xLimits) foreign askX lent 13
   forgotten-x : GivesNone (recordOf xLimits) forgotten askX lent
+  damaged-find : Finds (recordOf xLimits) damaged askX 1 1
+  damaged-write : Writes (recordOf xLimits) damaged 1 1 lent (4096 ∷ [])
+  mistaken-find : FindsNone (recordOf xLimits) mistaken askT
+  mistaken-write : Writes (recordOf xLimits) mistaken 1 1 lent (4096 ∷ [])
+  circular-find : FindRefuses (recordOf xLimits) circular askX 13
+  circular-write : WriteRefuses (recordOf xLimits) circular 1 1 lent 13
+  circular-short : WriteRefuses (recordOf xLimits) circular 1 1 [] 12 × Refuses (recordOf xLimits) circular askX [] 12
+  no-node : WriteRefuses (recordOf xLimits) circular 1 2 [] 16
+  past-count : FindsNone fewer damaged askX × WriteRefuses fewer damaged 1 1 lent 16
+  strange-count : ltb 0 (widthAt strange 2 .count) ≡ true
+  no-width : WriteRefuses strange damaged 2 0 lent 16 × WriteRefuses strange damaged 0 0 lent 16 × WriteRefuses strange damaged 4294967295 0 lent 16
   root-print : eqb 7 (fingerprint 1 identity) ≡ false
   -- X is of the basis
   x-of : ListOf 1 2 (4096 ∷ [])
 
 computed : Computed
-unfolding ofTables synthesized recordOf firstRow subset anyBelow answerOf lowestFrom chainOf marked rechecked steps answerBy recheck upToPhase eqω product walk depths deeper layer tryAll try skipped samePrint fingerprint mix fold Words.product rotated word pivot phaseOf leastUpTo less turn zeroω oneω isZero gateOf column flip lower stepFits fits valid validFor placed rises all elem distinct range each kept generators kindAt arity sorted isKind number dual inverse qubits disjoint bit entry
+unfolding ofTables synthesized foundIn writtenIn recordOf firstRow subset anyBelow findOf writeOf lowestFrom chainOf marked rechecked steps answerBy recheck upToPhase eqω product walk depths deeper layer tryAll try skipped samePrint fingerprint mix fold Words.product rotated word pivot phaseOf leastUpTo less turn zeroω oneω isZero gateOf column flip lower stepFits fits valid validFor placed rises all elem distinct range each kept generators kindAt arity sorted isKind number dual inverse qubits disjoint bit entry
 computed = record {
   ch-limits = λ a. refl;
   x-limits = refl;
@@ -122,6 +136,17 @@ computed = record {
   circular-x = refl;
   foreign-x = refl;
   forgotten-x = refl;
+  damaged-find = refl;
+  damaged-write = refl;
+  mistaken-find = refl;
+  mistaken-write = refl;
+  circular-find = refl;
+  circular-write = refl;
+  circular-short = (refl, refl);
+  no-node = refl;
+  past-count = (refl, refl);
+  strange-count = refl;
+  no-width = (refl, refl, refl);
   root-print = refl;
   x-of = refl;
 }
@@ -152,7 +177,7 @@ module _ (l : Limits) (a : Arrays) (b : Built (recordOf l) a) (q : Query) (out :
   unfolding recordOf firstRow
   told h p w =
       told-walk (recordOf l) a b q out (only-12 ∙ first-past (listRow (recordOf l) out) [] (le-ltb (length out) (l .gates) h))
-      (has-width (recordOf l) q p w)
+      (has-width (recordOf l) (q .width) p w)
 
   too-short : length out < l .gates → Refuses (recordOf l) a q out 12
   unfolding recordOf
@@ -179,6 +204,10 @@ module _ (a : Arrays) (p : Places 2 a) where
   none-t out h =
       told xLimits (builtTo xLimits 1 a) a-table askT out (computed .t-passes) h (omega arith) (omega arith)
       ∙ ap (λ (o : Option (List ℕ)). toldOption o out) (computed .walk-t)
+
+  finds-none-t : FindsNone (recordOf xLimits) (builtTo xLimits 1 a) askT
+  unfolding recordOf
+  finds-none-t = find-write .none-same (recordOf xLimits) (builtTo xLimits 1 a) askT lent (omega arith) .1 (none-t lent (omega arith))
 
   -- none is no refusal
   not-refused : NotRefused (recordOf xLimits) (builtTo xLimits 1 a) askT lent
@@ -281,4 +310,17 @@ samples = record {
   zero-not-unitary = zero-not-unitary;
   zero-passes = λ a p out h. zero-passes a p out h;
   none-zero = λ a p out h. demand .not-unitary (recordOf xLimits) (builtTo xLimits 1 a) askZero out (zero-passes a p out h) zero-not-unitary;
+  finds-x = λ a p. find-write .given-found (recordOf xLimits) (builtTo xLimits 1 a) askX lent (4096 ∷ []) (gives-x a p lent (omega arith));
+  finds-none-t = λ a p. finds-none-t a p;
+  damaged-find = computed .damaged-find;
+  damaged-write = computed .damaged-write;
+  mistaken-find = computed .mistaken-find;
+  mistaken-write = computed .mistaken-write;
+  circular-find = computed .circular-find;
+  circular-write = computed .circular-write;
+  circular-short = computed .circular-short;
+  no-node = computed .no-node;
+  past-count = computed .past-count;
+  strange-count = ltb-true 0 (widthAt strange 2 .count) (computed .strange-count);
+  no-width = computed .no-width;
 }

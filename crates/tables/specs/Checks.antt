@@ -65,8 +65,11 @@ abbrev pub tooShort : Limits → ℕ → ℕ → ℕ → Bool
 tooShort l f u c = ltb f (placesOf l) || (ltb u (placesOf l) || ltb c (placesOf l))
 
 -- row 5 (SPECIFICATION 9.1)
+abbrev pub shortRow : Limits → ℕ → ℕ → ℕ → Row
+shortRow l f u c = row (tooShort l f u c) 5
+
 abbrev pub roomRow : Limits → Arrays → Row
-roomRow l a = row (tooShort l (length (a .prints)) (length (a .parents)) (length (a .codes))) 5
+roomRow l a = shortRow l (length (a .prints)) (length (a .parents)) (length (a .codes))
 
 -- ---- a query
 

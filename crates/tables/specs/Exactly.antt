@@ -1,7 +1,7 @@
 -- Which input is refused, by which number and at which position, exactly (SPECIFICATION 9.1 to 9.3): the rows of each public entry in words,
--- in their order; a build, an answer and a list are refused by a row exactly where it holds and none before it does. The rows are told again
--- here, as what is so and not as a test, so that the tests of Checks, Tables and Lists are checked against them. Tests of the lower floors, as
--- `subset`, `valid` and `allDivisible`, are taken as they are. Assumes nothing.
+-- in their order; a build, a find, a write, an answer and a list are refused by a row exactly where it holds and none before it does. The rows
+-- are told again here, as what is so and not as a test, so that the tests of Checks, Tables and Lists are checked against them. Tests of the
+-- lower floors, as `subset`, `valid` and `allDivisible`, are taken as they are. Assumes nothing.
 use mathlib.Core.Path.{_≡_}
 use mathlib.Core.Logic.{_↔_, _⊎_}
 use mathlib.Core.Bool.{true, false}
@@ -17,10 +17,11 @@ use Rattle.exact.specs.Lists.{product}
 use Rattle.exact.specs.Fits.{FirstPast}
 use Rattle.exact.specs.Answers as e
 use Rattle.exact.specs.Places.{read}
+use Rattle.walk.specs.Finds as f
 use Rattle.walk.specs.Answers.{refused, outcome}
-use Rattle.walk.specs.Meaning.{BadFound}
+use Rattle.walk.specs.Meaning.{Fault, BadFound}
 use Rattle.tables.specs.Checks.{Limits, Arrays, placesOf, byteCount}
-use Rattle.tables.specs.Tables.{Table, widthAt, recordOf, builtTo, table, refusal, left, buildOf, Query, matrixOf, limitsAt, partAt, synthesized}
+use Rattle.tables.specs.Tables.{Table, widthAt, recordOf, builtTo, table, refusal, left, buildOf, Query, matrixOf, limitsAt, partAt, foundIn, writtenIn, synthesized}
 use Rattle.tables.specs.Lists as lists
 use Rattle.tables.specs.Lists.{coefficients, listed}
 
@@ -99,12 +100,30 @@ pub record BadChain (t : Table) (a : Arrays) (q : Query) : Type 0 where
   pub has : q .width ≤ t .limits .qubits
   pub fault : BadFound (limitsAt (t .limits) (q .width)) (partAt t a (q .width)) (matrixOf q)
 
--- 13 of the record, 5, 6, 9, 10, 11, 12, 13 of the chain found: the order of an answer
+-- 13 of the record, 5: the order of all that is asked of a table
+abbrev pub tableCauses : Table → Arrays → List Cause
+tableCauses t a = cause 13 (BadRecord t) ∷ cause 5 (Short (t .limits) a) ∷ []
+
+-- then 6, 9, 10, 11, 12, 13 of the chain found: the order of an answer
 abbrev pub answerCauses : Table → Arrays → Query → List ℕ → List Cause
-answerCauses t a q out =
-    cause 13 (BadRecord t)
-    ∷ cause 5 (Short (t .limits) a)
-    ∷ (queryCauses q ++ (cause 12 (length out < t .limits .gates) ∷ cause 13 (BadChain t a q) ∷ []))
+answerCauses t a q out = tableCauses t a ++ (queryCauses q ++ (cause 12 (length out < t .limits .gates) ∷ cause 13 (BadChain t a q) ∷ []))
+
+-- the same but for 12: the order of a find
+abbrev pub findCauses : Table → Arrays → Query → List Cause
+findCauses t a q = tableCauses t a ++ (queryCauses q ++ (cause 13 (BadChain t a q) ∷ []))
+
+-- the table does not have the width, or the width has k nodes or fewer
+pub data NoNode (t : Table) (w k : ℕ) : Type 0 where
+  no-width : (w ≡ 0) ⊎ (t .limits .qubits < w) → NoNode t w k
+  too-few : widthAt t w .count ≤ k → NoNode t w k
+
+-- the way from a node meets a fault
+abbrev pub BadNode : Table → Arrays → ℕ → ℕ → Type 0
+BadNode t a w k = Fault w (t .limits .basis) (t .limits .gates) (partAt t a w .parents) (partAt t a w .codes) k
+
+-- 16, 12, 13 of the node's chain: the order of a write
+abbrev pub writeCauses : Table → Arrays → ℕ → ℕ → List ℕ → List Cause
+writeCauses t a w k out = tableCauses t a ++ (cause 16 (NoNode t w k) ∷ cause 12 (length out < t .limits .gates) ∷ cause 13 (BadNode t a w k) ∷ [])
 
 -- ---- a list
 
@@ -131,6 +150,9 @@ pub record Exactly : Type 0 where
   pub built : (l : Limits) (a : Arrays) → (buildOf l a ≡ left (table (recordOf l)) (builtTo l (l .qubits) a)) ↔ NoCause (buildCauses l a)
   pub answer : (t : Table) (a : Arrays) (q : Query) (out after : List ℕ) (r p : ℕ)
       → (synthesized t a q out ≡ outcome (refused r p) after) ↔ (First r p (answerCauses t a q out) × (after ≡ out))
+  pub find : (t : Table) (a : Arrays) (q : Query) (r p : ℕ) → (foundIn t a q ≡ f.refused r p) ↔ First r p (findCauses t a q)
+  pub write : (t : Table) (a : Arrays) (w k : ℕ) (out after : List ℕ) (r p : ℕ)
+      → (writtenIn t a w k out ≡ outcome (refused r p) after) ↔ (First r p (writeCauses t a w k out) × (after ≡ out))
   pub list : (n : ℕ) (codes : List ℕ) (bytes after : List ℤ) (r p : ℕ)
       → (listed n codes bytes ≡ lists.outcome (e.refused r p) after) ↔ (First r p (listCauses n codes bytes) × (after ≡ bytes))
   pub formed : (n : ℕ) (codes : List ℕ) (bytes : List ℤ)

@@ -2,6 +2,7 @@ pub mod Checks
 pub mod Tables
 pub mod Built
 pub mod Demand3
+pub mod FindWrite
 pub mod Lists
 pub mod Demand2
 pub mod Exactly

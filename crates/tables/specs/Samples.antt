@@ -15,9 +15,10 @@ use Rattle.exact.specs.Fingerprint.{fingerprint}
 use Rattle.walk.specs.AtWidth.{NoSharedPrint}
 use Rattle.walk.specs.Known.{SkippedRightly}
 use Rattle.tables.specs.Checks.{Limits, Arrays, arrays}
-use Rattle.tables.specs.Tables.{walkOf, recordOf, builtTo, table, refusal, left, buildOf, Query, query, matrixOf}
+use Rattle.tables.specs.Tables.{Table, widthAt, rowOf, walkOf, recordOf, builtTo, table, refusal, left, buildOf, Query, query, matrixOf}
 use Rattle.tables.specs.Built.{Built}
 use Rattle.tables.specs.Demand3.{Gives, GivesNone, Refuses, NotRefused, NoSmaller, Reaches, Complete}
+use Rattle.tables.specs.FindWrite.{Finds, FindsNone, FindRefuses, Writes, WriteRefuses}
 
 -- ---- limits and arrays
 
@@ -85,6 +86,14 @@ foreign = arrays (7 ∷ fingerprint 1 (matrixOf askX) ∷ []) (mark ∷ 0 ∷ []
 abbrev pub forgotten : Arrays
 forgotten = arrays (7 ∷ 7 ∷ []) (mark ∷ 0 ∷ []) (mark ∷ 4096 ∷ [])
 
+-- a record of the same limits with counts at widths that the table does not have
+abbrev pub strange : Table
+strange = record { limits = xLimits; widths = rowOf xLimits 1 ∷ rowOf xLimits 1 ∷ rowOf xLimits 1 ∷ [] }
+
+-- a record of the same limits whose width 1 has one node, fewer than E
+abbrev pub fewer : Table
+fewer = record { limits = xLimits; widths = record { count = 1; depth = 0; saturated = false } ∷ [] }
+
 pub record Samples : Type 0 where
   -- the queries are the matrices of X, 4096, and of T, 20480
   pub x-is : Equal 1 (matrixOf askX) (product 1 (4096 ∷ []))
@@ -127,3 +136,21 @@ pub record Samples : Type 0 where
   pub zero-not-unitary : Unitary 1 (matrixOf askZero) → ⊥
   pub zero-passes : (a : Arrays) → Places 2 a → (out : List ℕ) → 8 ≤ length out → NotRefused (recordOf xLimits) (builtTo xLimits 1 a) askZero out
   pub none-zero : (a : Arrays) → Places 2 a → (out : List ℕ) → 8 ≤ length out → GivesNone (recordOf xLimits) (builtTo xLimits 1 a) askZero out
+  -- the same of a find and a write: a built table finds X, and writes its list
+  pub finds-x : (a : Arrays) → Places 2 a → (k : ℕ) × Finds (recordOf xLimits) (builtTo xLimits 1 a) askX k 1 × Writes (recordOf xLimits) (builtTo xLimits 1 a) 1 k lent (4096 ∷ [])
+  pub finds-none-t : (a : Arrays) → Places 2 a → FindsNone (recordOf xLimits) (builtTo xLimits 1 a) askT
+  -- whatever the memory holds, a node found has the product asked; a write looks at no product
+  pub damaged-find : Finds (recordOf xLimits) damaged askX 1 1
+  pub damaged-write : Writes (recordOf xLimits) damaged 1 1 lent (4096 ∷ [])
+  pub mistaken-find : FindsNone (recordOf xLimits) mistaken askT
+  pub mistaken-write : Writes (recordOf xLimits) mistaken 1 1 lent (4096 ∷ [])
+  -- the order of rows: 13 of a chain comes last, 12 before it, 16 before 12
+  pub circular-find : FindRefuses (recordOf xLimits) circular askX 13
+  pub circular-write : WriteRefuses (recordOf xLimits) circular 1 1 lent 13
+  pub circular-short : WriteRefuses (recordOf xLimits) circular 1 1 [] 12 × Refuses (recordOf xLimits) circular askX [] 12
+  pub no-node : WriteRefuses (recordOf xLimits) circular 1 2 [] 16
+  -- what lies past the count is neither found nor written
+  pub past-count : FindsNone fewer damaged askX × WriteRefuses fewer damaged 1 1 lent 16
+  -- widths that the table does not have have no nodes, whatever the record says
+  pub strange-count : 0 < widthAt strange 2 .count
+  pub no-width : WriteRefuses strange damaged 2 0 lent 16 × WriteRefuses strange damaged 0 0 lent 16 × WriteRefuses strange damaged 4294967295 0 lent 16

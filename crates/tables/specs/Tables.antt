@@ -1,5 +1,5 @@
 -- What a build leaves in three lent arrays and returns, and what a lent table answers, for every input (SPECIFICATION, chapters 6 and 7). The
--- contracts of `build` and `synthesize` are these definitions, and the demands are stated of them. Assumes nothing.
+-- contracts of `build`, `find`, `write` and `synthesize` are these definitions, and the demands are stated of them. Assumes nothing.
 use mathlib.Core.Bool.{Bool, false, not, _&&_, _||_}
 use mathlib.Core.List.{List, [], _∷_, _++_, map}
 use Prim.Native.Nat.{ℕ, zero, suc, _*_, _-_}
@@ -11,8 +11,10 @@ use Rattle.exact.specs.Matrix.{Exact}
 use Rattle.exact.specs.Places.{held}
 use Rattle.walk.specs.Walk.{Build, gate, any}
 use Rattle.walk.specs.AtWidth.{built, printOf, parentOf}
-use Rattle.walk.specs.Answers.{WidthLimits, Part, partWith, none, refused, Outcome, outcome, answerOf}
-use Rattle.tables.specs.Checks.{Row, row, firstRow, Limits, limitRows, Arrays, roomRow, queryRows}
+use Rattle.walk.specs.Finds.{WidthLimits, Part, partWith, Finding, findOf}
+use Rattle.walk.specs.Finds as f
+use Rattle.walk.specs.Answers.{refused, Outcome, outcome, writeOf, thenWrite}
+use Rattle.tables.specs.Checks.{Row, row, firstRow, Limits, limitRows, Arrays, shortRow, roomRow, queryRows}
 
 -- ---- the record
 
@@ -110,7 +112,7 @@ leftBy l a r = pick (eqb r 0) (left (table (recordOf l)) (builtTo l (l .qubits) 
 unfoldable pub buildOf : Limits → Arrays → Left
 buildOf l a = leftBy l a (firstRow (buildRows l a))
 
--- ---- an answer
+-- ---- what a table is asked
 
 -- a width, an exponent, and the coefficients of a matrix in the order of the places (SPECIFICATION 7.1)
 pub record Query : Type 0 where
@@ -137,40 +139,88 @@ badCount t w = badCountOf (t .limits .qubits) (t .limits .entries) w (widthAt t 
 abbrev pub recordRow : Table → Row
 recordRow t = row (not (eqb (firstRow (limitRows (t .limits))) 0) || any (badCount t) allWidths) 13
 
--- row 12: the lent list has fewer places than the gate limit (SPECIFICATION 9.1)
-abbrev pub listRow : Table → List ℕ → Row
-listRow t out = row (ltb (length out) (t .limits .gates)) 12
+-- 13 of the record, then 5 of arrays of these lengths: what is tried before a table is asked anything (SPECIFICATION 9.2)
+abbrev pub tableRows : Table → ℕ → ℕ → ℕ → List Row
+tableRows t f u c = recordRow t ∷ shortRow (t .limits) f u c ∷ []
 
--- 13 of the record, 5, 6, 9, 10, 11, 12 in this order (SPECIFICATION 9.2)
-abbrev pub answerRows : Table → Arrays → Query → List ℕ → List Row
-answerRows t a q out =
-    recordRow t ∷ roomRow (t .limits) a ∷ (queryRows (q .width) (q .exponent) (q .bytes) ++ (listRow t out ∷ []))
+abbrev pub tableRowsOf : Table → Arrays → List Row
+tableRowsOf t a = tableRows t (length (a .prints)) (length (a .parents)) (length (a .codes))
+
+-- row 12: a lent list of so many places has fewer than the gate limit (SPECIFICATION 9.1)
+abbrev pub placesRow : Table → ℕ → Row
+placesRow t room = row (ltb room (t .limits .gates)) 12
+
+abbrev pub listRow : Table → List ℕ → Row
+listRow t out = placesRow t (length out)
+
+-- the table has no such width: 0, or above Q
+abbrev pub notAWidth : Table → ℕ → Bool
+notAWidth t w = eqb w 0 || ltb (t .limits .qubits) w
+
+-- how many entries a width has; one that the table does not have has none, whatever the record says of it (SPECIFICATION 7.3)
+abbrev pub countAt : Table → ℕ → ℕ
+countAt t w = pick (notAWidth t w) 0 (widthAt t w .count)
 
 -- the part of width n in one array (SPECIFICATION 6.2)
 abbrev pub partOf : ℕ → ℕ → List ℕ → List ℕ
 partOf n E xs = take E (drop ((n - 1) * E) xs)
 
--- and in the three, with the record's count
+-- and in the three, with its count
 abbrev pub partAt : Table → Arrays → ℕ → Part
 partAt t a w =
     partWith (partOf w (t .limits .entries) (a .prints)) (partOf w (t .limits .entries) (a .parents)) (partOf w (t .limits .entries) (a .codes))
-    (widthAt t w .count)
+    (countAt t w)
 
 -- the limits of a width of the table
 abbrev pub limitsAt : Limits → ℕ → WidthLimits
 limitsAt l w = record { width = w; basis = l .basis; gates = l .gates; entries = l .entries }
 
--- what the part of the query's width answers (SPECIFICATION 7.4 to 7.7)
-abbrev pub partAsked : Table → Arrays → Query → List ℕ → Outcome
-partAsked t a q out = answerOf (limitsAt (t .limits) (q .width)) (partAt t a (q .width)) (matrixOf q) out
+-- ---- a find
 
--- the table has no part for the query's width: it gets none (SPECIFICATION 7.3)
-abbrev pub notAWidth : Table → Query → Bool
-notAWidth t q = eqb (q .width) 0 || ltb (t .limits .qubits) (q .width)
+-- 13 of the record, 5, 6, 9, 10, 11 in this order (SPECIFICATION 9.2)
+abbrev pub findRows : Table → Arrays → Query → List Row
+findRows t a q = tableRowsOf t a ++ queryRows (q .width) (q .exponent) (q .bytes)
+
+-- by the number of the first row that holds, 0 where none does
+abbrev pub foundBy : Table → Arrays → Query → ℕ → Finding
+foundBy t a q r = pick (eqb r 0) (findOf (limitsAt (t .limits) (q .width)) (partAt t a (q .width)) (matrixOf q)) (f.refused r 0)
+
+-- the node that answers a matrix is found (SPECIFICATION 7.10)
+unfoldable pub foundIn : Table → Arrays → Query → Finding
+foundIn t a q = foundBy t a q (firstRow (findRows t a q))
+
+-- ---- a write
+
+-- row 16: the width has no node k (SPECIFICATION 9.1)
+abbrev pub nodeRow : Table → ℕ → ℕ → Row
+nodeRow t w k = row (not (ltb k (countAt t w))) 16
+
+-- 16, then 12 of a lent list of so many places
+abbrev pub nodeRows : Table → ℕ → ℕ → ℕ → List Row
+nodeRows t w k room = nodeRow t w k ∷ placesRow t room ∷ []
+
+-- 13 of the record, 5, 16, 12 in this order (SPECIFICATION 9.2)
+abbrev pub writeRows : Table → Arrays → ℕ → ℕ → List ℕ → List Row
+writeRows t a w k out = tableRowsOf t a ++ nodeRows t w k (length out)
 
 -- by the number of the first row that holds, 0 where none does: a refusal leaves the lent list as it was (SPECIFICATION 9.4)
+abbrev pub writtenBy : Table → Arrays → ℕ → ℕ → List ℕ → ℕ → Outcome
+writtenBy t a w k out r = pick (eqb r 0) (writeOf (limitsAt (t .limits) w) (partAt t a w) k out) (outcome (refused r 0) out)
+
+-- the list of node k of width w is written (SPECIFICATION 7.11)
+unfoldable pub writtenIn : Table → Arrays → ℕ → ℕ → List ℕ → Outcome
+writtenIn t a w k out = writtenBy t a w k out (firstRow (writeRows t a w k out))
+
+-- ---- an answer
+
+-- those of a find, then 12 (SPECIFICATION 9.2)
+abbrev pub answerRows : Table → Arrays → Query → List ℕ → List Row
+answerRows t a q out = findRows t a q ++ (listRow t out ∷ [])
+
+-- by the number of the first row that holds, 0 where none does: the find, followed by the write; a refusal leaves the lent list as it was
+-- (SPECIFICATION 9.4)
 abbrev pub repliedBy : Table → Arrays → Query → List ℕ → ℕ → Outcome
-repliedBy t a q out r = pick (eqb r 0) (pick (notAWidth t q) (outcome none out) (partAsked t a q out)) (outcome (refused r 0) out)
+repliedBy t a q out r = pick (eqb r 0) (thenWrite (λ k. writtenIn t a (q .width) k out) out (foundIn t a q)) (outcome (refused r 0) out)
 
 -- a matrix is answered (SPECIFICATION, chapter 7)
 unfoldable pub synthesized : Table → Arrays → Query → List ℕ → Outcome

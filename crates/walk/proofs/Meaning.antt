@@ -1,8 +1,8 @@
--- The definition of an answer comes to what specs/Meaning says of nodes and lists. Assumes nothing.
-use mathlib.Core.Path.{_≡_, refl, sym, ap, _∙_}
+-- The definitions of a find, a write and an answer come to what specs/Meaning says of nodes and lists. Assumes nothing.
+use mathlib.Core.Path.{_≡_, refl, sym, ap, _∙_, subst}
 use mathlib.Core.Bool.{Bool, true, false, _&&_}
 use mathlib.Core.List.{List, _++_}
-use Prim.Native.Nat.{ℕ}
+use Prim.Native.Nat.{ℕ, _<_}
 use native.Mathlib.Omega.{arith}
 use lib.ListN.{length, drop}
 use Rattle.exact.specs.Matrix.{Exact}
@@ -13,12 +13,14 @@ use Rattle.exact.specs.Fingerprint.{fingerprint}
 use Rattle.exact.proofs.Phases.{up-sym, power-of-test}
 use Rattle.exact.proofs.Unitaries.{unitary-asked}
 use Rattle.walk.specs.Lookup.{Lookup, found, lowestFrom}
-use Rattle.walk.specs.Meaning.{LowestNode, Gates, AnsweredBy, NoList, not-found, does-not-fit, not-equal, BadFound, Means, Right}
+use Rattle.walk.specs.Meaning.{LowestNode, Gates, Fault, FoundBy, AnsweredBy, NoList, not-found, does-not-fit, not-equal, BadFound, FindMeans, Means, WriteMeans, Right}
 use Rattle.walk.specs.Lookup as lookup
-use Rattle.walk.specs.Chains.{Chain, good, bad, chainOf}
+use Rattle.walk.specs.Chains.{Chain, good, bad}
 use Rattle.walk.proofs.Lookups.{looks-up}
 use Rattle.walk.proofs.Chaining.{gates-of, good-by, fault-of, bad-by}
-use Rattle.walk.specs.Answers.{WidthLimits, Part, fitsAll, rechecked, Reply, given, none, refused, Outcome, outcome, ofChain, answerOf}
+use Rattle.walk.specs.Finds.{WidthLimits, Part, fitsAll, rechecked, Finding, chainAt, byChain, findOf}
+use Rattle.walk.specs.Finds as f
+use Rattle.walk.specs.Answers.{Reply, given, none, refused, Outcome, outcome, written, writeOf, thenWrite, answerOf}
 
 -- ---- a reply is one case alone
 
@@ -45,20 +47,85 @@ second (refused a i) = i
 pub kind-of : {a b : Reply} {l m : List ℕ} → outcome a l ≡ outcome b m → kind a ≡ kind b
 kind-of e = ap (λ (o : Outcome). kind (o .reply)) e
 
+-- ---- and so is what is found
+
+abbrev pub found-kind : Finding → ℕ
+found-kind (f.node k m) = 0
+found-kind f.none = 1
+found-kind (f.refused a i) = 2
+
+abbrev found-node : Finding → ℕ
+found-node (f.node k m) = k
+found-node f.none = 0
+found-node (f.refused a i) = a
+
+abbrev found-size : Finding → ℕ
+found-size (f.node k m) = m
+found-size f.none = 0
+found-size (f.refused a i) = i
+
+kinds : {a b : Finding} → a ≡ b → found-kind a ≡ found-kind b
+kinds e = ap found-kind e
+
 -- what is not equal up to phase is not answered, whether it fits or not
 test-fails : (s : Steps) (t : Bool) → t ≡ false → fitsAll s && t ≡ false
 test-fails allFit t e = e
 test-fails (unfitAt i) t e = refl
 
+-- ---- the write
+
+module _ (limits : WidthLimits) (part : Part) (k : ℕ) (out : List ℕ) where
+  pub written-good : {l : List ℕ} → chainAt limits part k ≡ good l → writeOf limits part k out ≡ outcome (given (length l)) (l ++ drop (length l) out)
+  unfolding writeOf
+  written-good e = ap (written out) e
+
+  pub written-bad : chainAt limits part k ≡ bad → writeOf limits part k out ≡ outcome (refused 13 0) out
+  unfolding writeOf
+  written-bad e = ap (written out) e
+
+  abbrev Way : List ℕ → Type 0
+  Way l = Gates (limits .width) (limits .basis) (limits .gates) (part .parents) (part .codes) k l
+
+  abbrev Broken : Type 0
+  Broken = Fault (limits .width) (limits .basis) (limits .gates) (part .parents) (part .codes) k
+
+  pub write-means : WriteMeans limits part k out
+  write-means = record {
+    is-list = λ m after. (to-list (chainAt limits part k) refl, from-list);
+    never-none = λ after. not-none (chainAt limits part k) refl;
+    is-refused = λ a i after. (to-bad (chainAt limits part k) refl, from-bad);
+  }
+    where
+      to-list : {m : ℕ} {after : List ℕ} (c : Chain) → chainAt limits part k ≡ c → writeOf limits part k out ≡ outcome (given m) after
+          → (l : List ℕ) × Way l × (m ≡ length l) × (after ≡ l ++ drop m out)
+      to-list bad g e = absurd (omega (arith, kind-of (sym (written-bad g) ∙ e)))
+      to-list (good l) g e =
+          let h = sym (written-good g) ∙ e in
+          let z = ap (λ (o : Outcome). size (o .reply)) h in
+          (l, gates-of _ _ _ _ _ k g, sym z, sym (ap (λ (o : Outcome). o .list) h) ∙ ap (λ (j : ℕ). l ++ drop j out) z)
+
+      from-list : {m : ℕ} {after : List ℕ} → (l : List ℕ) × Way l × (m ≡ length l) × (after ≡ l ++ drop m out)
+          → writeOf limits part k out ≡ outcome (given m) after
+      from-list (l, w, z, h) =
+          written-good (good-by _ _ _ _ _ k w) ∙ ap (λ (j : ℕ). outcome (given j) (l ++ drop j out)) (sym z) ∙ ap (outcome (given _)) (sym h)
+
+      not-none : {after : List ℕ} (c : Chain) → chainAt limits part k ≡ c → writeOf limits part k out ≡ outcome none after → ⊥
+      not-none bad g e = absurd (omega (arith, kind-of (sym (written-bad g) ∙ e)))
+      not-none (good l) g e = absurd (omega (arith, kind-of (sym (written-good g) ∙ e)))
+
+      to-bad : {a i : ℕ} {after : List ℕ} (c : Chain) → chainAt limits part k ≡ c → writeOf limits part k out ≡ outcome (refused a i) after
+          → Broken × (a ≡ 13) × (i ≡ 0) × (after ≡ out)
+      to-bad (good l) g e = absurd (omega (arith, kind-of (sym (written-good g) ∙ e)))
+      to-bad bad g e =
+          let h = sym e ∙ written-bad g in
+          (fault-of _ _ _ _ _ k g, ap (λ (o : Outcome). first (o .reply)) h, ap (λ (o : Outcome). second (o .reply)) h, ap (λ (o : Outcome). o .list) h)
+
+      from-bad : {a i : ℕ} {after : List ℕ} → Broken × (a ≡ 13) × (i ≡ 0) × (after ≡ out) → writeOf limits part k out ≡ outcome (refused a i) after
+      from-bad (w, p, q, h) = written-bad (bad-by _ _ _ _ _ k w) ∙ (λ j. outcome (refused (sym p j) (sym q j)) (sym h j))
+
 module _ (limits : WidthLimits) (part : Part) (x : Exact) where
   abbrev fps : List ℕ
   fps = part .fingerprints
-
-  abbrev parents : List ℕ
-  parents = part .parents
-
-  abbrev codes : List ℕ
-  codes = part .codes
 
   abbrev count : ℕ
   count = part .count
@@ -66,14 +133,8 @@ module _ (limits : WidthLimits) (part : Part) (x : Exact) where
   abbrev n : ℕ
   n = limits .width
 
-  abbrev basis : ℕ
-  basis = limits .basis
-
-  abbrev limit : ℕ
-  limit = limits .gates
-
-  abbrev Ans : List ℕ → Type 0
-  Ans l = AnsweredBy limits part x l
+  abbrev By : ℕ → List ℕ → Type 0
+  By k l = FoundBy limits part x k l
 
   abbrev No : Type 0
   No = NoList limits part x
@@ -81,59 +142,113 @@ module _ (limits : WidthLimits) (part : Part) (x : Exact) where
   abbrev Bad : Type 0
   Bad = BadFound limits part x
 
+  abbrev finding : Finding
+  finding = findOf limits part x
+
+  -- ---- from what holds to the find
+
+  at-node : {k : ℕ} → LowestNode fps count 0 (fingerprint n x) k → {c : Chain} → chainAt limits part k ≡ c → finding ≡ byChain n x k f.none c
+  unfolding findOf
+  at-node {k} w e = rw (looks-up fps count 0 (fingerprint n x) .is-found k .1 w, e)
+
+  node-found : {k : ℕ} {l : List ℕ} → By k l → finding ≡ f.node k (length l)
+  unfolding rechecked
+  node-found {k} w = at-node (w .lowest) (good-by _ _ _ _ _ k (w .gates)) ∙ rw (w .fits, w .equal)
+
+  bad-found : Bad → finding ≡ f.refused 13 0
+  bad-found w = at-node (w .lowest) (bad-by _ _ _ _ _ (w .node) (w .fault))
+
+  none-found : No → finding ≡ f.none
+  unfolding findOf rechecked
+  none-found (not-found w) = rw (looks-up fps count 0 (fingerprint n x) .is-none .1 w)
+  none-found (does-not-fit k i l w g e) = at-node w (good-by _ _ _ _ _ k g) ∙ rw e
+  none-found (not-equal k l w g e) = at-node w (good-by _ _ _ _ _ k g) ∙ rw (test-fails (steps n l) _ e)
+
+  -- ---- and back: one of the three holds
+
+  data View : Type 0 where
+    a-node : {k : ℕ} {l : List ℕ} → By k l → View
+    no-node : No → View
+    a-fault : Bad → View
+
+  view : View
+  view = by (lowestFrom fps count 0 (fingerprint n x)) refl
+    where
+      by : (f : Lookup) → lowestFrom fps count 0 (fingerprint n x) ≡ f → View
+      by lookup.none e = no-node (not-found (looks-up fps count 0 (fingerprint n x) .is-none .0 e))
+      by (found k) e = at (chainAt limits part k) refl
+        where
+          w : LowestNode fps count 0 (fingerprint n x) k
+          w = looks-up fps count 0 (fingerprint n x) .is-found k .0 e
+
+          at : (c : Chain) → chainAt limits part k ≡ c → View
+          at bad g = a-fault (record { node = k; lowest = w; fault = fault-of _ _ _ _ _ k g })
+          at (good l) g = test (steps n l) refl (upToPhase n (product n l) x) refl
+            where
+              way : Gates n (limits .basis) (limits .gates) (part .parents) (part .codes) k l
+              way = gates-of _ _ _ _ _ k g
+
+              test : (s : Steps) → steps n l ≡ s → (b : Bool) → upToPhase n (product n l) x ≡ b → View
+              test (unfitAt i) p b q = no-node (does-not-fit k i l w way p)
+              test allFit p false q = no-node (not-equal k l w way q)
+              test allFit p true q = a-node (record { lowest = w; gates = way; fits = p; equal = q })
+
+  -- ---- both
+
+  pub find-means : FindMeans limits part x
+  find-means = record {
+    is-node = λ k m. (to-node view, from-node);
+    is-none = (to-none view, none-found);
+    is-refused = λ a i. (to-bad view, from-bad);
+  }
+    where
+      to-node : {j m : ℕ} → View → finding ≡ f.node j m → (l : List ℕ) × By j l × (m ≡ length l)
+      to-node (a-node {k} {l} w) e =
+          let h = sym (node-found w) ∙ e in
+          (l, subst (λ (i : ℕ). By i l) (ap found-node h) w, sym (ap found-size h))
+      to-node (no-node w) e = absurd (omega (arith, kinds (sym (none-found w) ∙ e)))
+      to-node (a-fault w) e = absurd (omega (arith, kinds (sym (bad-found w) ∙ e)))
+
+      from-node : {k m : ℕ} → (l : List ℕ) × By k l × (m ≡ length l) → finding ≡ f.node k m
+      from-node {k} (l, w, z) = node-found w ∙ ap (λ (j : ℕ). f.node k j) (sym z)
+
+      to-none : View → finding ≡ f.none → No
+      to-none (a-node w) e = absurd (omega (arith, kinds (sym (node-found w) ∙ e)))
+      to-none (no-node w) e = w
+      to-none (a-fault w) e = absurd (omega (arith, kinds (sym (bad-found w) ∙ e)))
+
+      to-bad : {a i : ℕ} → View → finding ≡ f.refused a i → Bad × (a ≡ 13) × (i ≡ 0)
+      to-bad (a-node w) e = absurd (omega (arith, kinds (sym (node-found w) ∙ e)))
+      to-bad (no-node w) e = absurd (omega (arith, kinds (sym (none-found w) ∙ e)))
+      to-bad (a-fault w) e = let h = sym e ∙ bad-found w in (w, ap found-node h, ap found-size h)
+
+      from-bad : {a i : ℕ} → Bad × (a ≡ 13) × (i ≡ 0) → finding ≡ f.refused a i
+      from-bad (w, p, q) = bad-found w ∙ (λ j. f.refused (sym p j) (sym q j))
+
+  -- a part without nodes has none
+  pub no-nodes : count ≡ 0 → finding ≡ f.none
+  no-nodes e = none-found (not-found (record { none-has = λ m p h z. omega (arith, e, h) }))
+
+  -- a node found is below the count
+  pub found-below : {k m : ℕ} → finding ≡ f.node k m → k < count
+  found-below {k} {m} e = let (l, w, z) = find-means .is-node k m .0 e in w .lowest .below
+
   module _ (out : List ℕ) where
     abbrev answer : Outcome
     answer = answerOf limits part x out
 
-    -- ---- from what holds to the answer
-
-    at-node : {node : ℕ} → LowestNode fps count 0 (fingerprint n x) node → {k : Chain} → chainOf n basis parents codes limit node ≡ k → answer ≡ ofChain n x out k
+    by-find : {g : Finding} → finding ≡ g → answer ≡ thenWrite (λ k. writeOf limits part k out) out g
     unfolding answerOf
-    at-node {node} w e = rw (looks-up fps count 0 (fingerprint n x) .is-found node .1 w, e)
+    by-find e = ap (thenWrite (λ k. writeOf limits part k out) out) e
 
-    list-answer : {l : List ℕ} → Ans l → answer ≡ outcome (given (length l)) (l ++ drop (length l) out)
-    unfolding rechecked
-    list-answer w = at-node (w .lowest) (good-by n basis parents codes limit (w .node) (w .gates)) ∙ rw (w .fits, w .equal)
+    list-answer : {k : ℕ} {l : List ℕ} → By k l → answer ≡ outcome (given (length l)) (l ++ drop (length l) out)
+    list-answer {k} w = by-find (node-found w) ∙ written-good limits part k out (good-by _ _ _ _ _ k (w .gates))
 
     bad-answer : Bad → answer ≡ outcome (refused 13 0) out
-    bad-answer w = at-node (w .lowest) (bad-by n basis parents codes limit (w .node) (w .fault))
+    bad-answer w = by-find (bad-found w)
 
     none-answer : No → answer ≡ outcome none out
-    unfolding answerOf rechecked
-    none-answer (not-found w) = rw (looks-up fps count 0 (fingerprint n x) .is-none .1 w)
-    none-answer (does-not-fit node i l w g e) = at-node w (good-by n basis parents codes limit node g) ∙ rw e
-    none-answer (not-equal node l w g e) = at-node w (good-by n basis parents codes limit node g) ∙ rw (test-fails (steps n l) _ e)
-
-    -- ---- and back: one of the three holds
-
-    data View : Type 0 where
-      a-list : {l : List ℕ} → Ans l → View
-      no-list : No → View
-      a-fault : Bad → View
-
-    view : View
-    view = by (lowestFrom fps count 0 (fingerprint n x)) refl
-      where
-        by : (f : Lookup) → lowestFrom fps count 0 (fingerprint n x) ≡ f → View
-        by lookup.none e = no-list (not-found (looks-up fps count 0 (fingerprint n x) .is-none .0 e))
-        by (found node) e = at (chainOf n basis parents codes limit node) refl
-          where
-            w : LowestNode fps count 0 (fingerprint n x) node
-            w = looks-up fps count 0 (fingerprint n x) .is-found node .0 e
-
-            at : (k : Chain) → chainOf n basis parents codes limit node ≡ k → View
-            at bad f = a-fault (record { node = node; lowest = w; fault = fault-of n basis parents codes limit node f })
-            at (good l) f = test (steps n l) refl (upToPhase n (product n l) x) refl
-              where
-                g : Gates n basis limit parents codes node l
-                g = gates-of n basis parents codes limit node f
-
-                test : (s : Steps) → steps n l ≡ s → (b : Bool) → upToPhase n (product n l) x ≡ b → View
-                test (unfitAt i) p b q = no-list (does-not-fit node i l w g p)
-                test allFit p false q = no-list (not-equal node l w g q)
-                test allFit p true q = a-list (record { node = node; lowest = w; gates = g; fits = p; equal = q })
-
-    -- ---- both
+    none-answer w = by-find (none-found w)
 
     pub means : Means limits part x out
     means = record {
@@ -142,28 +257,29 @@ module _ (limits : WidthLimits) (part : Part) (x : Exact) where
       is-refused = λ a i after. (to-bad view, from-bad);
     }
       where
-        to-list : {m : ℕ} {after : List ℕ} → View → answer ≡ outcome (given m) after → (l : List ℕ) × Ans l × (m ≡ length l) × (after ≡ l ++ drop m out)
-        to-list (a-list {l} w) e =
-            let f = sym (list-answer w) ∙ e in
-            let z = ap (λ (o : Outcome). size (o .reply)) f in
-            (l, w, sym z, sym (ap (λ (o : Outcome). o .list) f) ∙ ap (λ (j : ℕ). l ++ drop j out) z)
-        to-list (no-list w) e = absurd (omega (arith, kind-of (sym (none-answer w) ∙ e)))
+        to-list : {m : ℕ} {after : List ℕ} → View → answer ≡ outcome (given m) after
+            → (l : List ℕ) × AnsweredBy limits part x l × (m ≡ length l) × (after ≡ l ++ drop m out)
+        to-list (a-node {k} {l} w) e =
+            let h = sym (list-answer w) ∙ e in
+            let z = ap (λ (o : Outcome). size (o .reply)) h in
+            (l, record { node = k; found = w }, sym z, sym (ap (λ (o : Outcome). o .list) h) ∙ ap (λ (j : ℕ). l ++ drop j out) z)
+        to-list (no-node w) e = absurd (omega (arith, kind-of (sym (none-answer w) ∙ e)))
         to-list (a-fault w) e = absurd (omega (arith, kind-of (sym (bad-answer w) ∙ e)))
 
-        from-list : {m : ℕ} {after : List ℕ} → (l : List ℕ) × Ans l × (m ≡ length l) × (after ≡ l ++ drop m out) → answer ≡ outcome (given m) after
-        from-list (l, w, z, h) = list-answer w ∙ ap (λ (j : ℕ). outcome (given j) (l ++ drop j out)) (sym z) ∙ ap (outcome (given _)) (sym h)
+        from-list : {m : ℕ} {after : List ℕ} → (l : List ℕ) × AnsweredBy limits part x l × (m ≡ length l) × (after ≡ l ++ drop m out) → answer ≡ outcome (given m) after
+        from-list (l, w, z, h) = list-answer (w .found) ∙ ap (λ (j : ℕ). outcome (given j) (l ++ drop j out)) (sym z) ∙ ap (outcome (given _)) (sym h)
 
         to-none : {after : List ℕ} → View → answer ≡ outcome none after → No × (after ≡ out)
-        to-none (a-list w) e = absurd (omega (arith, kind-of (sym (list-answer w) ∙ e)))
-        to-none (no-list w) e = (w, ap (λ (o : Outcome). o .list) (sym e ∙ none-answer w))
+        to-none (a-node w) e = absurd (omega (arith, kind-of (sym (list-answer w) ∙ e)))
+        to-none (no-node w) e = (w, ap (λ (o : Outcome). o .list) (sym e ∙ none-answer w))
         to-none (a-fault w) e = absurd (omega (arith, kind-of (sym (bad-answer w) ∙ e)))
 
         to-bad : {a i : ℕ} {after : List ℕ} → View → answer ≡ outcome (refused a i) after → Bad × (a ≡ 13) × (i ≡ 0) × (after ≡ out)
-        to-bad (a-list w) e = absurd (omega (arith, kind-of (sym (list-answer w) ∙ e)))
-        to-bad (no-list w) e = absurd (omega (arith, kind-of (sym (none-answer w) ∙ e)))
+        to-bad (a-node w) e = absurd (omega (arith, kind-of (sym (list-answer w) ∙ e)))
+        to-bad (no-node w) e = absurd (omega (arith, kind-of (sym (none-answer w) ∙ e)))
         to-bad (a-fault w) e =
-            let f = sym e ∙ bad-answer w in
-            (w, ap (λ (o : Outcome). first (o .reply)) f, ap (λ (o : Outcome). second (o .reply)) f, ap (λ (o : Outcome). o .list) f)
+            let h = sym e ∙ bad-answer w in
+            (w, ap (λ (o : Outcome). first (o .reply)) h, ap (λ (o : Outcome). second (o .reply)) h, ap (λ (o : Outcome). o .list) h)
 
         from-bad : {a i : ℕ} {after : List ℕ} → Bad × (a ≡ 13) × (i ≡ 0) × (after ≡ out) → answer ≡ outcome (refused a i) after
         from-bad (w, p, q, h) = bad-answer w ∙ (λ k. outcome (refused (sym p k) (sym q k)) (sym h k))
@@ -172,5 +288,6 @@ module _ (limits : WidthLimits) (part : Part) (x : Exact) where
 
   pub answers-right : {l : List ℕ} → AnsweredBy limits part x l → Right (limits .width) (limits .basis) (limits .gates) x l
   answers-right {l} w =
-      let p = power-of-test n x (product n l) (up-sym n (product n l) x (w .equal)) in
-      record { power = p; valid = w .gates .valid; short = w .gates .short; unitary = unitary-asked n l p }
+      let g = w .found in
+      let p = power-of-test n x (product n l) (up-sym n (product n l) x (g .equal)) in
+      record { power = p; valid = g .gates .valid; short = g .gates .short; unitary = unitary-asked n l p }

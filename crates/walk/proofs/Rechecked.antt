@@ -9,7 +9,7 @@ use Rattle.exact.specs.Matrix.{Exact}
 use Rattle.exact.specs.Lists.{product}
 use Rattle.exact.specs.Fits.{Steps, allFit, unfitAt, steps}
 use Rattle.exact.specs.Phase.{upToPhase}
-use Rattle.walk.specs.Answers.{fitsAll, rechecked}
+use Rattle.walk.specs.Finds.{fitsAll, rechecked}
 
 fits-all : (s : Steps) → fitsAll s ≡ true → s ≡ allFit
 fits-all allFit e = refl

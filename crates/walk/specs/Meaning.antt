@@ -1,5 +1,5 @@
--- What look-ups, chains and answers come to, said of nodes, of the way along the parents and of lists: a second form of the definitions of
--- Lookup, Chains and Answers, shown to be equivalent, so that these can be checked by reading it. Assumes nothing.
+-- What look-ups, chains, finds, writes and answers come to, said of nodes, of the way along the parents and of lists: a second form of the
+-- definitions of Lookup, Chains, Finds and Answers, shown to be equivalent, so that these can be checked by reading it. Assumes nothing.
 use mathlib.Core.Path.{_≡_}
 use mathlib.Core.Bool.{true, false}
 use mathlib.Core.List.{List, _++_}
@@ -17,7 +17,9 @@ use Rattle.exact.specs.Fingerprint.{fingerprint}
 use Rattle.walk.specs.Lookup.{found, lowestFrom}
 use Rattle.walk.specs.Lookup as lookup
 use Rattle.walk.specs.Chains.{good, bad, marked, chainOf}
-use Rattle.walk.specs.Answers.{WidthLimits, Part, given, none, refused, outcome, answerOf}
+use Rattle.walk.specs.Finds.{WidthLimits, Part, findOf}
+use Rattle.walk.specs.Finds as f
+use Rattle.walk.specs.Answers.{given, none, refused, outcome, writeOf, answerOf}
 
 -- ---- the look-up
 
@@ -65,7 +67,7 @@ pub record Chained (n basis limit : ℕ) (parents codes : List ℕ) (node : ℕ)
   pub is-bad : (chainOf n basis parents codes limit node ≡ bad) ↔ Fault n basis limit parents codes node
   pub is-good : (l : List ℕ) → (chainOf n basis parents codes limit node ≡ good l) ↔ Gates n basis limit parents codes node l
 
--- ---- the answer
+-- ---- the find
 
 module _ (limits : WidthLimits) (part : Part) (x : Exact) where
   -- the lowest node with the fingerprint of x; that there is none; the list of the way from a node, or that the way meets a fault
@@ -81,9 +83,8 @@ module _ (limits : WidthLimits) (part : Part) (x : Exact) where
   abbrev pub FaultOf : ℕ → Type 0
   FaultOf node = Fault (limits .width) (limits .basis) (limits .gates) (part .parents) (part .codes) node
 
-  -- the way from the node found gives the list, every step fits, and the product is equal up to phase to x (SPECIFICATION 7.6)
-  pub record AnsweredBy (l : List ℕ) : Type 0 where
-    pub node : ℕ
+  -- the node is found; the way from it gives the list, every step fits, and the product is equal up to phase to x (SPECIFICATION 7.6)
+  pub record FoundBy (node : ℕ) (l : List ℕ) : Type 0 where
     pub lowest : FoundNode node
     pub gates : GatesOf node l
     pub fits : steps (limits .width) l ≡ allFit
@@ -101,7 +102,19 @@ module _ (limits : WidthLimits) (part : Part) (x : Exact) where
     pub lowest : FoundNode node
     pub fault : FaultOf node
 
-  -- the definition, said by these: what is answered, and what the lent list then holds
+  -- the definition, said by these
+  pub record FindMeans : Type 0 where
+    pub is-node : (k m : ℕ) → (findOf limits part x ≡ f.node k m) ↔ ((l : List ℕ) × FoundBy k l × (m ≡ length l))
+    pub is-none : (findOf limits part x ≡ f.none) ↔ NoList
+    pub is-refused : (a i : ℕ) → (findOf limits part x ≡ f.refused a i) ↔ (BadFound × (a ≡ 13) × (i ≡ 0))
+
+  -- ---- the answer: what is told, and what the lent list then holds
+
+  -- some node is found, with the list
+  pub record AnsweredBy (l : List ℕ) : Type 0 where
+    pub node : ℕ
+    pub found : FoundBy node l
+
   pub record Means (out : List ℕ) : Type 0 where
     pub is-list : (m : ℕ) (after : List ℕ)
         → (answerOf limits part x out ≡ outcome (given m) after) ↔ ((l : List ℕ) × AnsweredBy l × (m ≡ length l) × (after ≡ l ++ drop m out))
@@ -109,8 +122,19 @@ module _ (limits : WidthLimits) (part : Part) (x : Exact) where
     pub is-refused : (a i : ℕ) (after : List ℕ)
         → (answerOf limits part x out ≡ outcome (refused a i) after) ↔ (BadFound × (a ≡ 13) × (i ≡ 0) × (after ≡ out))
 
--- what then holds of the list and of the matrix asked, whatever the arrays hold: the product is a power of omega times the matrix, the list is
--- one of the basis at the width and within the gate limit, and the matrix is unitary, so that any other gets none (SPECIFICATION 7.8, 8.3)
+-- ---- the write: the list of the way from the node, or a fault
+
+pub record WriteMeans (limits : WidthLimits) (part : Part) (node : ℕ) (out : List ℕ) : Type 0 where
+  pub is-list : (m : ℕ) (after : List ℕ) → (writeOf limits part node out ≡ outcome (given m) after)
+      ↔ ((l : List ℕ) × Gates (limits .width) (limits .basis) (limits .gates) (part .parents) (part .codes) node l × (m ≡ length l) × (after ≡ l ++ drop m out))
+  pub never-none : (after : List ℕ) → writeOf limits part node out ≡ outcome none after → ⊥
+  pub is-refused : (a i : ℕ) (after : List ℕ) → (writeOf limits part node out ≡ outcome (refused a i) after)
+      ↔ (Fault (limits .width) (limits .basis) (limits .gates) (part .parents) (part .codes) node × (a ≡ 13) × (i ≡ 0) × (after ≡ out))
+
+-- ---- what holds of a list answered and of the matrix asked, whatever the arrays hold
+
+-- the product is a power of omega times the matrix, the list is one of the basis at the width and within the gate limit, and the matrix is
+-- unitary, so that any other gets none (SPECIFICATION 7.8, 8.3)
 pub record Right (n basis limit : ℕ) (x : Exact) (l : List ℕ) : Type 0 where
   pub power : PowerOf n x (product n l)
   pub valid : all (validFor n basis) l ≡ true

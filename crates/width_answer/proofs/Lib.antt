@@ -1,6 +1,4 @@
-pub mod Rechecked
 pub mod Copies
+pub mod Rechecked
 pub mod Noded
 pub mod Widths
-pub mod Told
-pub mod NodeTold

@@ -17,7 +17,7 @@ use Rattle.exact.proofs.Phases.{up-trans, phased-test, phased-equal}
 use Rattle.exact.proofs.Values.{equal-sym}
 use Rattle.exact.specs.Places.{held}
 use Rattle.lists.specs.Walk.{HoldsProduct}
-use Rattle.walk.specs.Answers.{fitsAll, rechecked}
+use Rattle.walk.specs.Finds.{fitsAll, rechecked}
 
 -- ---- the test says the same of equal matrices
 

@@ -1,5 +1,5 @@
-// What one width's part of a lent table answers to a matrix, whatever its three arrays hold (SPECIFICATION 7.4 to 7.7). murm.rs of the original,
-// `Murm::synthesize`, below the public entry: no row up to 12 has refused.
+// The node that answers a matrix in one width's part of a lent table, whatever its three arrays hold (SPECIFICATION 7.4 to 7.6). murm.rs of the
+// original, `Murm::synthesize`, below the public entries: no row up to 11 has refused.
 ghost use mathlib.Core.Path.{_≡_};
 ghost use mathlib.Core.Bool.{true};
 ghost use mathlib.Core.List.{_++_};
@@ -9,8 +9,8 @@ ghost use Rattle.ints.specs.Lists.{all};
 ghost use Rattle.circuit.specs.Codes.{valid};
 ghost use Rattle.exact.specs.Places.{held};
 ghost use Rattle.walk.specs.Chains.{chainOf};
-ghost use Rattle.width_answer.specs.Answers.{AskedPlaces, toldAnswered};
-ghost use Rattle.walk.specs.Answers.{partWith, rechecked, outcome, ofChain, answerOf};
+ghost use Rattle.width_answer.specs.Answers.{AskedPlaces, toldFind, NodeFound, ListFound};
+ghost use Rattle.walk.specs.Finds.{partWith, rechecked};
 ghost use Rattle.synthesis_arena.specs.Limits.{toldLimits};
 use circuit::GateSet;
 use cyclotomic::Coefficient;
@@ -19,9 +19,9 @@ use synthesis_arena::Found;
 use synthesis_arena::NodeCircuit;
 use synthesis_arena::WidthLimits;
 
-// What is answered: a list, by how many gates it has; none; or that the chain found is bad (SPECIFICATION 7.5).
-pub enum Answered {
-    List(usize),
+// What is found: a node, and how many gates its list has; none; or that the chain found is bad (SPECIFICATION 7.5).
+pub enum Find {
+    Node(usize, usize),
     Nothing,
     BadChain,
 }
@@ -42,7 +42,7 @@ pub fn recheck(codes: &[u32], n: usize, exponent: u16, query: &[Coefficient]) ->
 }
 
 // The places of one slice are copied to the first places of the other.
-fn copy_codes(to: &mut [u32], from: &[u32])
+pub fn copy_codes(to: &mut [u32], from: &[u32])
     requires { ⌜ length (now from) ≤ length (now to) ⌝ }
     ensures { λ _. ⌜ now (to .exit) ≡ now (from .entry) ++ drop (length (now (from .entry))) (now (to .entry)) ⌝ }
 {
@@ -53,24 +53,22 @@ fn copy_codes(to: &mut [u32], from: &[u32])
     }
 }
 
-// What one node answers. Nothing is written to `out` unless its list is answered: the chain is read into a list of this function's own.
-pub fn answer_node(
+// What one node is to the matrix asked. Its list is read into the first places of `list`.
+fn find_node(
     limits: WidthLimits,
     node: usize,
     exponent: u16,
     parents: &[u32],
     codes: &[u32],
     query: &[Coefficient],
-    out: &mut [u32],
-) -> Answered
-    requires { ⌜ (limits .width ≤ 5) × (limits .gates ≤ 64) × (limits .gates ≤ length (now out)) ⌝ }
+    list: &mut [u32],
+) -> Find
+    requires { ⌜ (limits .width ≤ 5) × (limits .gates ≤ length (now list)) ⌝ }
     requires { ⌜ (node < length (now parents)) × (node < length (now codes)) ⌝ }
     requires { ⌜ AskedPlaces (limits .width) (now query) ⌝ }
-    ensures { λ r. ⌜ outcome (toldAnswered r) (now (out .exit))
-        ≡ ofChain (limits .width) (held (limits .width) exponent (now (query .entry))) (now (out .entry))
-        (chainOf (limits .width) (limits .basis) (now (parents .entry)) (now (codes .entry)) (limits .gates) node) ⌝ }
+    ensures { λ r. ⌜ NodeFound (limits .width) (held (limits .width) exponent (now (query .entry)))
+        (chainOf (limits .width) (limits .basis) (now (parents .entry)) (now (codes .entry)) (limits .gates)) node (toldFind r) (now (list .exit)) ⌝ }
 {
-    let mut list: [u32; 64] = [0; 64];
     let NodeCircuit::Length(size) = synthesis_arena::circuit(
         parents,
         codes,
@@ -78,19 +76,19 @@ pub fn answer_node(
         GateSet(limits.basis),
         limits.gates,
         node,
-        &mut list,
+        list,
     ) else {
-        return Answered::BadChain;
+        return Find::BadChain;
     };
     if !recheck(&list[0..size], limits.width as usize, exponent, query) {
-        return Answered::Nothing;
+        return Find::Nothing;
     }
-    copy_codes(out, &list[0..size]);
-    Answered::List(size)
+    Find::Node(node, size)
 }
 
-// What a width's part of a table answers: by the lowest node with the matrix's fingerprint (SPECIFICATION 7.4).
-pub fn answer_width(
+// The node that answers a matrix in a width's part of a table, by the lowest that has its fingerprint (SPECIFICATION 7.4). Its list is left in
+// the first places of `list`; what `list` holds where no node is found is not told.
+pub fn find_width(
     limits: WidthLimits,
     count: usize,
     exponent: u16,
@@ -98,18 +96,17 @@ pub fn answer_width(
     parents: &[u32],
     codes: &[u32],
     query: &[Coefficient],
-    out: &mut [u32],
-) -> Answered
-    requires { ⌜ (limits .width ≤ 5) × (limits .gates ≤ 64) × (limits .gates ≤ length (now out)) ⌝ }
+    list: &mut [u32],
+) -> Find
+    requires { ⌜ (limits .width ≤ 5) × (limits .gates ≤ length (now list)) ⌝ }
     requires { ⌜ (count ≤ length (now fingerprints)) × (count ≤ length (now parents)) × (count ≤ length (now codes)) ⌝ }
     requires { ⌜ AskedPlaces (limits .width) (now query) ⌝ }
-    ensures { λ r. ⌜ outcome (toldAnswered r) (now (out .exit))
-        ≡ answerOf (toldLimits limits) (partWith (now (fingerprints .entry)) (now (parents .entry)) (now (codes .entry)) count)
-        (held (limits .width) exponent (now (query .entry))) (now (out .entry)) ⌝ }
+    ensures { λ r. ⌜ ListFound (toldLimits limits) (partWith (now (fingerprints .entry)) (now (parents .entry)) (now (codes .entry)) count)
+        (held (limits .width) exponent (now (query .entry))) (toldFind r) (now (list .exit)) ⌝ }
 {
     let print = prints::unitary_fingerprint(query, limits.width as usize, exponent);
     match synthesis_arena::node_for(fingerprints, count, 0, print) {
-        Found::At(node) => answer_node(limits, node, exponent, parents, codes, query, out),
-        Found::NotFound => Answered::Nothing,
+        Found::At(node) => find_node(limits, node, exponent, parents, codes, query, list),
+        Found::NotFound => Find::Nothing,
     }
 }

@@ -24,8 +24,8 @@ array-share-prefix-space : tie.Need-array-share-prefix-space
 array-share-prefix-space c =
     omega (arith, count (c .before .before .before), length-append (c .before .before .before .before .library-circuit-matrix .last .1 .1 .0) (drop (c .before .before .before .before .before .before .coefficient-count .result) (c .before .before .before .before .before .before .before .coefficient-space .result)))
 
-slice-aggregate-synthesize : tie.Need-slice-aggregate-synthesize
-slice-aggregate-synthesize c = sym (ap length (take-at (c .before .before .before .before .before .library-circuit-matrix .last .1 .1 .0) _ _ (count (c .before .before .before .before))) ∙ count (c .before .before .before .before))
+slice-aggregate-answer-matrix : tie.Need-slice-aggregate-answer-matrix
+slice-aggregate-answer-matrix c = sym (ap length (take-at (c .before .before .before .before .before .library-circuit-matrix .last .1 .1 .0) _ _ (count (c .before .before .before .before))) ∙ count (c .before .before .before .before))
 
 returns : tie.Need-returns
 returns c =
@@ -34,7 +34,7 @@ returns c =
     let m = arrays (s .fingerprints .now) (s .parents .now) (s .codes .now) in
     let n = c .before .before .before .before .before .before .before .before .before .before .before .coefficient-count in
     let k = c .before .before .before .before .before .before .k .given .0 .0 in
-    c .before .before .synthesize .ensures
+    c .before .before .answer-matrix .ensures
     ∙ (ap (λ (xs : List ℤ). synthesized t m (query (s .width) k xs) (s .list .now)) (take-at (c .before .before .before .before .before .before .before .before .before .library-circuit-matrix .last .1 .1 .0) _ _ (count (c .before .before .before .before .before .before .before .before)))
     ∙ list-reply t m (s .list .now) (s .width) (s .gates .now) (c .before .before .before .before .before .before .k .given .1) (lent-part (n .ensures .1) (c .before .before .before .before .before .before .before .before .before .before .before .before .coefficient-space .ensures) (s .width) (n .ensures .0)) (c .before .before .before .before .before .before .before .before .before .library-circuit-matrix .ensures))
 
@@ -56,7 +56,7 @@ answer-list-spec =
     (λ c κs. search needs)
     (λ c. search needs)
     array-share-prefix-space
-    slice-aggregate-synthesize
+    slice-aggregate-answer-matrix
     (λ c κs. search needs)
     (λ c. search needs)
     (λ c. search needs)

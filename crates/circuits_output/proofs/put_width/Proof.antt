@@ -2,19 +2,16 @@
 use mathlib.Core.Path.{ap}
 use native.Mathlib.Omega.{arith}
 use borrow.Author.Needs.{needs}
-use Rattle.tables.specs.Checks.{arrays}
 use Rattle.tables.specs.Tables.{Width}
 use Rattle.murm_config.specs.Told.{toldMurm}
-use Rattle.murm.proofs.Parts.{PartBounds}
+use Rattle.murm.proofs.Parts.{PartBounds, part}
 use Rattle.circuits_text.proofs.Placing.{put-as, then-put}
-use Rattle.circuits_output.proofs.Widths.{lies, width-as}
+use Rattle.circuits_output.proofs.Widths.{width-as}
 use Rattle.circuits_output.proofs.put_width.Statement.{statement}
 use Rattle.circuits_output.proofs.put_width.Tie as tie
 
-sound : (c : tie.Start) → PartBounds (toldMurm (c .args .table)) (arrays (c .args .parents .now) (c .args .parents .now) (c .args .codes .now)) (c .args .width)
-sound c =
-    let r = c .pre .1 .0 in
-    lies (toldMurm (c .args .table)) (c .args .parents .now) (c .args .codes .now) (c .args .width) (r .0) (r .1) (r .2) (c .pre .0 .0) (c .pre .0 .1)
+sound : (c : tie.Start) → PartBounds (toldMurm (c .args .table)) (c .args .width)
+sound c = part (toldMurm (c .args .table)) (c .args .width) (c .pre .1 .0 .0) (c .pre .0 .0) (c .pre .0 .1)
 
 mul-start : tie.Need-mul-start
 mul-start c = record { fits = omega (arith, sound (c .before .before .before .before) .start) }
@@ -26,7 +23,7 @@ put-nodes-requires c κs =
     let l = c .before .before .before .put-table-line in
     let counted = ap (λ (v : Width). v .count) (c .before .before .before .before .before .width-table .ensures) in (
       (omega (arith, s .pre .1 .1, l .ensures .1, l .kept .0, p .count, counted), p .start, omega (arith, p .count, counted, p .entries)),
-      (omega (arith, p .in-u, p .count, counted), omega (arith, p .in-c, p .count, counted)),
+      (omega (arith, p .inside _ (s .pre .1 .0 .1), p .count, counted), omega (arith, p .inside _ (s .pre .1 .0 .2), p .count, counted)),
     )
 
 returns : tie.Need-returns

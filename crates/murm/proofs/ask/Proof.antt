@@ -1,11 +1,14 @@
--- `ask` meets its contract. Assumes nothing.
-use mathlib.Core.Path.{_∙_}
-use native.Mathlib.Omega.{arith}
+-- `ask` meets its contract: the list found is copied. Assumes nothing.
 use borrow.Author.Needs.{needs}
+use mathlib.Core.List.{[]}
+use Prim.Native.Nat.{_-_}
+use native.Mathlib.Omega.{arith}
+use lib.ListN.{length-take}
 use Rattle.tables.specs.Checks.{Arrays, arrays}
 use Rattle.tables.specs.Tables.{Table, Query, query}
 use Rattle.murm_config.specs.Told.{toldMurm}
-use Rattle.murm.proofs.Asked.{short, width-zero, width-above, width-built}
+use Rattle.width_answer.proofs.Widths.{answered-none, answered-bad, found-short, found-within, answered-list}
+use Rattle.murm.proofs.Asked.{short-list, long-list}
 use Rattle.murm.proofs.ask.Statement.{statement}
 use Rattle.murm.proofs.ask.Tie as tie
 
@@ -21,23 +24,52 @@ module _ (s : tie.Start) where
   asked = query (s .args .width) (s .args .exponent) (s .args .matrix .now)
 
 returns : tie.Need-returns
-returns c = short (table (c .before .before .before .before .before .before)) (memory (c .before .before .before .before .before .before)) (asked (c .before .before .before .before .before .before)) (c .before .before .before .before .before .before .args .out .now) (c .if1 .taken)
+returns c = let s = c .before .before .before .before .before .before in short-list (table s) (memory s) (asked s) (s .args .out .now) (c .if1 .taken)
+
+part-copy-codes-end : tie.Need-part-copy-codes-end
+part-copy-codes-end c = found-within _ _ _ [] _ (c .before .before .before .before .before .before .find-any .ensures) (c .before .before .before .size .given .1)
+
+copy-codes-requires : tie.Need-copy-codes-requires
+copy-codes-requires c κs =
+    omega (
+      arith,
+      c .before .before .before .before .before .before .before .before .before .if1 .left,
+      found-short _ _ _ [] _ (c .before .before .before .before .before .before .before .find-any .ensures) (c .before .before .before .before .size .given .1),
+      length-take (c .before .before .before .before .size .given .0 .1 .0 - 0) (c .before .before .before .before .before .before .before .find-any .last .1 .1 .1 .1 .1 .1 .1 .0),
+    )
 
 returns-2 : tie.Need-returns-2
-returns-2 c = width-zero (table (c .before .before .before .before .before .before .before)) (memory (c .before .before .before .before .before .before .before)) (asked (c .before .before .before .before .before .before .before)) (c .before .before .before .before .before .before .before .args .out .now) (c .before .if1 .left) (c .if2 .taken)
+returns-2 c =
+    let s = c .before .before .before .before .before .before .before .before .before .before .before .before .before .before .before .before .before .before in
+    long-list (table s) (memory s) (asked s) (s .args .out .now) (c .before .before .before .before .before .before .before .before .before .before .before .before .if1 .left)
+    (answered-list _ _ _ _ _ (c .before .before .before .before .before .before .before .before .before .before .find-any .ensures) (c .before .before .before .before .before .before .before .size .given .1) (c .before .before .copy-codes .ensures))
 
 returns-3 : tie.Need-returns-3
-returns-3 c = width-above (table (c .before .before .before .before .before .before .before .before .before)) (memory (c .before .before .before .before .before .before .before .before .before)) (asked (c .before .before .before .before .before .before .before .before .before)) (c .before .before .before .before .before .before .before .before .before .args .out .now) (c .before .before .before .if1 .left) (c .before .before .if2 .left) (c .if3 .taken)
-
-ask-part-requires : tie.Need-ask-part-requires
-ask-part-requires c κs =
-    let p = c .before .before .before .before .before .before .before .before .before .before .pre in
-    ((omega (arith, c .before .before .before .if2 .left), c .before .if3 .left, p .0), (p .1 .0, (p .1 .1, c .before .before .before .before .if1 .left)))
+returns-3 c =
+    let s = c .before .before .before .before .before .before .before .before .before .before .before in
+    long-list (table s) (memory s) (asked s) (s .args .out .now) (c .before .before .before .before .before .if1 .left) (answered-none _ _ _ _ _ (c .before .before .before .find-any .ensures) (c .enum-told .given .1))
 
 returns-4 : tie.Need-returns-4
 returns-4 c =
-    c .before .before .ask-part .ensures
-    ∙ width-built (table (c .before .before .before .before .before .before .before .before .before .before .before .before .before)) (memory (c .before .before .before .before .before .before .before .before .before .before .before .before .before)) (asked (c .before .before .before .before .before .before .before .before .before .before .before .before .before)) (c .before .before .before .before .before .before .before .before .before .before .before .before .before .args .out .now) (c .before .before .before .before .before .before .before .if1 .left) (c .before .before .before .before .before .before .if2 .left) (c .before .before .before .before .if3 .left)
+    let s = c .before .before .before .before .before .before .before .before .before .before .before in
+    long-list (table s) (memory s) (asked s) (s .args .out .now) (c .before .before .before .before .before .if1 .left) (answered-bad _ _ _ _ _ (c .before .before .before .find-any .ensures) (c .enum-told2 .given .1))
 
 pub ask-spec : {M : Type 1} → statement M
-ask-spec = tie.close (tie.spec (λ c. search needs) returns returns-2 returns-3 ask-part-requires (λ c. search needs) returns-4)
+ask-spec =
+    tie.close
+    (tie.spec
+    (λ c. search needs)
+    returns
+    (λ c. search needs)
+    (λ c κs. search needs)
+    (λ c. search needs)
+    (λ c. search needs)
+    (λ c. search needs)
+    part-copy-codes-end
+    copy-codes-requires
+    (λ c. search needs)
+    (λ c. search needs)
+    (λ c. search needs)
+    returns-2
+    returns-3
+    returns-4)

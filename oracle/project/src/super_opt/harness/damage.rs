@@ -1,19 +1,20 @@
 //! Mode `damage`: tables that the port built are altered in one place or in
-//! some, and asked. What the port says must be what `rules` decides; every list
-//! must give the matrix asked, by an exact product; and of the lent list only
-//! the answer's places may change.
+//! some, and asked for answers, nodes and lists. What the port says must be what
+//! `rules` decides; every list answered must give the matrix asked, by an exact
+//! product; and of the lent list only the places of a list may change.
 
-use std::collections::HashSet;
 use std::io::{self, Write};
 
 use super::altered::{Place, places, values};
-use super::port::{Reply, Table};
+use super::orders;
+use super::port::{Finding, Reply, Table};
 use super::random::Random;
-use super::rules::{Asked, Matrix, decide, gives, times_root, turned};
+use super::rules::{Asked, Matrix, times_root, turned, written};
 use super::tables::Limits;
+use super::tally::Tally;
 
 /// Q, G, E and B of the tables that are altered.
-const TABLES: [[u32; 4]; 14] = [
+pub(super) const TABLES: [[u32; 4]; 14] = [
     [1, 8, 10, 24],
     [1, 8, 24, 9],
     [1, 8, 23, 9],
@@ -34,40 +35,24 @@ const TABLES: [[u32; 4]; 14] = [
 const ROUNDS: usize = 2000;
 
 /// The longest list that a table may answer.
-const MOST: usize = 64;
+pub(super) const MOST: usize = 64;
 
 /// The code of T on qubit 0.
 const T: u32 = 20480;
 
 pub(super) fn run(_: &[String], out: &mut dyn Write) -> io::Result<()> {
-    let mut tally = Tally::default();
+    let mut tally = Tally::new();
     refused_builds(&mut tally);
     for limits in TABLES {
         damage(limits_of(limits), &mut tally);
     }
+    orders::run(&mut tally);
     planted(&mut tally);
     long_chain(&mut tally);
-    let Tally {
-        tables,
-        questions,
-        lists,
-        nothing,
-        refused,
-        differences,
-        ..
-    } = tally;
-    writeln!(
-        out,
-        "{tables} altered tables, {questions} questions: {lists} lists, {nothing} none, {refused} refused; {differences} differences"
-    )?;
-    out.flush()?;
-    match differences {
-        0 => Ok(()),
-        _ => Err(io::Error::other("the port says something else")),
-    }
+    tally.report(out)
 }
 
-fn limits_of([qubits, gates, entries, basis]: [u32; 4]) -> Limits {
+pub(super) fn limits_of([qubits, gates, entries, basis]: [u32; 4]) -> Limits {
     Limits {
         qubits,
         gates,
@@ -76,76 +61,8 @@ fn limits_of([qubits, gates, entries, basis]: [u32; 4]) -> Limits {
     }
 }
 
-#[derive(Default)]
-struct Tally {
-    tables: usize,
-    questions: usize,
-    lists: usize,
-    nothing: usize,
-    refused: usize,
-    differences: usize,
-    /// Questions by number, and lists that give them. It is emptied with each
-    /// new choice of questions.
-    exact: HashSet<(usize, Vec<u32>)>,
-}
-
-impl Tally {
-    /// A difference; the first few are shown.
-    fn differs(&mut self, what: String) {
-        self.differences += 1;
-        if self.differences <= 5 {
-            eprintln!("{what}");
-        }
-    }
-
-    /// Asks a table the question of this number, with a lent list of so many
-    /// places.
-    fn ask(&mut self, table: &Table, number: usize, asked: &Asked, room: usize) -> Reply {
-        self.questions += 1;
-        let before: Vec<u32> = (0..room as u32).map(|place| 0xa5a5_0000 + place).collect();
-        let mut list = before.clone();
-        let reply = table.ask(asked.width, asked.exponent, &asked.bytes, &mut list);
-        let filled = match &reply {
-            Reply::List(codes) => codes.len(),
-            _ => 0,
-        };
-        let expected = decide(table, asked, room);
-        let right = reply == expected && self.is_exact(number, asked, &reply);
-        if !right || list[filled..] != before[filled..] {
-            self.differs(format!(
-                "{} record {:?}, width {} question {number}, {room} places: {reply:?}, expected {expected:?}",
-                table.limits.line(),
-                table.record,
-                asked.width,
-            ));
-        }
-        match reply {
-            Reply::List(_) => self.lists += 1,
-            Reply::None => self.nothing += 1,
-            Reply::Refused(_) => self.refused += 1,
-        }
-        reply
-    }
-
-    /// Whether a list gives what was asked; anything else is no list.
-    fn is_exact(&mut self, number: usize, asked: &Asked, reply: &Reply) -> bool {
-        let (Reply::List(codes), Some((matrix, _))) = (reply, &asked.value) else {
-            return !matches!(reply, Reply::List(_));
-        };
-        let key = (number, codes.clone());
-        if self.exact.contains(&key) {
-            return true;
-        }
-        let exact = gives(codes, matrix);
-        if exact {
-            self.exact.insert(key);
-        }
-        exact
-    }
-}
-
 /// A matrix as it is asked, times a power of omega.
-fn asked(matrix: &Matrix, power: usize) -> Asked {
+pub(super) fn asked(matrix: &Matrix, power: usize) -> Asked {
     let entries = matrix.entries.iter();
     let bytes = entries
         .flat_map(|&entry| turned(entry, power))
@@ -154,13 +71,13 @@ fn asked(matrix: &Matrix, power: usize) -> Asked {
 }
 
 /// The matrix of a list that fits.
-fn listed(width: u32, codes: &[u32]) -> Matrix {
+pub(super) fn listed(width: u32, codes: &[u32]) -> Matrix {
     Matrix::of_list(width, codes).expect("a short list fits")
 }
 
 /// A table that the port built, in places that held something, with as many
 /// places again behind it.
-fn built(limits: Limits, tally: &mut Tally) -> Table {
+pub(super) fn built(limits: Limits, tally: &mut Tally) -> Table {
     let size = limits.qubits as usize * limits.entries as usize;
     let mut table = Table::with_places(limits, 2 * size);
     // Unfilled places look like nodes: T after the root.
@@ -221,7 +138,9 @@ fn questions(table: &Table) -> Vec<Asked> {
         all.push(Asked::new(width, 0, Vec::new()));
     }
     all.push(asked(&Matrix::identity(0), 0));
-    all.push(asked(&Matrix::identity(limits.qubits + 1), 0));
+    for width in limits.qubits + 1..=5 {
+        all.push(asked(&Matrix::identity(width), 0));
+    }
     all.push(Asked::new(6, 0, vec![-128; 16]));
     all.push(Asked::new(4294967295, 0, vec![0; 4]));
     all
@@ -238,16 +157,51 @@ fn room(gates: u32, number: usize) -> usize {
     }
 }
 
+/// The lists of all nodes that a table was built with, and of others, at every
+/// width and at some that there are not; the lent lists have places enough for
+/// any list, about as many as the gate limit, about as many as the list, or none.
+fn write_all(table: &Table, altered: &Table, choice: &mut Random, tally: &mut Tally) {
+    let entries = altered.limits.entries as usize;
+    let gates = altered.limits.gates.min(MOST as u32 + 1) as usize;
+    for width in [0, 1, 2, 3, 4, 5, 6, 4294967295] {
+        let (built, count) = match width {
+            1..=5 => (table.count(width as usize), altered.count(width as usize)),
+            _ => (0, table.count(1)),
+        };
+        let mut nodes: Vec<usize> = (0..built).collect();
+        nodes.extend([0, 1, count.wrapping_sub(1), count, count.wrapping_add(1)]);
+        nodes.extend([entries.wrapping_sub(1), entries, entries + 1]);
+        nodes.extend([4294967295, 1 << 40, usize::MAX]);
+        for node in nodes {
+            let own = written(altered, width, node).map_or(gates, |list| list.len());
+            let short = gates.saturating_sub(1);
+            let rooms = [
+                MOST,
+                MOST,
+                gates,
+                gates + 1,
+                short,
+                own,
+                own.saturating_sub(1),
+                0,
+            ];
+            tally.write(altered, width, node, choice.one_of(&rooms));
+        }
+    }
+}
+
 /// A table as it was built, altered in each place, and altered in several.
 fn damage(limits: Limits, tally: &mut Tally) {
     let table = built(limits, tally);
     let questions = questions(&table);
-    tally.exact.clear();
+    let mut choice = Random::new(47);
+    tally.new_questions();
     let mut ask_all = |altered: &Table| {
         tally.tables += 1;
         for (number, asked) in questions.iter().enumerate() {
             tally.ask(altered, number, asked, room(limits.gates, number));
         }
+        write_all(&table, altered, &mut choice, tally);
     };
     ask_all(&table);
     let strangers: Vec<u64> = questions
@@ -312,7 +266,7 @@ fn refused_builds(tally: &mut Tally) {
     }
 }
 
-/// A node planted past the count is not found.
+/// A node planted past the count is not found, and not written.
 fn planted(tally: &mut Tally) {
     let t = listed(1, &[T]);
     for place in 4..10 {
@@ -324,16 +278,21 @@ fn planted(tally: &mut Tally) {
         table.codes[place] = T;
         tally.tables += 1;
         for power in 0..8 {
-            let reply = tally.ask(&table, 0, &asked(&t, power), MOST);
-            if reply != Reply::None {
-                tally.differs(format!("a node past the count was answered: {reply:?}"));
+            let (reply, found) = tally.ask(&table, 0, &asked(&t, power), MOST);
+            if reply != Reply::None || found != Finding::None {
+                tally.differs(format!("a node past the count: {reply:?}, {found:?}"));
             }
+        }
+        let reply = tally.write(&table, 1, place, MOST);
+        if reply != Reply::Refused(16) {
+            tally.differs(format!("a node past the count was written: {reply:?}"));
         }
     }
 }
 
 /// A chain of a million nodes, each a gate after the one before. Node i has i
-/// gates: up to G they are answered, where the product is the one asked.
+/// gates: up to G they are answered, where the product is the one asked, and
+/// written.
 fn long_chain(tally: &mut Tally) {
     const NODES: usize = 1_000_000;
     const S: u32 = 12288;
@@ -345,7 +304,7 @@ fn long_chain(tally: &mut Tally) {
         table.codes[node] = S;
     }
     table.codes[0] = 4294967295;
-    tally.exact.clear();
+    tally.new_questions();
     for (node, expected) in [
         (NODES - 1, Reply::Refused(13)),
         (NODES / 2, Reply::Refused(13)),
@@ -361,10 +320,23 @@ fn long_chain(tally: &mut Tally) {
         let old = table.fingerprints[node];
         table.fingerprints[node] = question.fingerprint();
         tally.tables += 1;
-        let reply = tally.ask(&table, node, &asked(&question, 5), MOST);
-        if reply != expected {
-            tally.differs(format!("node {node} of a long chain: {reply:?}"));
+        let (reply, found) = tally.ask(&table, node, &asked(&question, 5), MOST);
+        let written = tally.write(&table, 1, node, MOST);
+        let finding = match &expected {
+            Reply::List(list) => Finding::Node(node, list.len()),
+            _ => Finding::Refused(13),
+        };
+        if reply != expected || written != expected || found != finding {
+            tally.differs(format!(
+                "node {node} of a long chain: {reply:?}, {found:?}, {written:?}"
+            ));
         }
         table.fingerprints[node] = old;
+    }
+    for node in [NODES, NODES + 1, 4294967295] {
+        let reply = tally.write(&table, 1, node, MOST);
+        if reply != Reply::Refused(16) {
+            tally.differs(format!("node {node} of a long chain: {reply:?}"));
+        }
     }
 }

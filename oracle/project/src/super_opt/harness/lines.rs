@@ -1,13 +1,13 @@
-//! Mode `lines`: lists, tables and matrices that standard input names, as the
-//! port's test program reads them. A line that has another form, or no newline
-//! after it, is refused by 14; so is a matrix where no table is at hand.
+//! Mode `lines`: lists, tables, matrices and nodes that standard input names, as
+//! the port's test program reads them. A line that has another form, or no
+//! newline after it, is refused by 14; so is what asks a table where none is at
+//! hand.
 
 use std::io::{self, Read, Write};
 use std::panic::{AssertUnwindSafe, catch_unwind};
 
 use super::lists::{self, number};
-use super::tables::{Limits, PLACES, Question, write_table};
-use crate::super_opt::murm::Murm;
+use super::tables::{Built, Limits, PLACES, Question, Wanted, write_table};
 
 const BROKEN: &str = "refused 14 0";
 
@@ -30,22 +30,20 @@ pub(super) fn run(_: &[String], out: &mut dyn Write) -> io::Result<()> {
                 },
                 None => writeln!(out, "{BROKEN}")?,
             }
-        } else if line.starts_with("matrix ") {
-            writeln!(out, "{}", asked(line, table.as_ref()))?;
         } else {
-            writeln!(out, "{}", lists::line_answer(line))?;
+            writeln!(out, "{}", answered(line, table.as_ref()))?;
         }
     }
     Ok(())
 }
 
 /// Builds a table and writes it.
-fn build(limits: Limits, out: &mut dyn Write) -> io::Result<Option<Murm>> {
+fn build(limits: Limits, out: &mut dyn Write) -> io::Result<Option<Built>> {
     match catch_unwind(|| limits.build()) {
         Ok(table) => {
             let first = |_, fingerprint| format!("{fingerprint:016x}");
             write_table(&table, limits.qubits, first, out)?;
-            Ok(Some(table))
+            Ok(Some(Built { limits, table }))
         }
         Err(_) => {
             writeln!(out, "panicked")?;
@@ -54,19 +52,29 @@ fn build(limits: Limits, out: &mut dyn Write) -> io::Result<Option<Murm>> {
     }
 }
 
-/// What the table at hand answers to a line.
-fn asked(line: &str, table: Option<&Murm>) -> String {
-    let (Some(table), Some(question)) = (table, question(line)) else {
+/// What a line that builds no table is answered, given with its newline.
+fn answered(line: &str, table: Option<&Built>) -> String {
+    let (word, rest) = line.split_once(' ').unwrap_or_default();
+    match word {
+        "matrix" => asked(question(rest), table, Question::answer),
+        "find" => asked(question(rest), table, Question::found),
+        "write" => asked(Wanted::of_numbers(rest), table, Wanted::answer),
+        _ => lists::line_answer(line),
+    }
+}
+
+/// What the table at hand answers to a line that asks it.
+fn asked<T>(what: Option<T>, table: Option<&Built>, answer: fn(&T, &Built) -> String) -> String {
+    let (Some(what), Some(table)) = (what, table) else {
         return BROKEN.to_owned();
     };
-    catch_unwind(AssertUnwindSafe(|| question.answer(table)))
+    catch_unwind(AssertUnwindSafe(|| answer(&what, table)))
         .unwrap_or_else(|_| "panicked".to_owned())
 }
 
-/// `matrix WIDTH K COEFFICIENTS..`.
+/// `WIDTH K COEFFICIENTS..`, with its newline.
 fn question(line: &str) -> Option<Question> {
-    let numbers = line.strip_suffix('\n')?.strip_prefix("matrix ")?;
-    let mut words = numbers.split(' ');
+    let mut words = line.strip_suffix('\n')?.split(' ');
     let width = number(words.next()?)?;
     let exponent = u16::try_from(number(words.next()?)?).ok()?;
     let coefficients = words.map(signed).collect::<Option<Vec<i8>>>()?;

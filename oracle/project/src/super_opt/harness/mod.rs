@@ -19,6 +19,8 @@ mod inputs;
 mod lines;
 mod lists;
 #[cfg(feature = "port")]
+mod orders;
+#[cfg(feature = "port")]
 mod port;
 mod questions;
 mod random;
@@ -29,6 +31,8 @@ mod run_inputs;
 mod run_queries;
 mod table_inputs;
 mod tables;
+#[cfg(feature = "port")]
+mod tally;
 
 use std::io::{self, BufWriter, Write};
 use std::process::ExitCode;

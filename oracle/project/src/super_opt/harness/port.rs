@@ -3,10 +3,12 @@
 
 use super::tables::Limits;
 
-/// What `murm_synthesize` returns for none. A lower number counts gates; a higher
-/// one is a refusal's number times `STEP`, and its position.
+/// What `murm_synthesize` and `bench_find` return for none. A lower number counts
+/// gates, or is a node times `NODE` and its gate count; a higher one is a
+/// refusal's number times `STEP`, and its position.
 const NONE: u64 = 4294967295;
 const STEP: u64 = 1 << 32;
+const NODE: u64 = 128;
 
 #[link(name = "murm_c", kind = "static")]
 unsafe extern "C" {
@@ -58,6 +60,48 @@ unsafe extern "C" {
         record: *mut u64,
         record_places: usize,
     ) -> u64;
+    fn bench_find(
+        qubits: u32,
+        gates: u32,
+        entries: u32,
+        basis: u32,
+        count1: usize,
+        count2: usize,
+        count3: usize,
+        count4: usize,
+        count5: usize,
+        fingerprints: *const u64,
+        fingerprint_places: usize,
+        parents: *const u32,
+        parent_places: usize,
+        codes: *const u32,
+        code_places: usize,
+        width: u32,
+        exponent: u16,
+        matrix: *const i8,
+        matrix_places: usize,
+    ) -> u64;
+    fn bench_write(
+        qubits: u32,
+        gates: u32,
+        entries: u32,
+        basis: u32,
+        count1: usize,
+        count2: usize,
+        count3: usize,
+        count4: usize,
+        count5: usize,
+        fingerprints: *const u64,
+        fingerprint_places: usize,
+        parents: *const u32,
+        parent_places: usize,
+        codes: *const u32,
+        code_places: usize,
+        width: u32,
+        node: usize,
+        out: *mut u32,
+        places: usize,
+    ) -> u64;
 }
 
 /// The exponent, where the list fits; every refusal is above 16 bits.
@@ -104,6 +148,29 @@ pub(super) enum Reply {
     Refused(u64),
 }
 
+/// What a find says: a node and its gate count.
+#[derive(Debug, PartialEq)]
+pub(super) enum Finding {
+    Node(usize, usize),
+    None,
+    Refused(u64),
+}
+
+/// A refusal's number. A table's refusals have the position 0.
+fn refusal(told: u64) -> u64 {
+    assert_eq!(told % STEP, 0, "position");
+    told / STEP
+}
+
+/// An answer or a write by its cases, with the lent list after it.
+fn reply(told: u64, list: &[u32]) -> Reply {
+    match told {
+        NONE => Reply::None,
+        count if count < NONE => Reply::List(list[..count as usize].to_vec()),
+        _ => Reply::Refused(refusal(told)),
+    }
+}
+
 impl Table {
     /// Arrays of so many places, nothing built.
     pub(super) fn with_places(limits: Limits, places: usize) -> Self {
@@ -120,6 +187,11 @@ impl Table {
     fn limits(&self) -> [u32; 4] {
         let l = &self.limits;
         [l.qubits, l.gates, l.entries, l.basis]
+    }
+
+    /// The count of a width from 1 to 5.
+    pub(super) fn count(&self, width: usize) -> usize {
+        self.record[3 * (width - 1)] as usize
     }
 
     /// 0, or the number of the refusal.
@@ -151,18 +223,17 @@ impl Table {
         out: &mut [u32],
     ) -> u64 {
         let [qubits, gates, entries, basis] = self.limits();
-        let count = |width: usize| self.record[3 * (width - 1)] as usize;
         unsafe {
             murm_synthesize(
                 qubits,
                 gates,
                 entries,
                 basis,
-                count(1),
-                count(2),
-                count(3),
-                count(4),
-                count(5),
+                self.count(1),
+                self.count(2),
+                self.count(3),
+                self.count(4),
+                self.count(5),
                 self.fingerprints.as_ptr(),
                 self.fingerprints.len(),
                 self.parents.as_ptr(),
@@ -179,15 +250,70 @@ impl Table {
         }
     }
 
-    /// The answer by its cases. A table's refusals have the position 0.
+    /// The answer by its cases.
     pub(super) fn ask(&self, width: u32, exponent: u16, matrix: &[i8], out: &mut [u32]) -> Reply {
-        match self.synthesize(width, exponent, matrix, out) {
-            NONE => Reply::None,
-            count if count < NONE => Reply::List(out[..count as usize].to_vec()),
-            refusal => {
-                assert_eq!(refusal % STEP, 0, "position");
-                Reply::Refused(refusal / STEP)
-            }
+        reply(self.synthesize(width, exponent, matrix, out), out)
+    }
+
+    /// The node that answers a matrix.
+    pub(super) fn find(&self, width: u32, exponent: u16, matrix: &[i8]) -> Finding {
+        let [qubits, gates, entries, basis] = self.limits();
+        let told = unsafe {
+            bench_find(
+                qubits,
+                gates,
+                entries,
+                basis,
+                self.count(1),
+                self.count(2),
+                self.count(3),
+                self.count(4),
+                self.count(5),
+                self.fingerprints.as_ptr(),
+                self.fingerprints.len(),
+                self.parents.as_ptr(),
+                self.parents.len(),
+                self.codes.as_ptr(),
+                self.codes.len(),
+                width,
+                exponent,
+                matrix.as_ptr(),
+                matrix.len(),
+            )
+        };
+        match told {
+            NONE => Finding::None,
+            _ if told < NONE => Finding::Node((told / NODE) as usize, (told % NODE) as usize),
+            _ => Finding::Refused(refusal(told)),
         }
+    }
+
+    /// The list of a node.
+    pub(super) fn write(&self, width: u32, node: usize, out: &mut [u32]) -> Reply {
+        let [qubits, gates, entries, basis] = self.limits();
+        let told = unsafe {
+            bench_write(
+                qubits,
+                gates,
+                entries,
+                basis,
+                self.count(1),
+                self.count(2),
+                self.count(3),
+                self.count(4),
+                self.count(5),
+                self.fingerprints.as_ptr(),
+                self.fingerprints.len(),
+                self.parents.as_ptr(),
+                self.parents.len(),
+                self.codes.as_ptr(),
+                self.codes.len(),
+                width,
+                node,
+                out.as_mut_ptr(),
+                out.len(),
+            )
+        };
+        reply(told, out)
     }
 }

@@ -1,11 +1,12 @@
 //! The matrices that a table is asked after it is built, as lines for the mode
-//! `lines`, with lists and broken lines between them.
+//! `lines`, with lists and broken lines between them; and the nodes whose lists
+//! are wanted.
 
 use super::codes::{code_of, valid_gates};
 use super::inputs::list;
 use super::lists::{MOST_WIDTH, Parts};
 use super::random::Random;
-use super::tables::{Limits, Question};
+use super::tables::{Limits, Question, Wanted};
 use crate::circuit::GateSet;
 use crate::super_opt::matrix::UnitaryMatrix;
 use crate::super_opt::murm::{LibraryGate as Gate, Murm, library_circuit_matrix, library_gates};
@@ -27,6 +28,26 @@ const BROKEN: [&str; 11] = [
     "matrix 0 0 1 0  0 0",
     "matrix 0 0 1 0 0 0 ",
     "matrix 0 -1 1 0 0 0",
+];
+
+/// Lines that ask for no node, and words that are none.
+const BROKEN_NODES: [&str; 16] = [
+    "write",
+    "write ",
+    "write 1",
+    "write 1 0",
+    "write 1 0 64 0",
+    "write 1 0 65",
+    "write 1 0 4294967295",
+    "write 1 0 4294967296",
+    "write 1 4294967296 64",
+    "write 4294967296 0 64",
+    "write 1 -1 64",
+    "write 1  0 64",
+    "write 1 0 64 ",
+    "writes 1 0 64",
+    "find",
+    "finds 0 0 1 0 0 0",
 ];
 
 /// A table at hand, and what its questions are chosen by.
@@ -80,6 +101,42 @@ impl Asker {
         for _ in 0..3 {
             let sort = self.random.one_of(SORTS);
             lines.extend(sort(self));
+        }
+        lines
+    }
+
+    /// The lists of some nodes, one of each width, and a broken line.
+    pub(super) fn nodes(&mut self) -> Vec<String> {
+        let gates = self.limits.gates;
+        let mut lines = Vec::new();
+        for width in 1..=self.limits.qubits {
+            let count = self.table.width(width as usize).0.len();
+            let node = self.random.below(count) as u32;
+            let places = self.random.one_of(&[gates, 64]);
+            lines.push(wanted(width, node, places));
+        }
+        lines.push(self.random.one_of(&BROKEN_NODES).to_owned());
+        lines
+    }
+
+    /// Nodes up to a width's last and past it, at widths that there are and
+    /// others, with lent lists that are too short, long enough and too long.
+    pub(super) fn node_ends(&self) -> Vec<String> {
+        let gates = self.limits.gates;
+        let mut lines = Vec::new();
+        for width in [0, 1, 2, 3, 4, 5, 6, 4294967295] {
+            let has = (1..=self.limits.qubits).contains(&width);
+            let count = if has {
+                self.table.width(width as usize).0.len() as u32
+            } else {
+                0
+            };
+            let last = count.saturating_sub(1);
+            for node in [0, 1, count / 2, last, count, count + 1, 4294967295] {
+                for places in [0, gates.saturating_sub(1), gates, 64, 65] {
+                    lines.push(wanted(width, node, places));
+                }
+            }
         }
         lines
     }
@@ -270,6 +327,21 @@ impl Asker {
         let between = list(width, codes.collect()).line();
         vec![between, self.any_node().line()]
     }
+}
+
+fn wanted(width: u32, node: u32, places: u32) -> String {
+    Wanted {
+        width,
+        node,
+        places,
+    }
+    .line()
+}
+
+/// The same matrices, asked for their nodes.
+pub(super) fn finds(lines: &[String]) -> Vec<String> {
+    let matrices = lines.iter().filter_map(|line| line.strip_prefix("matrix "));
+    matrices.map(|rest| format!("find {rest}")).collect()
 }
 
 fn line(width: u32, exponent: u16, coefficients: Vec<i8>) -> String {

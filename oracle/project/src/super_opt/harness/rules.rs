@@ -1,7 +1,7 @@
 //! What a table answers, written from docs/SPECIFICATION.md alone: nothing here
 //! is the original's or the port's. All arithmetic is on 64-bit integers.
 
-use super::port::{Reply, Table};
+use super::port::{Finding, Reply, Table};
 
 /// a + b omega + c omega^2 + d omega^3.
 type Entry = [i64; 4];
@@ -277,7 +277,7 @@ impl Asked {
 
 /// "13 for a record whose limits break 1 to 4 or whose count at any width up to
 /// Q is 0 or above E".
-fn bad_record(table: &Table) -> bool {
+pub(super) fn bad_record(table: &Table) -> bool {
     let limits = table.limits;
     let bad_count = |width: u32| {
         let count = table.record[3 * (width as usize - 1)];
@@ -312,32 +312,40 @@ fn chain(table: &Table, width: u32, node: usize) -> Option<Vec<u32>> {
     (table.parents[start] == MARK && table.codes[start] == MARK).then_some(list)
 }
 
-/// The answer with a lent list of so many places.
-pub(super) fn decide(table: &Table, asked: &Asked, room: usize) -> Reply {
+/// What is tried first, whatever is asked of a lent table: 13 of the record, then 5.
+fn table_refused(table: &Table) -> Option<u64> {
     if bad_record(table) {
-        return Reply::Refused(13);
+        return Some(13);
     }
-    let entries = table.limits.entries as usize;
-    let places = table.limits.qubits as usize * entries;
+    let places = table.limits.qubits as usize * table.limits.entries as usize;
     let lengths = [
         table.fingerprints.len(),
         table.parents.len(),
         table.codes.len(),
     ];
-    if lengths.into_iter().any(|length| length < places) {
-        return Reply::Refused(5);
-    }
+    let short = lengths.into_iter().any(|length| length < places);
+    short.then_some(5)
+}
+
+/// What is tried of a matrix: 6, 9, 10, 11.
+fn query_refused(asked: &Asked) -> Option<u64> {
     if asked.width > 5 {
-        return Reply::Refused(6);
+        return Some(6);
     }
-    let Some((matrix, fingerprint)) = &asked.value else {
-        return Reply::Refused(9);
+    let Some((matrix, _)) = &asked.value else {
+        return Some(9);
     };
     if asked.bytes.contains(&-128) {
-        return Reply::Refused(10);
+        return Some(10);
     }
-    if asked.exponent > 0 && matrix.entries.iter().all(divisible) {
-        return Reply::Refused(11);
+    let lowest = asked.exponent == 0 || !matrix.entries.iter().all(divisible);
+    (!lowest).then_some(11)
+}
+
+/// The answer with a lent list of so many places.
+pub(super) fn decide(table: &Table, asked: &Asked, room: usize) -> Reply {
+    if let Some(number) = table_refused(table).or_else(|| query_refused(asked)) {
+        return Reply::Refused(number);
     }
     if room < table.limits.gates as usize {
         return Reply::Refused(12);
@@ -346,8 +354,10 @@ pub(super) fn decide(table: &Table, asked: &Asked, room: usize) -> Reply {
         return Reply::None;
     }
     let width = asked.width as usize;
+    let entries = table.limits.entries as usize;
     let count = table.record[3 * (width - 1)] as usize;
     let part = &table.fingerprints[(width - 1) * entries..][..count];
+    let (matrix, fingerprint) = asked.value.as_ref().expect("a query that is not refused");
     let Some(node) = part.iter().position(|print| print == fingerprint) else {
         return Reply::None;
     };
@@ -357,5 +367,74 @@ pub(super) fn decide(table: &Table, asked: &Asked, room: usize) -> Reply {
     match Matrix::of_list(asked.width, &list) {
         Some(product) if product.equal_up_to_phase(matrix) => Reply::List(list),
         _ => Reply::None,
+    }
+}
+
+/// How many entries a width has. One of 0 or above Q has none, whatever the
+/// record says of it.
+fn entry_count(table: &Table, width: u32) -> usize {
+    match width {
+        0 => 0,
+        _ if width > table.limits.qubits => 0,
+        _ => table.record[3 * (width as usize - 1)] as usize,
+    }
+}
+
+/// The lowest node of a width that holds a fingerprint. The table is not refused.
+fn lowest_with(table: &Table, width: u32, fingerprint: u64) -> Option<usize> {
+    let place = |node: usize| (width as usize - 1) * table.limits.entries as usize + node;
+    (0..entry_count(table, width)).find(|&node| table.fingerprints[place(node)] == fingerprint)
+}
+
+/// What a find says: the answer's checks but for 12, and the node whose list the
+/// answer would be.
+pub(super) fn find(table: &Table, asked: &Asked) -> Finding {
+    if let Some(number) = table_refused(table).or_else(|| query_refused(asked)) {
+        return Finding::Refused(number);
+    }
+    let (matrix, fingerprint) = asked.value.as_ref().expect("a query that is not refused");
+    let Some(node) = lowest_with(table, asked.width, *fingerprint) else {
+        return Finding::None;
+    };
+    let Some(list) = chain(table, asked.width, node) else {
+        return Finding::Refused(13);
+    };
+    match Matrix::of_list(asked.width, &list) {
+        Some(product) if product.equal_up_to_phase(matrix) => Finding::Node(node, list.len()),
+        _ => Finding::None,
+    }
+}
+
+/// The node that has a query's fingerprint, where a find says none: its list did
+/// not pass the recheck.
+pub(super) fn passed_over(table: &Table, asked: &Asked) -> Option<usize> {
+    let (_, fingerprint) = asked.value.as_ref()?;
+    lowest_with(table, asked.width, *fingerprint)
+}
+
+/// What a write says with a lent list of so many places: 13 of the record and 5,
+/// then 16, 12, and 13 of the chain. No product is looked at.
+pub(super) fn write(table: &Table, width: u32, node: usize, room: usize) -> Reply {
+    if let Some(number) = table_refused(table) {
+        return Reply::Refused(number);
+    }
+    if node >= entry_count(table, width) {
+        return Reply::Refused(16);
+    }
+    if room < table.limits.gates as usize {
+        return Reply::Refused(12);
+    }
+    match chain(table, width, node) {
+        Some(list) => Reply::List(list),
+        None => Reply::Refused(13),
+    }
+}
+
+/// The list that a write would write if 12 were not tried; nothing where it is
+/// refused by another number.
+pub(super) fn written(table: &Table, width: u32, node: usize) -> Option<Vec<u32>> {
+    match write(table, width, node, usize::MAX) {
+        Reply::List(list) => Some(list),
+        _ => None,
     }
 }

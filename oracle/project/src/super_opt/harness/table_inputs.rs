@@ -6,7 +6,7 @@ use std::io::{self, Write};
 
 use super::codes::FURTHER;
 use super::inputs::evenly;
-use super::questions::Asker;
+use super::questions::{Asker, finds};
 use super::random::Random;
 use super::tables::{Limits, PLACES};
 
@@ -53,10 +53,41 @@ const BROKEN: [&str; 8] = [
 /// A matrix that is asked where there is no table.
 const UNASKED: &str = "matrix 1 0 1 0 0 0 0 0 0 0 0 0 0 0 1 0 0 0";
 
+/// A node that is asked for where there is no table.
+const UNWRITTEN: &str = "write 1 0 64";
+
+/// One line of so many, counted through all tables.
+struct Every {
+    step: usize,
+    seen: usize,
+}
+
+impl Every {
+    fn of(step: usize) -> Self {
+        Self { step, seen: 0 }
+    }
+
+    fn takes(&mut self) -> bool {
+        self.seen += 1;
+        self.seen.is_multiple_of(self.step)
+    }
+}
+
 pub(super) fn write(sample: bool, out: &mut dyn Write) -> io::Result<()> {
     for line in BROKEN {
         writeln!(out, "{line}\n{UNASKED}")?;
     }
+    for line in finds(&[UNASKED.to_owned()]) {
+        writeln!(out, "{line}\n{UNWRITTEN}")?;
+    }
+    // Of the lines of each sort that `questions` has. The steps are such that
+    // every place of a table's lines comes up.
+    let steps = if sample {
+        [1, 11, 4, 307]
+    } else {
+        [1, 1, 1, 11]
+    };
+    let mut every = steps.map(Every::of);
     for (group, (limits, wanted, asked)) in GROUPS.iter().enumerate() {
         let mut limits: Vec<(usize, Limits)> = limits().into_iter().enumerate().collect();
         if sample {
@@ -70,27 +101,35 @@ pub(super) fn write(sample: bool, out: &mut dyn Write) -> io::Result<()> {
             writeln!(out, "{}", limits.line())?;
             let short = sample && limits.qubits > SAMPLE_QUBITS;
             let asked = if short { Asked::Some } else { *asked };
-            for line in questions(limits, asked, random) {
-                writeln!(out, "{line}")?;
+            for (lines, every) in questions(limits, asked, random).iter().zip(&mut every) {
+                for line in lines.iter().filter(|_| every.takes()) {
+                    writeln!(out, "{line}")?;
+                }
             }
         }
     }
     Ok(())
 }
 
-fn questions(limits: Limits, asked: Asked, random: Random) -> Vec<String> {
+/// What is asked after a table: matrices, the same for their nodes, lists of
+/// nodes, and nodes at and past the ends.
+fn questions(limits: Limits, asked: Asked, random: Random) -> [Vec<String>; 4] {
     if limits.refusal(PLACES).is_some() {
-        return vec![UNASKED.to_owned()];
+        let matrices = vec![UNASKED.to_owned()];
+        let finds = finds(&matrices);
+        return [matrices, finds, vec![UNWRITTEN.to_owned()], Vec::new()];
     }
     let mut asker = Asker {
         limits,
         table: limits.build(),
         random,
     };
-    match asked {
+    let matrices = match asked {
         Asked::Some => asker.some(),
         Asked::All => asker.all(),
-    }
+    };
+    let finds = finds(&matrices);
+    [matrices, finds, asker.nodes(), asker.node_ends()]
 }
 
 /// The tables of SPECIFICATION 10.7 and 11.2, and more that come to their

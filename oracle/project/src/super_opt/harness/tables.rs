@@ -1,6 +1,6 @@
-//! Tables of the original and its answers to matrices, as lines. The refusals
-//! 1 to 5 of a build and 6, 9, 10, 11 of a question are decided here;
-//! the original has none of 4, 5, 6, 9, 10, 11.
+//! Tables of the original, its answers to matrices, and its nodes, as lines. The
+//! refusals 1 to 5 of a build, 6, 9, 10, 11 of a matrix and 16, 12 of a node are
+//! decided here; the original has 1, 2 and 3 alone.
 
 use std::io::{self, Write};
 
@@ -82,6 +82,20 @@ impl Limits {
     }
 }
 
+/// A table at hand, and its limits.
+pub(super) struct Built {
+    pub(super) limits: Limits,
+    pub(super) table: Murm,
+}
+
+impl Built {
+    /// A width's nodes. Other widths than 1 to Q have none (SPECIFICATION 7.3).
+    fn nodes(&self, width: u32) -> Option<&WidthTable> {
+        let has = (1..=self.limits.qubits).contains(&width);
+        has.then(|| self.table.width(width as usize).0)
+    }
+}
+
 /// A line for each width, and one for each of its nodes: the first word, which
 /// is made of the node and its fingerprint, then parent and code.
 pub(super) fn write_table(
@@ -154,20 +168,95 @@ impl Question {
     }
 
     /// The original's answer, with the fingerprint of the matrix.
-    pub(super) fn answer(&self, table: &Murm) -> String {
+    pub(super) fn answer(&self, built: &Built) -> String {
+        match self.asked(built) {
+            Ok((fingerprint, Some(codes))) => format!("{fingerprint:016x} {}", counted(&codes)),
+            Ok((fingerprint, None)) => format!("{fingerprint:016x} none"),
+            Err(refusal) => refusal,
+        }
+    }
+
+    /// The node that answers, and how many gates its list has (SPECIFICATION
+    /// 7.10). The original tells its list alone: the node is the lowest with the
+    /// fingerprint of the matrix, and must have this list.
+    pub(super) fn found(&self, built: &Built) -> String {
+        let (fingerprint, codes) = match self.asked(built) {
+            Ok((fingerprint, Some(codes))) => (fingerprint, codes),
+            Ok((_, None)) => return "none".to_owned(),
+            Err(refusal) => return refusal,
+        };
+        let nodes = built.nodes(self.width).expect("a width with a list");
+        let node = nodes_of(nodes)
+            .iter()
+            .position(|node| node.0 == fingerprint)
+            .expect("a list has a node");
+        assert_eq!(codes, node_codes(nodes, node), "the list of the node");
+        format!("{node} {}", codes.len())
+    }
+
+    /// The fingerprint of the matrix and the original's list; or the refusal.
+    fn asked(&self, built: &Built) -> Result<(u64, Option<Vec<u32>>), String> {
         if let Some(row) = self.refusal() {
-            return format!("refused {row} 0");
+            return Err(format!("refused {row} 0"));
         }
         let matrix = matrix_of(self.width as usize, self.exponent, &self.coefficients);
         let fingerprint = unitary_fingerprint(&matrix).to_bits();
-        let Some(gates) = table.synthesize(&matrix) else {
-            return format!("{fingerprint:016x} none");
+        let codes = |gates: Vec<_>| gates.iter().map(code_of_gate).collect();
+        Ok((fingerprint, built.table.synthesize(&matrix).map(codes)))
+    }
+}
+
+/// The codes of a node's list, oldest first, by the original.
+fn node_codes(nodes: &WidthTable, node: usize) -> Vec<u32> {
+    nodes.circuit(node).into_iter().map(code_of).collect()
+}
+
+/// `COUNT CODES..`.
+fn counted(codes: &[u32]) -> String {
+    let mut line = codes.len().to_string();
+    for code in codes {
+        line.push(' ');
+        line.push_str(&code.to_string());
+    }
+    line
+}
+
+/// The most places of a lent list in the port's test program.
+const MOST_PLACES: u32 = 64;
+
+/// A node whose list a table is asked for, and how many places are lent.
+pub(super) struct Wanted {
+    pub(super) width: u32,
+    pub(super) node: u32,
+    pub(super) places: u32,
+}
+
+impl Wanted {
+    /// `WIDTH NODE PLACES`, with its newline.
+    pub(super) fn of_numbers(line: &str) -> Option<Self> {
+        let [width, node, places] = numbers(line)?.try_into().ok()?;
+        (places <= MOST_PLACES).then_some(Self {
+            width,
+            node,
+            places,
+        })
+    }
+
+    pub(super) fn line(&self) -> String {
+        format!("write {} {} {}", self.width, self.node, self.places)
+    }
+
+    /// The node's list by the original, after the refusals 16 and 12
+    /// (SPECIFICATION 7.11).
+    pub(super) fn answer(&self, built: &Built) -> String {
+        let node = self.node as usize;
+        let nodes = built.nodes(self.width);
+        let Some(nodes) = nodes.filter(|nodes| node < nodes.nodes.len()) else {
+            return "refused 16 0".to_owned();
         };
-        let mut line = format!("{fingerprint:016x} {}", gates.len());
-        for gate in &gates {
-            line.push(' ');
-            line.push_str(&code_of_gate(gate).to_string());
+        if self.places < built.limits.gates {
+            return "refused 12 0".to_owned();
         }
-        line
+        counted(&node_codes(nodes, node))
     }
 }

@@ -1,11 +1,11 @@
--- `ask` takes no more coefficients than were read. Assumes nothing.
+-- `ask_matrix` takes no more coefficients than were read. Assumes nothing.
 use mathlib.Core.Path.{sym, ap}
 use native.Mathlib.Omega.{arith}
 use borrow.Author.Needs.{needs}
 use lib.Seq.{length-take-le}
 use Rattle.inspect.specs.Counted.{askedCount}
-use Rattle.inspect.proofs.ask.Statement.{statement}
-use Rattle.inspect.proofs.ask.Tie as tie
+use Rattle.inspect.proofs.ask_matrix.Statement.{statement}
+use Rattle.inspect.proofs.ask_matrix.Tie as tie
 
 array-share-prefix-space : tie.Need-array-share-prefix-space
 array-share-prefix-space c =
@@ -21,8 +21,8 @@ array-share-prefix-space-2 c = array-share-prefix-space (c .before .before)
 slice-aggregate-synthesize : tie.Need-slice-aggregate-synthesize
 slice-aggregate-synthesize c = slice-aggregate-fingerprint-of (c .before .before)
 
-pub ask-spec : {M : Type 1} → statement M
-ask-spec =
+pub ask-matrix-spec : {M : Type 1} → statement M
+ask-matrix-spec =
     tie.close
     (tie.spec
     (λ c κs. search needs)

@@ -1,16 +1,16 @@
--- `answer_width` meets its contract: the node found answers.
+-- `find_width` meets its contract: the node found is rechecked.
 use native.Mathlib.Omega.{arith}
 use borrow.Author.Needs.{needs}
 use Rattle.exact.specs.Places.{held}
-use Rattle.walk.specs.Answers.{partWith}
+use Rattle.walk.specs.Finds.{partWith}
 use Rattle.synthesis_arena.specs.Limits.{toldLimits}
 use Rattle.synthesis_arena.proofs.Told.{found-lowest}
 use Rattle.width_answer.proofs.Widths.{width-node, width-none}
-use Rattle.width_answer.proofs.answer_width.Statement.{statement}
-use Rattle.width_answer.proofs.answer_width.Tie as tie
+use Rattle.width_answer.proofs.find_width.Statement.{statement}
+use Rattle.width_answer.proofs.find_width.Tie as tie
 
-answer-node-requires : tie.Need-answer-node-requires
-answer-node-requires c κs =
+find-node-requires : tie.Need-find-node-requires
+find-node-requires c κs =
     let p = c .before .before .before .before .before .before .before .before .before .before .before .pre in
     let f = found-lowest _ _ _ _ (c .before .before .before .before .node-for .ensures) (c .before .before .node .given .1) in
     (p .0, ((omega (arith, f .below, p .1 .0 .1), omega (arith, f .below, p .1 .0 .2)), p .1 .1))
@@ -19,25 +19,24 @@ returns : tie.Need-returns
 returns c =
     let a = c .before .before .before .before .before .before .before .before .before .before .before .before .before .before .args in
     width-node (toldLimits (a .limits)) (partWith (a .fingerprints .now) (a .parents .now) (a .codes .now) (a .count))
-    (held (a .limits .width) (a .exponent) (a .query .now)) (a .out .now) (c .before .before .before .before .before .before .before .before .unitary-fingerprint .ensures)
-    (c .before .before .before .before .before .before .before .node-for .ensures) (c .before .before .before .before .before .node .given .1) (c .before .before .answer-node .ensures)
+    (held (a .limits .width) (a .exponent) (a .query .now)) (c .before .before .before .before .before .before .before .before .unitary-fingerprint .ensures) (c .before .before .before .before .before .before .before .node-for .ensures) (c .before .before .before .before .before .node .given .1)
+    (c .before .before .find-node .ensures)
 
 returns-2 : tie.Need-returns-2
 returns-2 c =
     let a = c .before .before .before .before .before .before .before .before .before .args in
     width-none (toldLimits (a .limits)) (partWith (a .fingerprints .now) (a .parents .now) (a .codes .now) (a .count))
-    (held (a .limits .width) (a .exponent) (a .query .now)) (a .out .now) (c .before .before .before .unitary-fingerprint .ensures)
-    (c .before .before .node-for .ensures) (c .enum-told .given .1)
+    (held (a .limits .width) (a .exponent) (a .query .now)) (c .before .before .before .unitary-fingerprint .ensures) (c .before .before .node-for .ensures) (c .enum-told .given .1) _
 
-pub answer-width-spec : {M : Type 1} → statement M
-answer-width-spec =
+pub find-width-spec : {M : Type 1} → statement M
+find-width-spec =
     tie.close
     (tie.spec
     (λ c. search needs)
     (λ c κs. search needs)
     (λ c κs. search needs)
     (λ c. search needs)
-    answer-node-requires
+    find-node-requires
     (λ c. search needs)
     (λ c. search needs)
     returns

@@ -1,0 +1,136 @@
+-- A find, a write and an answer of a lent table, by its rows: where no row holds they are what the part of the width gives, and an answer is
+-- refused by the rows of its find and by 12. Assumes nothing.
+use mathlib.Core.Path.{_≡_, refl, sym, ap, _∙_}
+use mathlib.Core.Bool.{Bool, true, false}
+use mathlib.Core.List.{List, [], _∷_, _++_}
+use Prim.Native.Nat.{ℕ, zero, suc, _<_}
+use native.Mathlib.Omega.{arith}
+use borrow.Author.Tests.{ne-eqb, lt-ltb}
+use Rattle.ints.specs.Lists.{pick}
+use Rattle.walk.specs.Finds.{Finding, node, findOf}
+use Rattle.walk.specs.Finds as f
+use Rattle.walk.specs.Answers.{refused, Outcome, outcome, writeOf, thenWrite, answerOf}
+use Rattle.walk.proofs.Meaning.{no-nodes, found-below}
+use Rattle.tables.specs.Checks.{Row, firstRow, Arrays, roomRow}
+use Rattle.tables.specs.Tables.{Table, Query, matrixOf, recordRow, tableRowsOf, listRow, notAWidth, countAt, limitsAt, partAt, findRows, foundBy, foundIn, nodeRow, writeRows}
+use Rattle.tables.specs.Tables.{writtenBy, writtenIn, answerRows, repliedBy, synthesized}
+use Rattle.tables.proofs.Rows.{Numbered, numbered-query, first-here, first-past, first-last, first-none, first-some, firstRow-append, append-none}
+
+-- ---- rows
+
+pub numbered-find : (t : Table) (a : Arrays) (q : Query) → Numbered (findRows t a q)
+numbered-find t a q = (omega arith, (omega arith, numbered-query (q .width) (q .exponent) (q .bytes)))
+
+-- where no row of an answer holds, none of the find's does, and the lent list is long enough
+pub passed : (t : Table) (a : Arrays) (q : Query) (out : List ℕ) → firstRow (answerRows t a q out) ≡ 0
+    → (firstRow (findRows t a q) ≡ 0) × (listRow t out .holds ≡ false)
+passed t a q out e =
+    let (g, h) = append-none (findRows t a q) (listRow t out ∷ []) (numbered-find t a q) e in
+    (g, first-none (listRow t out) [] (omega arith) h .0)
+
+-- where no row of the table and none that follow hold, the record and the arrays are not refused
+pub good-table : (t : Table) (a : Arrays) (rs : List Row) → firstRow (tableRowsOf t a ++ rs) ≡ 0
+    → (recordRow t .holds ≡ false) × (roomRow (t .limits) a .holds ≡ false) × (firstRow rs ≡ 0)
+good-table t a rs e =
+    let (g, h) = first-none (recordRow t) _ (omega arith) e in
+    let (i, j) = first-none (roomRow (t .limits) a) _ (omega arith) h in
+    (g, i, j)
+
+-- of a node that the width has, no row of a write holds
+pub rows-passed : (t : Table) (a : Arrays) (w k : ℕ) (out : List ℕ) → recordRow t .holds ≡ false → roomRow (t .limits) a .holds ≡ false → k < countAt t w
+    → listRow t out .holds ≡ false → firstRow (writeRows t a w k out) ≡ 0
+rows-passed t a w k out r m h l =
+    first-past (recordRow t) _ r ∙ first-past (roomRow (t .limits) a) _ m ∙ first-past (nodeRow t w k) _ (rw (lt-ltb k (countAt t w) h))
+    ∙ first-last (listRow t out) l
+
+-- ---- a find
+
+module _ (t : Table) (a : Arrays) (q : Query) where
+  -- what the part of the query's width gives
+  abbrev pub partFound : Finding
+  partFound = findOf (limitsAt (t .limits) (q .width)) (partAt t a (q .width)) (matrixOf q)
+
+  pub find-passed : firstRow (findRows t a q) ≡ 0 → foundIn t a q ≡ partFound
+  unfolding foundIn
+  find-passed e = ap (foundBy t a q) e
+
+  pub find-refused : (r : ℕ) → 0 < r → firstRow (findRows t a q) ≡ r → foundIn t a q ≡ f.refused r 0
+  unfolding foundIn
+  find-refused r h e = ap (foundBy t a q) e ∙ rw (ne-eqb r 0 (omega arith))
+
+  -- a width that the table does not have has no node
+  pub no-part : notAWidth t (q .width) ≡ true → partFound ≡ f.none
+  no-part e = no-nodes (limitsAt (t .limits) (q .width)) (partAt t a (q .width)) (matrixOf q) (rw e)
+
+-- ---- a write
+
+module _ (t : Table) (a : Arrays) (w k : ℕ) (out : List ℕ) where
+  abbrev pub partWritten : Outcome
+  partWritten = writeOf (limitsAt (t .limits) w) (partAt t a w) k out
+
+  pub write-passed : firstRow (writeRows t a w k out) ≡ 0 → writtenIn t a w k out ≡ partWritten
+  unfolding writtenIn
+  write-passed e = ap (writtenBy t a w k out) e
+
+  pub write-refused : (r : ℕ) → 0 < r → firstRow (writeRows t a w k out) ≡ r → writtenIn t a w k out ≡ outcome (refused r 0) out
+  unfolding writtenIn
+  write-refused r h e = ap (writtenBy t a w k out) e ∙ rw (ne-eqb r 0 (omega arith))
+
+-- ---- an answer
+
+module _ (t : Table) (a : Arrays) (q : Query) (out : List ℕ) where
+  abbrev pub partAsked : Outcome
+  partAsked = answerOf (limitsAt (t .limits) (q .width)) (partAt t a (q .width)) (matrixOf q) out
+
+  -- the write of a node found meets no row
+  node-written : firstRow (answerRows t a q out) ≡ 0 → (k m : ℕ) → partFound t a q ≡ node k m → writtenIn t a (q .width) k out ≡ partWritten t a (q .width) k out
+  node-written e k m g =
+      let (h, l) = passed t a q out e in
+      let (r, s, z) = good-table t a _ h in
+      write-passed t a (q .width) k out (rows-passed t a (q .width) k out r s (found-below (limitsAt (t .limits) (q .width)) (partAt t a (q .width)) (matrixOf q) g) l)
+
+  pub answer-passed : firstRow (answerRows t a q out) ≡ 0 → synthesized t a q out ≡ partAsked
+  unfolding synthesized answerOf
+  answer-passed e =
+      ap (repliedBy t a q out) e ∙ ap (thenWrite (λ k. writtenIn t a (q .width) k out) out) (find-passed t a q (passed t a q out e .0))
+      ∙ by (partFound t a q) refl
+    where
+      by : (g : Finding) → partFound t a q ≡ g
+          → thenWrite (λ k. writtenIn t a (q .width) k out) out g ≡ thenWrite (λ k. partWritten t a (q .width) k out) out g
+      by (node k m) h = node-written e k m h
+      by f.none h = refl
+      by (f.refused r p) h = refl
+
+  pub answer-refused : (r : ℕ) → 0 < r → firstRow (answerRows t a q out) ≡ r → synthesized t a q out ≡ outcome (refused r 0) out
+  unfolding synthesized
+  answer-refused r h e = ap (repliedBy t a q out) e ∙ rw (ne-eqb r 0 (omega arith))
+
+  -- an answer whose find meets no row: 12, or what the part answers
+  pub asked-is : firstRow (findRows t a q) ≡ 0 → pick (listRow t out .holds) (outcome (refused 12 0) out) partAsked ≡ synthesized t a q out
+  asked-is e = by (listRow t out .holds) refl
+    where
+      rest : firstRow (answerRows t a q out) ≡ firstRow (listRow t out ∷ [])
+      rest = firstRow-append (findRows t a q) (listRow t out ∷ []) (numbered-find t a q) e
+
+      by : (b : Bool) → listRow t out .holds ≡ b → pick b (outcome (refused 12 0) out) partAsked ≡ synthesized t a q out
+      by true h = sym (answer-refused 12 (omega arith) (rest ∙ first-here (listRow t out) [] h))
+      by false h = sym (answer-passed (rest ∙ first-last (listRow t out) h))
+
+  -- the part's answer is its find, followed by the write of the node found
+  pub asked-by : {g : Finding} → partFound t a q ≡ g → partAsked ≡ thenWrite (λ k. partWritten t a (q .width) k out) out g
+  unfolding answerOf
+  asked-by e = ap (thenWrite (λ k. partWritten t a (q .width) k out) out) e
+
+  -- with a lent list that is long enough for every good record, an answer is the find, followed by the write
+  pub followed : (recordRow t .holds ≡ false → listRow t out .holds ≡ false)
+      → thenWrite (λ k. writtenIn t a (q .width) k out) out (foundIn t a q) ≡ synthesized t a q out
+  unfolding synthesized
+  followed long = by (firstRow (findRows t a q)) refl
+    where
+      by : (r : ℕ) → firstRow (findRows t a q) ≡ r → thenWrite (λ k. writtenIn t a (q .width) k out) out (foundIn t a q) ≡ repliedBy t a q out (firstRow (answerRows t a q out))
+      by zero e =
+          let rest = firstRow-append (findRows t a q) (listRow t out ∷ []) (numbered-find t a q) e in
+          sym (ap (repliedBy t a q out) (rest ∙ first-last (listRow t out) (long (good-table t a _ e .0))))
+      by (suc r) e =
+          ap (thenWrite (λ k. writtenIn t a (q .width) k out) out) (find-refused t a q (suc r) (omega arith) e)
+          ∙ sym (answer-refused (suc r) (omega arith) (first-some (findRows t a q) (listRow t out ∷ []) (suc r) (omega arith) e))

@@ -1,0 +1,72 @@
+-- The node that answers a matrix in one width's part of a lent table, whatever the arrays hold: look-up, chain, recheck (SPECIFICATION 7.4 to
+-- 7.6). That a node found is right rests on the recheck alone. Assumes nothing.
+use mathlib.Core.Bool.{Bool, true, false, _&&_}
+use mathlib.Core.List.{List}
+use Prim.Native.Nat.{ℕ}
+use lib.ListN.{length}
+use Rattle.ints.specs.Lists.{pick}
+use Rattle.exact.specs.Matrix.{Exact}
+use Rattle.exact.specs.Lists.{product}
+use Rattle.exact.specs.Fits.{Steps, allFit, unfitAt, steps}
+use Rattle.exact.specs.Phase.{upToPhase}
+use Rattle.exact.specs.Fingerprint.{fingerprint}
+use Rattle.walk.specs.Lookup.{Lookup, found, lowestFrom}
+use Rattle.walk.specs.Lookup as lookup
+use Rattle.walk.specs.Chains.{Chain, good, bad, chainOf}
+
+-- ---- what is asked of
+
+-- the limits of a width: its number, the basis, the gate limit, the entry limit (SPECIFICATION 6.1)
+pub record WidthLimits : Type 0 where
+  pub width : ℕ
+  pub basis : ℕ
+  pub gates : ℕ
+  pub entries : ℕ
+
+-- a width's part of the three arrays, and how many nodes it has (SPECIFICATION 6.2)
+pub record Part : Type 0 where
+  pub fingerprints : List ℕ
+  pub parents : List ℕ
+  pub codes : List ℕ
+  pub count : ℕ
+
+abbrev pub partWith : List ℕ → List ℕ → List ℕ → ℕ → Part
+partWith f u c count = record { fingerprints = f; parents = u; codes = c; count = count }
+
+-- ---- the recheck
+
+-- every step fits
+abbrev pub fitsAll : Steps → Bool
+fitsAll allFit = true
+fitsAll (unfitAt i) = false
+
+-- a list passes for the matrix x: all its steps fit, and its product is equal up to phase to x (SPECIFICATION 7.6)
+unfoldable pub rechecked : ℕ → List ℕ → Exact → Bool
+rechecked n l x = fitsAll (steps n l) && upToPhase n (product n l) x
+
+-- ---- what is found
+
+-- a node and how many gates its list has; none; or a refusal: first its number, then its position
+pub data Finding : Type 0 where
+  node : ℕ → ℕ → Finding
+  none : Finding
+  refused : ℕ → ℕ → Finding
+
+-- the chain of a node in a width's part
+abbrev pub chainAt : WidthLimits → Part → ℕ → Chain
+chainAt limits part k = chainOf (limits .width) (limits .basis) (part .parents) (part .codes) (limits .gates) k
+
+-- by the chain of node k: the node is found where its list passes the recheck, and 13 is told where the chain is bad; `rest` is what is found
+-- where the list does not pass (SPECIFICATION 7.5, 7.6)
+abbrev pub byChain : ℕ → Exact → ℕ → Finding → Chain → Finding
+byChain n x k rest (good l) = pick (rechecked n l x) (node k (length l)) rest
+byChain n x k rest bad = refused 13 0
+
+-- by what the look-up gave: the chain of the node is read; no node, none (SPECIFICATION 7.4)
+abbrev pub byLookup : WidthLimits → Part → Exact → Finding → Lookup → Finding
+byLookup limits part x rest (found k) = byChain (limits .width) x k rest (chainAt limits part k)
+byLookup limits part x rest lookup.none = none
+
+-- the node found for the matrix x, by the lowest node that has its fingerprint (SPECIFICATION 7.4)
+unfoldable pub findOf : WidthLimits → Part → Exact → Finding
+findOf limits part x = byLookup limits part x none (lowestFrom (part .fingerprints) (part .count) 0 (fingerprint (limits .width) x))

@@ -1,0 +1,220 @@
+//! Several causes of a refusal at once. Of each set of causes the first in the
+//! order of the operation is told; without any there is a list.
+
+use super::damage::{MOST, TABLES, built, limits_of, listed};
+use super::port::{Finding, Reply, Table};
+use super::random::Random;
+use super::rules::{Asked, times_root, written};
+use super::tally::Tally;
+
+/// How often each set of causes is asked, of each table.
+const ROUNDS: usize = 8;
+
+/// What each cause of an answer is told by, in order.
+const ANSWER: [u64; 8] = [13, 5, 6, 9, 10, 11, 12, 13];
+
+/// The place of 12 there, which a find does not try.
+const SHORT_LIST: usize = 6;
+
+/// The same of a write.
+const WRITE: [u64; 5] = [13, 5, 16, 12, 13];
+
+pub(super) fn run(tally: &mut Tally) {
+    let mut random = Random::new(53);
+    for limits in TABLES {
+        let table = built(limits_of(limits), tally);
+        for _ in 0..ROUNDS {
+            for causes in 0..1 << ANSWER.len() {
+                answer(&table, causes, &mut random, tally);
+            }
+            for causes in 0..1 << WRITE.len() {
+                write(&table, causes, &mut random, tally);
+            }
+        }
+    }
+}
+
+/// The number of the first of a set of causes.
+fn first(order: &[u64], causes: usize) -> Option<u64> {
+    (0..order.len())
+        .find(|&cause| causes >> cause & 1 != 0)
+        .map(|cause| order[cause])
+}
+
+/// A width of the table, and one of its nodes.
+fn node_of(table: &Table, random: &mut Random) -> (u32, usize) {
+    let width = 1 + random.below(table.limits.qubits as usize);
+    (width as u32, random.below(table.count(width)))
+}
+
+/// The record is made bad, in one of the ways that there are.
+fn break_record(table: &mut Table, random: &mut Random) {
+    let row = 3 * random.below(table.limits.qubits as usize);
+    let limits = &mut table.limits;
+    match random.below(13) {
+        0 => limits.qubits = 0,
+        1 => limits.qubits = 6,
+        2 => limits.qubits = 4294967295,
+        3 => limits.entries = 0,
+        4 => limits.entries = 1_000_001,
+        5 => limits.entries = 4294967295,
+        6 => limits.basis = 0,
+        7 => limits.basis |= 128,
+        8 => limits.basis |= 4096,
+        9 => limits.gates = 65,
+        10 => limits.gates = 4294967295,
+        11 => table.record[row] = 0,
+        _ => table.record[row] = u64::from(limits.entries) + 1,
+    }
+}
+
+/// One of the arrays is made one place too short.
+fn shorten(table: &mut Table, random: &mut Random) {
+    let places = table.limits.qubits as usize * table.limits.entries as usize;
+    match random.below(3) {
+        0 => table.fingerprints.truncate(places - 1),
+        1 => table.parents.truncate(places - 1),
+        _ => table.codes.truncate(places - 1),
+    }
+}
+
+/// The chain of a node is made bad, at the node or at node 0.
+fn break_chain(table: &mut Table, width: u32, node: usize, random: &mut Random) {
+    let start = (width as usize - 1) * table.limits.entries as usize;
+    let place = start + node;
+    match random.below(5) {
+        0 if node > 0 => table.parents[place] = node as u32,
+        1 if node > 0 => table.codes[place] = 0x14010,
+        2 if node > 0 => table.codes[place] = 4294967295,
+        3 => table.codes[start] = 0,
+        _ => table.parents[start] = 0,
+    }
+}
+
+/// The matrix of a node, with some of the causes 6, 9, 10, 11.
+fn query(table: &Table, width: u32, node: usize, causes: [bool; 4]) -> Asked {
+    let [wide, length, past, divisible] = causes;
+    let list = written(table, width, node).expect("a table as it was built");
+    let mut matrix = listed(width, &list);
+    if divisible {
+        matrix.exponent += 1;
+        matrix.entries = matrix.entries.into_iter().map(times_root).collect();
+    }
+    if past {
+        matrix.entries[0] = [-128, 0, 0, 0];
+    }
+    let entries = matrix.entries.iter().flatten();
+    let mut bytes: Vec<i8> = entries.map(|&coefficient| coefficient as i8).collect();
+    if wide {
+        bytes.resize(4 << 12, 0);
+    }
+    if length {
+        bytes.pop();
+    }
+    let width = if wide { 6 } else { width };
+    Asked::new(width, matrix.exponent as u16, bytes)
+}
+
+/// An answer and a find with a set of causes. The node's place, and no other of
+/// its width, has the fingerprint of what is asked.
+fn answer(table: &Table, causes: usize, random: &mut Random, tally: &mut Tally) {
+    let has = |cause: usize| causes >> cause & 1 != 0;
+    let gates = table.limits.gates as usize;
+    if has(SHORT_LIST) && gates == 0 {
+        return;
+    }
+    let (width, node) = node_of(table, random);
+    let asked = query(table, width, node, [2, 3, 4, 5].map(has));
+    let list = written(table, width, node).expect("a table as it was built");
+    let mut altered = table.clone();
+    let start = (width as usize - 1) * table.limits.entries as usize;
+    altered.fingerprints[start..][..table.count(width as usize)].fill(0);
+    if let Some((_, print)) = &asked.value {
+        altered.fingerprints[start + node] = *print;
+    }
+    if has(7) {
+        break_chain(&mut altered, width, node, random);
+    }
+    if has(1) {
+        shorten(&mut altered, random);
+    }
+    if has(0) {
+        break_record(&mut altered, random);
+    }
+    let room = match has(SHORT_LIST) {
+        true => random.below(gates),
+        false => random.one_of(&[gates, MOST]),
+    };
+    let expected = match first(&ANSWER, causes) {
+        Some(number) => Reply::Refused(number),
+        None => Reply::List(list.clone()),
+    };
+    let finding = match first(&ANSWER, causes & !(1 << SHORT_LIST)) {
+        Some(number) => Finding::Refused(number),
+        None => Finding::Node(node, list.len()),
+    };
+    tally.tables += 1;
+    tally.new_questions();
+    let (reply, found) = tally.ask(&altered, 0, &asked, room);
+    if reply != expected || found != finding {
+        tally.differs(format!("causes {causes:#b}: {reply:?}, {found:?}"));
+    }
+}
+
+/// A write with a set of causes.
+fn write(table: &Table, causes: usize, random: &mut Random, tally: &mut Tally) {
+    let has = |cause: usize| causes >> cause & 1 != 0;
+    let limits = table.limits;
+    if has(3) && limits.gates == 0 {
+        return;
+    }
+    let (mut width, mut node) = node_of(table, random);
+    let list = written(table, width, node).expect("a table as it was built");
+    let mut altered = table.clone();
+    if has(4) {
+        break_chain(&mut altered, width, node, random);
+    }
+    if has(2) {
+        // The node is past the count, or the width has none: not even where the
+        // record says so.
+        let count = table.count(width as usize);
+        match random.below(4) {
+            0 => width = 0,
+            1 => width = random.one_of(&[6, 4294967295]),
+            2 => {
+                width = limits.qubits + 1 + random.below(5 - limits.qubits as usize) as u32;
+                altered.record[3 * (width as usize - 1)] = u64::from(limits.entries);
+            }
+            _ => {
+                let past = [
+                    count,
+                    count + 1,
+                    limits.entries as usize,
+                    4294967295,
+                    1 << 40,
+                ];
+                node = random.one_of(&past);
+            }
+        }
+    }
+    if has(1) {
+        shorten(&mut altered, random);
+    }
+    if has(0) {
+        break_record(&mut altered, random);
+    }
+    let gates = limits.gates as usize;
+    let room = match has(3) {
+        true => random.below(gates),
+        false => random.one_of(&[gates, MOST]),
+    };
+    let expected = match first(&WRITE, causes) {
+        Some(number) => Reply::Refused(number),
+        None => Reply::List(list),
+    };
+    tally.tables += 1;
+    let reply = tally.write(&altered, width, node, room);
+    if reply != expected {
+        tally.differs(format!("causes {causes:#b} of a write: {reply:?}"));
+    }
+}

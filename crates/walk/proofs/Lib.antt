@@ -18,6 +18,11 @@ pub mod Samples
 pub mod NotEmpty
 pub mod Rechecks
 pub mod Lookups
+pub mod Rounds
+pub mod Empties
+pub mod Inserting
+pub mod Probing
+pub mod Indexed
 pub mod Chaining
 pub mod Rechecked
 pub mod Meaning

@@ -1,6 +1,8 @@
 pub mod Walk
 pub mod AtWidth
 pub mod Lookup
+pub mod Index
+pub mod IndexLaws
 pub mod Chains
 pub mod Finds
 pub mod Answers

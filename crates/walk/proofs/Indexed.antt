@@ -1,0 +1,43 @@
+-- Either look-up finds the lowest node, as long as the part is kept up, and a part that is kept up is what a fill leaves. Assumes nothing.
+use mathlib.Core.Path.{_≡_, refl, sym, ap, _∙_}
+use mathlib.Core.List.{List}
+use Prim.Native.Nat.{ℕ, suc, _<_}
+use native.Mathlib.Omega.{arith}
+use lib.ListN.{length, set}
+use lib.Seq.{getD-set-same, getD-set-other}
+use Rattle.walk.specs.Lookup.{found, lowestFrom}
+use Rattle.walk.specs.Index.{By, scan, indexed, lookedUp, keptUp, kept, filled, inserted}
+use Rattle.walk.specs.IndexLaws.{Roomy, NodeFrom, Indexing}
+use Rattle.walk.proofs.Lookups.{looks-up}
+use Rattle.walk.proofs.Inserting.{filled-length, filled-cong}
+use Rattle.walk.proofs.Probing.{probes, filled-scans}
+
+-- in the part that goes with a table both find the same node, for every fingerprint
+pub kept-looks-up : (by : By) (fps old : List ℕ) (count from f : ℕ) → Roomy by count old
+    → lookedUp by (kept by fps count old) fps count from f ≡ lowestFrom fps count from f
+kept-looks-up scan fps old count from f h = refl
+kept-looks-up indexed fps old count from f h = filled-scans fps (length old) count from f (h refl .0) (h refl .1)
+
+-- a node is appended and put in: what a fill of the longer table leaves
+pub kept-more : (by : By) (fps old : List ℕ) (count f : ℕ) → count < length fps
+    → keptUp by (kept by fps count old) f count ≡ kept by (set fps count f) (suc count) old
+unfolding filled
+kept-more scan fps old count f h = refl
+kept-more indexed fps old count f h =
+    ap (λ (i : List ℕ). inserted i f count)
+    (filled-cong fps (set fps count f) (length old) count (λ v l. sym (getD-set-other fps count v f 0 (λ e. absurd (omega arith)))))
+    ∙ ap (λ (g : ℕ). inserted (filled (set fps count f) (length old) count) g count) (sym (getD-set-same fps count f 0 h))
+
+pub kept-length : (by : By) (fps old : List ℕ) (count : ℕ) → length (kept by fps count old) ≡ length old
+kept-length scan fps old count = refl
+kept-length indexed fps old count = filled-length fps (length old) count
+
+-- whatever the part holds, a node that is found has the fingerprint
+pub looked-node : (by : By) (index fps : List ℕ) (count from f v : ℕ) → lookedUp by index fps count from f ≡ found v → NodeFrom fps count from f v
+looked-node scan index fps count from f v e =
+    let w = looks-up fps count from f .is-found v .0 e in
+    record { not-before = w .not-before; below = w .below; has = w .has }
+looked-node indexed index fps count from f v e = probes index fps count from f .is-found v .0 e .leads-to
+
+pub indexing : Indexing
+indexing = record { same = kept-looks-up; more = kept-more; sound = looked-node; probe = probes }

@@ -1,5 +1,6 @@
-//! With the feature `port` the port's archives, `libmurm_c.a` and `libbench.a` in
-//! the folder that `PORT` names, are linked beside the original.
+//! With the feature `port` the archive of crates/bench, `libbench.a` in the folder
+//! that `PORT` names, is linked beside the original; the crate `murm` links that of
+//! crates/murm_c.
 
 use std::env;
 
@@ -10,8 +11,6 @@ fn main() {
     }
     let port = env::var("PORT").expect("PORT is the folder of the port's archives");
     println!("cargo:rustc-link-search=native={port}");
-    for archive in ["murm_c", "bench"] {
-        println!("cargo:rerun-if-changed={port}/lib{archive}.a");
-        println!("cargo:rustc-link-lib=static={archive}");
-    }
+    println!("cargo:rerun-if-changed={port}/libbench.a");
+    println!("cargo:rustc-link-lib=static=bench");
 }

@@ -13,7 +13,7 @@ use Rattle.ints.specs.Bits.{bit}
 use Rattle.ints.specs.Lists.{pick, all}
 use Rattle.ints.proofs.Bools.{and-true, and-assoc}
 use Rattle.cyclotomic.specs.Zomega.{Zω, zeroω, oneω, addω, subω, mulω, turn, sqrt2}
-use Rattle.cyclotomic.proofs.Sums.{add-comm, add-zero}
+use Rattle.cyclotomic.proofs.Sums.{add-comm, add-zero, zero-add as add-zero-left}
 use Rattle.cyclotomic.proofs.Turns.{sub-is, turn-sum, turn-none}
 use Rattle.cyclotomic.proofs.Product.{one-mul, zero-mul, turn-is-mul, sqrt2-is-mul}
 use Rattle.cyclotomic.proofs.Four.{same4, oneE, addE, subE, mulE, turnE, of2}
@@ -67,9 +67,6 @@ ones-append : (ks : List ℕ) (t r : ℕ) → ones (ks ++ (t ∷ [])) r ≡ ones
 unfolding all
 ones-append [] t r = and-true (bit r t)
 ones-append (k ∷ ks) t r = ap (λ (b : Bool). bit r k && b) (ones-append ks t r) ∙ sym (and-assoc (bit r k) (ones ks r) (bit r t))
-
-add-zero-left : (x : Zω) → addω zeroω x ≡ x
-add-zero-left x = add-comm zeroω x ∙ add-zero x
 
 root-one : (y z : Zω) → addω (mulω (addω oneω (turn 2 oneω)) y) (mulω (addω oneω (turn 6 oneω)) z) ≡ subω (addω z y) (turn 2 (subω z y))
 unfolding addω subω mulω oneω turn

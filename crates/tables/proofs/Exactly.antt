@@ -4,10 +4,9 @@ use mathlib.Core.Logic.{_↔_, _⊎_, inl, inr}
 use mathlib.Core.List.{List, [], _∷_}
 use Prim.Native.Nat.{ℕ, zero, suc}
 use native.Mathlib.Omega.{arith}
-use Rattle.walk.specs.Finds.{Finding}
 use Rattle.walk.specs.Finds as f
-use Rattle.walk.specs.Answers.{Reply, given, none, refused, Outcome, outcome}
-use Rattle.walk.proofs.Meaning.{kind-of, find-means, write-means}
+use Rattle.walk.specs.Answers.{refused, Outcome, outcome}
+use Rattle.walk.proofs.Meaning.{first, second, kind-of, found-first, found-second, find-means, write-means}
 use Rattle.tables.specs.Checks.{firstRow, Limits, Arrays}
 use Rattle.tables.specs.Tables.{Table, BuildReply, table, refusal, Left, left, recordOf, builtTo, buildRows, buildOf, Query, matrixOf, limitsAt, partAt, findRows, foundIn, writeRows, writtenIn, synthesized}
 use Rattle.tables.specs.Exactly.{Cause, cause, First, NoCause, buildCauses, BadChain, answerCauses, findCauses, BadNode, writeCauses, Exactly}
@@ -58,16 +57,6 @@ module _ (l : Limits) (a : Arrays) where
 
 -- ---- an answer
 
-abbrev first : Reply → ℕ
-first (given m) = 0
-first none = 0
-first (refused r p) = r
-
-abbrev second : Reply → ℕ
-second (given m) = 0
-second none = 0
-second (refused r p) = p
-
 module _ (t : Table) (a : Arrays) (q : Query) (out : List ℕ) where
   -- the last row: the chain found
   abbrev chain : Cause
@@ -107,16 +96,6 @@ module _ (t : Table) (a : Arrays) (q : Query) (out : List ℕ) where
       from (inr (n, inr (m, f))) z = absurd f
 
 -- ---- a find
-
-abbrev found-first : Finding → ℕ
-found-first (f.node k m) = 0
-found-first f.none = 0
-found-first (f.refused r p) = r
-
-abbrev found-second : Finding → ℕ
-found-second (f.node k m) = 0
-found-second f.none = 0
-found-second (f.refused r p) = p
 
 module _ (t : Table) (a : Arrays) (q : Query) where
   find : (r p : ℕ) → (foundIn t a q ≡ f.refused r p) ↔ First r p (findCauses t a q)

@@ -8,7 +8,6 @@ use native.Mathlib.Omega.{arith}
 use borrow.Author.Tests.{lt-ltb, le-ltb, ltb-false}
 use lib.ListN.{length, drop, replicate, length-replicate}
 use Rattle.exact.specs.Unitary.{Unitary}
-use Rattle.exact.proofs.Values.{pick-ind}
 use Rattle.walk.specs.Walk.{listAt}
 use Rattle.walk.specs.Chains.{Chain, good, bad}
 use Rattle.walk.specs.Finds.{Finding, node, chainAt}
@@ -17,37 +16,22 @@ use Rattle.walk.specs.Answers.{none, refused, Outcome, outcome, written, writeO
 use Rattle.walk.specs.Meaning.{FoundBy}
 use Rattle.walk.proofs.Sequences.{lt-or}
 use Rattle.walk.proofs.Chaining.{good-by}
-use Rattle.walk.proofs.Meaning.{kind, kind-of, found-kind, find-means, found-below, written-good, written-bad}
-use Rattle.tables.specs.Checks.{Row, firstRow, Arrays, roomRow}
+use Rattle.walk.proofs.Meaning.{kind, kind-of, found-kind, found-first, find-means, found-below, written-good, written-bad}
+use Rattle.tables.specs.Checks.{firstRow, Arrays, roomRow}
 use Rattle.tables.specs.Tables.{Table, widthAt, countAt, walkOf, Query, matrixOf, recordRow, listRow, nodeRow, limitsAt, partAt, findRows, foundIn, writeRows, writtenIn}
 use Rattle.tables.specs.Tables.{answerRows, synthesized}
 use Rattle.tables.specs.Built.{Built}
 use Rattle.tables.specs.Demand3.{Gives, GivesNone, Refuses, NoSmaller, Complete}
 use Rattle.tables.specs.FindWrite.{Finds, FindsNone, FindRefuses, FindDecided, a-node, no-node, a-refusal, FindComplete}
 use Rattle.tables.specs.FindWrite.{Writes, WriteRefuses, WriteDecided, a-list, not-written, FindWrite}
-use Rattle.tables.proofs.Rows.{first-here, first-past, first-none, firstRow-append}
+use Rattle.tables.proofs.Rows.{Numbers, first-number, first-here, first-past, first-none, firstRow-append}
 use Rattle.tables.proofs.Counts.{good-record}
 use Rattle.tables.proofs.Asked.{numbered-find, passed, good-table, rows-passed, partFound, find-passed, find-refused, write-passed, write-refused, answer-refused, followed}
 use Rattle.tables.proofs.Replies.{rowOfAnswer, number-of, not-given, one-list, gives-asked}
 use Rattle.tables.proofs.OfBuilt.{counted, chain-at}
 use Rattle.tables.proofs.Demand3.{demand}
 
--- ---- a refusal among what is found
-
-abbrev number : Finding → ℕ
-number (node k m) = 0
-number f.none = 0
-number (f.refused r p) = r
-
--- no row has the number m
-abbrev Without : ℕ → List Row → Type 0
-Without m [] = Unit {0}
-Without m (r ∷ rs) = (r .number ≡ m → ⊥) × Without m rs
-
-never-first : (m : ℕ) (rs : List Row) → 0 < m → Without m rs → firstRow rs ≡ m → ⊥
-unfolding firstRow
-never-first m [] p u = λ e. absurd (omega (arith, p, e))
-never-first m (r ∷ rs) p u = pick-ind (λ (z : ℕ). z ≡ m → ⊥) (r .holds) (λ h e. u .0 e) (λ h e. never-first m rs p (u .1) e)
+-- ---- a find, a row at a time
 
 -- a list that is long enough
 abbrev longList : Table → List ℕ
@@ -98,7 +82,7 @@ module _ (t : Table) (a : Arrays) (q : Query) where
   never-12 : FindRefuses t a q 12 → ⊥
   never-12 n = by (firstRow (findRows t a q)) refl
     where
-      other : Without 12 (findRows t a q)
+      other : Numbers (λ (k : ℕ). k ≡ 12 → ⊥) (findRows t a q)
       other = (
         (λ e. absurd (omega (arith, e))),
         (
@@ -121,8 +105,8 @@ module _ (t : Table) (a : Arrays) (q : Query) where
           let (x, y, z) = find-means (limitsAt (t .limits) (q .width)) (partAt t a (q .width)) (matrixOf q) .is-refused 12 0 .0 (sym (find-passed t a q e) ∙ n) in
           absurd (omega (arith, y))
       by (suc r) e =
-          let z : suc r ≡ 12 = ap number (sym (find-refused t a q (suc r) (omega arith) e) ∙ n) in
-          never-first 12 (findRows t a q) (omega arith) other (e ∙ z)
+          let z : suc r ≡ 12 = ap found-first (sym (find-refused t a q (suc r) (omega arith) e) ∙ n) in
+          first-number (λ (k : ℕ). k ≡ 12 → ⊥) (findRows t a q) (λ z. absurd (omega (arith, z))) other (e ∙ z)
 
   -- with a lent list that is long enough the answer is what was found, and then written
   module _ (out : List ℕ) (room : t .limits .gates ≤ length out) where
@@ -293,7 +277,7 @@ find-write = record {
   right = λ t a q k m h out l w. let (z, g) = answered t a q k m h out l w in let r = demand .right t a q out l g in (z, r .0, r .1, r .2);
   unitary = unitary;
   larger = larger;
-  complete = λ t a b le q n. find-complete t a q (demand .complete t a b le q n);
+  complete = find-complete;
   never-13 = λ t a b q n. never-13 t a q b n;
   node-written = node-written;
 }

@@ -12,7 +12,6 @@ use lib.ListN.{length, getD, drop}
 use lib.Seq.{getD-take, getD-drop}
 use Rattle.ints.proofs.Bools.{neither}
 use Rattle.exact.specs.Matrix.{Exact, Lowest, allDivisible}
-use Rattle.exact.proofs.Values.{pick-ind}
 use Rattle.exact.specs.Places.{read, held}
 use Rattle.walk.proofs.Nodewise.{answered}
 use Rattle.walk.specs.Walk.{listAt}
@@ -21,11 +20,11 @@ use Rattle.walk.specs.Finds.{partWith, chainAt}
 use Rattle.walk.specs.Answers.{given, refused, outcome, answerOf}
 use Rattle.walk.specs.Answers as a
 use Rattle.walk.proofs.Meaning.{kind-of}
-use Rattle.tables.specs.Checks.{Row, firstRow, Arrays, placesOf, roomRow, queryRows}
+use Rattle.tables.specs.Checks.{firstRow, Arrays, placesOf, roomRow, queryRows}
 use Rattle.tables.specs.Tables.{Table, Width, widthAt, walkOf, Query, query, matrixOf, recordRow, listRow, partOf, notAWidth, countAt, synthesized, limitsAt, partAt}
 use Rattle.tables.specs.Built.{Built}
 use Rattle.tables.specs.Demand3.{Gives}
-use Rattle.tables.proofs.Rows.{numbered-query, first-past, append-none}
+use Rattle.tables.proofs.Rows.{first-number, numbered-query, first-past, append-none}
 use Rattle.tables.proofs.Causes.{is-true, fails, none-to}
 use Rattle.tables.proofs.InWords.{query-in-words}
 use Rattle.tables.proofs.Accepted.{above, accepted, roomy}
@@ -34,19 +33,6 @@ use Rattle.tables.proofs.FromBuild.{walk-count}
 use Rattle.tables.proofs.Counts.{width-is, good-record}
 use Rattle.tables.proofs.Joined.{toldOption, Holding, chain-held, joined}
 use Rattle.tables.proofs.Replies.{not-given, one-list, rowOfAnswer, width-asked, gives-asked}
-
--- ---- numbers of rows
-
--- every row's number is up to m
-abbrev UpTo : ℕ → List Row → Type 0
-UpTo m [] = Unit {0}
-UpTo m (r ∷ rs) = (r .number ≤ m) × UpTo m rs
-
--- and so is the first's that holds
-first-up-to : (m : ℕ) (rs : List Row) → UpTo m rs → firstRow rs ≤ m
-unfolding firstRow
-first-up-to m [] u = omega arith
-first-up-to m (r ∷ rs) u = pick-ind (λ (z : ℕ). z ≤ m) (r .holds) (λ e. u .0) (λ e. first-up-to m rs (u .1))
 
 -- ---- a query that no row refuses
 
@@ -109,7 +95,7 @@ module _ (t : Table) (a : Arrays) (b : Built t a) where
   -- so row 13 does not
   pub rows-up-to : (q : Query) (out : List ℕ) → rowOfAnswer t a q out ≤ 12
   rows-up-to q out =
-      let u = first-up-to 12 (queryRows (q .width) (q .exponent) (q .bytes) ++ (listRow t out ∷ []))
+      let u = first-number (λ (k : ℕ). k ≤ 12) (queryRows (q .width) (q .exponent) (q .bytes) ++ (listRow t out ∷ [])) (omega arith)
       (omega arith, (omega arith, (omega arith, (omega arith, (omega arith, tt))))) in
       omega (arith, rows-are q out, u)
 

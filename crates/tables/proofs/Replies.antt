@@ -10,7 +10,7 @@ use lib.ListN.{length, take, drop}
 use lib.Seq.{take-at}
 use Rattle.walk.specs.Answers.{Reply, given, none, refused, Outcome, outcome}
 use Rattle.walk.specs.Meaning.{AnsweredBy, Means, Right}
-use Rattle.walk.proofs.Meaning.{kind, size, kind-of, means, answers-right}
+use Rattle.walk.proofs.Meaning.{kind, size, first, kind-of, means, answers-right}
 use Rattle.tables.specs.Checks.{firstRow, Arrays}
 use Rattle.tables.specs.Tables.{Table, Query, matrixOf, answerRows, notAWidth, synthesized, limitsAt, partAt}
 use Rattle.tables.proofs.Asked.{partAsked, no-part, answer-passed, answer-refused, asked-by}
@@ -18,14 +18,8 @@ use Rattle.tables.specs.Demand3.{Gives, GivesNone, Refuses, NotRefused, 
 
 -- ---- one answer is one case alone
 
--- the number of a refusal
-abbrev number : Reply → ℕ
-number (given m) = 0
-number none = 0
-number (refused r p) = r
-
 pub number-of : {r s : ℕ} {l m : List ℕ} → outcome (refused r 0) l ≡ outcome (refused s 0) m → r ≡ s
-number-of e = ap (λ (o : Outcome). number (o .reply)) e
+number-of e = ap (λ (o : Outcome). first (o .reply)) e
 
 pub not-given : {A : Type 0} {b : Reply} {m : ℕ} {l k : List ℕ} → 0 < kind b → outcome b k ≡ outcome (given m) l → A
 not-given h e = absurd (omega (arith, h, kind-of e))

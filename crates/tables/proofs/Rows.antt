@@ -10,10 +10,20 @@ use Rattle.tables.specs.Checks.{Row, firstRow, Limits, limitRows, queryR
 
 -- ---- numbers of rows
 
+-- P is so of every row's number
+abbrev pub Numbers : (ℕ → Type 0) → List Row → Type 0
+Numbers P [] = Unit {0}
+Numbers P (r ∷ rs) = P (r .number) × Numbers P rs
+
+-- then of the first's that holds, if it is so of 0 too
+pub first-number : (P : ℕ → Type 0) (rs : List Row) → P 0 → Numbers P rs → P (firstRow rs)
+unfolding firstRow
+first-number P [] z u = z
+first-number P (r ∷ rs) z u = pick-ind P (r .holds) (λ e. u .0) (λ e. first-number P rs z (u .1))
+
 -- every row's number is not 0
 abbrev pub Numbered : List Row → Type 0
-Numbered [] = Unit {0}
-Numbered (r ∷ rs) = (0 < r .number) × Numbered rs
+Numbered = Numbers (λ k. 0 < k)
 
 pub numbered-limits : (l : Limits) → Numbered (limitRows l)
 numbered-limits l = (omega arith, (omega arith, (omega arith, (omega arith, tt))))

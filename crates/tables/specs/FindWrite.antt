@@ -9,14 +9,14 @@ use lib.ListN.{length, drop}
 use Rattle.exact.specs.Matrix.{PowerOf}
 use Rattle.exact.specs.Lists.{product}
 use Rattle.exact.specs.Unitary.{Unitary}
-use Rattle.walk.specs.AtWidth.{ListOf, NoSharedPrint}
+use Rattle.walk.specs.AtWidth.{ListOf}
 use Rattle.walk.specs.Finds.{node}
 use Rattle.walk.specs.Finds as f
 use Rattle.walk.specs.Answers.{given, refused, outcome}
 use Rattle.tables.specs.Checks.{Arrays}
 use Rattle.tables.specs.Tables.{Table, widthAt, countAt, Query, matrixOf, foundIn, writtenIn}
 use Rattle.tables.specs.Built.{Built}
-use Rattle.tables.specs.Demand3.{Gives, GivesNone, Refuses, NoSmaller, Reaches}
+use Rattle.tables.specs.Demand3.{Gives, GivesNone, Refuses, NoSmaller, Reaches, Complete}
 
 -- ---- what is found
 
@@ -83,8 +83,8 @@ pub record FindWrite : Type 0 where
   pub larger : (t t′ : Table) (a a′ : Arrays) → Built t a → Built t′ a′ → NoSmaller (t .limits) (t′ .limits) → (q : Query) (k m : ℕ) → Finds t a q k m
       → (k′ : ℕ) × Finds t′ a′ q k′ m
       × ((out out′ l : List ℕ) → Writes t a (q .width) k out l → Writes t′ a′ (q .width) k′ out′ l ⊎ WriteRefuses t′ a′ (q .width) k′ out′ 12)
-  pub complete : (t : Table) (a : Arrays) → Built t a → t .limits .gates ≤ 13
-      → (q : Query) → NoSharedPrint (q .width) (t .limits .basis) (t .limits .gates) → FindComplete t a q
+  -- wherever an answer is shortest and none means that there is no list, so it is with a find
+  pub complete : (t : Table) (a : Arrays) (q : Query) → Complete t a q → FindComplete t a q
   pub never-13 : (t : Table) (a : Arrays) → Built t a → (q : Query) → FindRefuses t a q 13 → ⊥
   -- every node of a built table is written where the lent list is long enough
   pub node-written : (t : Table) (a : Arrays) → Built t a → (w k : ℕ) → k < countAt t w → (out : List ℕ) → t .limits .gates ≤ length out

@@ -1,14 +1,16 @@
 -- Either look-up finds the lowest node, as long as the part is kept up, and a part that is kept up is what a fill leaves. Assumes nothing.
 use mathlib.Core.Path.{_≡_, refl, sym, ap, _∙_}
-use mathlib.Core.List.{List}
+use mathlib.Core.List.{List, [], _∷_}
 use Prim.Native.Nat.{ℕ, suc, _<_}
 use native.Mathlib.Omega.{arith}
 use lib.ListN.{length, set}
 use lib.Seq.{getD-set-same, getD-set-other}
-use Rattle.walk.specs.Lookup.{found, lowestFrom}
-use Rattle.walk.specs.Index.{By, scan, indexed, lookedUp, keptUp, kept, filled, inserted}
+use Rattle.circuit.specs.Codes.{mark}
+use Rattle.walk.specs.Lookup.{found, none, lowestFrom}
+use Rattle.walk.specs.Index.{By, scan, indexed, lookedUp, keptUp, kept, filled, inserted, freeOf, probed, probeOf}
 use Rattle.walk.specs.IndexLaws.{Roomy, NodeFrom, Indexing}
 use Rattle.walk.proofs.Lookups.{looks-up}
+use Rattle.walk.proofs.Rounds.{place-first, place-next}
 use Rattle.walk.proofs.Inserting.{filled-length, filled-cong}
 use Rattle.walk.proofs.Probing.{probes, filled-scans}
 
@@ -39,5 +41,21 @@ looked-node scan index fps count from f v e =
     record { not-before = w .not-before; below = w .below; has = w .has }
 looked-node indexed index fps count from f v e = probes index fps count from f .is-found v .0 e .leads-to
 
+computed : (kept indexed (7 ∷ 3 ∷ 7 ∷ []) 3 (0 ∷ 0 ∷ 0 ∷ 0 ∷ []) ≡ 1 ∷ 2 ∷ mark ∷ 0 ∷ [])
+    × (lookedUp indexed (1 ∷ 2 ∷ mark ∷ 0 ∷ []) (7 ∷ 3 ∷ 7 ∷ []) 3 1 7 ≡ found 2)
+    × (lookedUp indexed (5 ∷ 5 ∷ []) (7 ∷ 3 ∷ []) 2 0 3 ≡ none)
+unfolding filled inserted freeOf probed probeOf
+computed = (refl, refl, refl)
+
 pub indexing : Indexing
-indexing = record { same = kept-looks-up; more = kept-more; sound = looked-node; probe = probes }
+indexing = record {
+  begins = λ size f h. sym (place-first size f h);
+  onward = λ size f j. sym (place-next size f j);
+  enough = λ old h e. (omega arith, h);
+  scan-leaves = λ fps old count. refl;
+  computed = computed;
+  same = kept-looks-up;
+  more = kept-more;
+  sound = looked-node;
+  probe = probes;
+}

@@ -34,12 +34,12 @@ size (given m) = m
 size none = 0
 size (refused a i) = 0
 
-abbrev first : Reply → ℕ
+abbrev pub first : Reply → ℕ
 first (given m) = 0
 first none = 0
 first (refused a i) = a
 
-abbrev second : Reply → ℕ
+abbrev pub second : Reply → ℕ
 second (given m) = 0
 second none = 0
 second (refused a i) = i
@@ -54,15 +54,15 @@ found-kind (f.node k m) = 0
 found-kind f.none = 1
 found-kind (f.refused a i) = 2
 
-abbrev found-node : Finding → ℕ
-found-node (f.node k m) = k
-found-node f.none = 0
-found-node (f.refused a i) = a
+abbrev pub found-first : Finding → ℕ
+found-first (f.node k m) = k
+found-first f.none = 0
+found-first (f.refused a i) = a
 
-abbrev found-size : Finding → ℕ
-found-size (f.node k m) = m
-found-size f.none = 0
-found-size (f.refused a i) = i
+abbrev pub found-second : Finding → ℕ
+found-second (f.node k m) = m
+found-second f.none = 0
+found-second (f.refused a i) = i
 
 kinds : {a b : Finding} → a ≡ b → found-kind a ≡ found-kind b
 kinds e = ap found-kind e
@@ -205,7 +205,7 @@ module _ (limits : WidthLimits) (part : Part) (x : Exact) where
       to-node : {j m : ℕ} → View → finding ≡ f.node j m → (l : List ℕ) × By j l × (m ≡ length l)
       to-node (a-node {k} {l} w) e =
           let h = sym (node-found w) ∙ e in
-          (l, subst (λ (i : ℕ). By i l) (ap found-node h) w, sym (ap found-size h))
+          (l, subst (λ (i : ℕ). By i l) (ap found-first h) w, sym (ap found-second h))
       to-node (no-node w) e = absurd (omega (arith, kinds (sym (none-found w) ∙ e)))
       to-node (a-fault w) e = absurd (omega (arith, kinds (sym (bad-found w) ∙ e)))
 
@@ -220,7 +220,7 @@ module _ (limits : WidthLimits) (part : Part) (x : Exact) where
       to-bad : {a i : ℕ} → View → finding ≡ f.refused a i → Bad × (a ≡ 13) × (i ≡ 0)
       to-bad (a-node w) e = absurd (omega (arith, kinds (sym (node-found w) ∙ e)))
       to-bad (no-node w) e = absurd (omega (arith, kinds (sym (none-found w) ∙ e)))
-      to-bad (a-fault w) e = let h = sym e ∙ bad-found w in (w, ap found-node h, ap found-size h)
+      to-bad (a-fault w) e = let h = sym e ∙ bad-found w in (w, ap found-first h, ap found-second h)
 
       from-bad : {a i : ℕ} → Bad × (a ≡ 13) × (i ≡ 0) → finding ≡ f.refused a i
       from-bad (w, p, q) = bad-found w ∙ (λ j. f.refused (sym p j) (sym q j))

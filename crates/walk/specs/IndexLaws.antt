@@ -1,13 +1,13 @@
 -- What an index is good for, whatever the fingerprints are, equal ones among them; and what a probe comes to, said of places, whatever the part holds
 -- (SPECIFICATION 7.13 to 7.15). Assumes nothing.
 use mathlib.Core.Path.{_≡_}
-use mathlib.Core.List.{List}
+use mathlib.Core.List.{List, [], _∷_}
 use mathlib.Core.Logic.{_↔_}
-use Prim.Native.Nat.{ℕ, suc, _≤_, _<_}
+use Prim.Native.Nat.{ℕ, suc, _+_, _%_, _≤_, _<_}
 use lib.ListN.{length, getD, set}
 use Rattle.circuit.specs.Codes.{mark}
 use Rattle.walk.specs.Lookup.{found, none, lowestFrom}
-use Rattle.walk.specs.Index.{placeOf, probed, By, indexed, lookedUp, keptUp, kept}
+use Rattle.walk.specs.Index.{placeOf, probed, By, scan, indexed, lookedUp, keptUp, kept}
 
 -- a node is below the count, not below the start, and has the fingerprint
 pub record NodeFrom (fingerprints : List ℕ) (count from fingerprint node : ℕ) : Type 0 where
@@ -50,6 +50,18 @@ abbrev pub Roomy : By → ℕ → List ℕ → Type 0
 Roomy by count old = by ≡ indexed → (count ≤ length old) × (count ≤ mark)
 
 pub record Indexing : Type 0 where
+  -- a probe begins at the fingerprint's remainder by the size, and each step goes to the next place, round the part
+  pub begins : (size fingerprint : ℕ) → 0 < size → placeOf size fingerprint 0 ≡ fingerprint % size
+  pub onward : (size fingerprint j : ℕ) → placeOf size fingerprint (j + 1) ≡ (placeOf size fingerprint j + 1) % size
+  -- as many places as nodes are enough
+  pub enough : (old : List ℕ) → length old ≤ mark → Roomy indexed (length old) old
+  -- the scan leaves what was lent
+  pub scan-leaves : (fingerprints old : List ℕ) (count : ℕ) → kept scan fingerprints count old ≡ old
+  -- computed: node 1 meets node 0 at the last place and goes round; node 2, with node 0's fingerprint, comes after both, and is found from 1 on; a part
+  -- without an empty place, whose numbers are all past the count, leads to none
+  pub computed : (kept indexed (7 ∷ 3 ∷ 7 ∷ []) 3 (0 ∷ 0 ∷ 0 ∷ 0 ∷ []) ≡ 1 ∷ 2 ∷ mark ∷ 0 ∷ [])
+      × (lookedUp indexed (1 ∷ 2 ∷ mark ∷ 0 ∷ []) (7 ∷ 3 ∷ 7 ∷ []) 3 1 7 ≡ found 2)
+      × (lookedUp indexed (5 ∷ 5 ∷ []) (7 ∷ 3 ∷ []) 2 0 3 ≡ none)
   -- in the part that goes with a table either look-up finds the lowest node with the fingerprint
   pub same : (by : By) (fingerprints old : List ℕ) (count from fingerprint : ℕ) → Roomy by count old
       → lookedUp by (kept by fingerprints count old) fingerprints count from fingerprint ≡ lowestFrom fingerprints count from fingerprint

@@ -189,7 +189,7 @@ fn time_answers(
             for question in questions {
                 let coefficients = black_box(&question.coefficients);
                 let exponent = question.exponent;
-                black_box(table.synthesize(width as u32, exponent, coefficients, &mut out));
+                let _ = black_box(table.synthesize(width as u32, exponent, coefficients, &mut out));
             }
         },
     )

@@ -1,48 +1,17 @@
-//! The port's functions, out of the archives that are made from crates/murm_c and
-//! crates/bench. No other file here names them.
+//! The port's functions: lists and answers by the crate in rust/, over the archive
+//! of crates/murm_c; the others out of the archive of crates/bench. No other file
+//! here names them.
+
+use murm::{Arrays, Query, Record, Refusal};
 
 use super::tables::Limits;
 
-/// What `murm_synthesize` and `bench_find` return for none. A lower number counts
-/// gates, or is a node times `NODE` and its gate count; a higher one is a
-/// refusal's number times `STEP`, and its position.
+/// What `bench_find` returns for none. A lower number is a node times `NODE` and
+/// its gate count, or a write's gate count; a higher one is a refusal's number
+/// times `STEP`, and its position.
 const NONE: u64 = 4294967295;
 const STEP: u64 = 1 << 32;
 const NODE: u64 = 128;
-
-#[link(name = "murm_c", kind = "static")]
-unsafe extern "C" {
-    fn murm_library_circuit_matrix(
-        width: u32,
-        codes: *const u32,
-        count: usize,
-        out: *mut i8,
-        places: usize,
-    ) -> u64;
-    fn murm_synthesize(
-        qubits: u32,
-        gates: u32,
-        entries: u32,
-        basis: u32,
-        count1: usize,
-        count2: usize,
-        count3: usize,
-        count4: usize,
-        count5: usize,
-        fingerprints: *const u64,
-        fingerprint_places: usize,
-        parents: *const u32,
-        parent_places: usize,
-        codes: *const u32,
-        code_places: usize,
-        width: u32,
-        exponent: u16,
-        matrix: *const i8,
-        matrix_places: usize,
-        out: *mut u32,
-        places: usize,
-    ) -> u64;
-}
 
 #[link(name = "bench", kind = "static")]
 unsafe extern "C" {
@@ -104,18 +73,9 @@ unsafe extern "C" {
     ) -> u64;
 }
 
-/// The exponent, where the list fits; every refusal is above 16 bits.
+/// The exponent, where the list is not refused.
 pub(super) fn list(width: usize, codes: &[u32], out: &mut [i8]) -> Option<u16> {
-    let told = unsafe {
-        murm_library_circuit_matrix(
-            width as u32,
-            codes.as_ptr(),
-            codes.len(),
-            out.as_mut_ptr(),
-            out.len(),
-        )
-    };
-    u16::try_from(told).ok()
+    murm::library_circuit_matrix(width as u32, codes, out).ok()
 }
 
 /// The fingerprint by the entry, which tests its matrix first.
@@ -162,15 +122,6 @@ fn refusal(told: u64) -> u64 {
     told / STEP
 }
 
-/// An answer or a write by its cases, with the lent list after it.
-fn reply(told: u64, list: &[u32]) -> Reply {
-    match told {
-        NONE => Reply::None,
-        count if count < NONE => Reply::List(list[..count as usize].to_vec()),
-        _ => Reply::Refused(refusal(told)),
-    }
-}
-
 impl Table {
     /// Arrays of so many places, nothing built.
     pub(super) fn with_places(limits: Limits, places: usize) -> Self {
@@ -213,46 +164,43 @@ impl Table {
         }
     }
 
-    /// How many gates the list has, or another number for anything else. Of the
-    /// record only the counts are asked for: no answer depends on the rest.
+    /// How many gates the list has; none. Of the record only the counts are asked
+    /// for: no answer depends on the rest.
     pub(super) fn synthesize(
         &self,
         width: u32,
         exponent: u16,
         matrix: &[i8],
         out: &mut [u32],
-    ) -> u64 {
-        let [qubits, gates, entries, basis] = self.limits();
-        unsafe {
-            murm_synthesize(
-                qubits,
-                gates,
-                entries,
-                basis,
-                self.count(1),
-                self.count(2),
-                self.count(3),
-                self.count(4),
-                self.count(5),
-                self.fingerprints.as_ptr(),
-                self.fingerprints.len(),
-                self.parents.as_ptr(),
-                self.parents.len(),
-                self.codes.as_ptr(),
-                self.codes.len(),
-                width,
-                exponent,
-                matrix.as_ptr(),
-                matrix.len(),
-                out.as_mut_ptr(),
-                out.len(),
-            )
-        }
+    ) -> Result<Option<usize>, Refusal> {
+        let [q, g, e, b] = self.limits();
+        let record = Record {
+            q,
+            g,
+            e,
+            b,
+            counts: [1, 2, 3, 4, 5].map(|width| self.count(width)),
+        };
+        let arrays = Arrays {
+            fingerprints: &self.fingerprints,
+            parents: &self.parents,
+            codes: &self.codes,
+        };
+        let query = Query {
+            width,
+            exponent,
+            coefficients: matrix,
+        };
+        murm::synthesize(&record, arrays, query, out)
     }
 
-    /// The answer by its cases.
+    /// The answer by its cases, with the lent list after it.
     pub(super) fn ask(&self, width: u32, exponent: u16, matrix: &[i8], out: &mut [u32]) -> Reply {
-        reply(self.synthesize(width, exponent, matrix, out), out)
+        match self.synthesize(width, exponent, matrix, out) {
+            Ok(Some(count)) => Reply::List(out[..count].to_vec()),
+            Ok(None) => Reply::None,
+            Err(refusal) => Reply::Refused(u64::from(refusal.number())),
+        }
     }
 
     /// The node that answers a matrix.
@@ -314,6 +262,9 @@ impl Table {
                 out.len(),
             )
         };
-        reply(told, out)
+        match told {
+            count if count < NONE => Reply::List(out[..count as usize].to_vec()),
+            _ => Reply::Refused(refusal(told)),
+        }
     }
 }

@@ -1,0 +1,35 @@
+-- The scan and the index side by side (SPECIFICATION 7.13 to 7.17, 8.15): an index that is filled from a table, damaged or not, answers as the scan;
+-- a fill leaves such an index, and so does a build, place by place; a second fill changes nothing. Assumes nothing.
+use mathlib.Core.Path.{_≡_}
+use mathlib.Core.List.{List}
+use Prim.Native.Nat.{ℕ, _<_}
+use lib.ListN.{length}
+use Rattle.walk.specs.Index.{scan, indexed}
+use Rattle.walk.specs.Answers.{Outcome}
+use Rattle.tables.specs.Checks.{Limits, Arrays, arrays, arraysBy}
+use Rattle.tables.specs.Tables.{Table, table, left, buildOf, filledIndex, filled, fillLeft, fillOf, Query, foundIn, writtenIn, synthesized}
+use Rattle.tables.specs.Built.{FilledFrom}
+
+-- the same arrays, looked up by the scan
+abbrev pub scanned : Arrays → Arrays
+scanned a = arrays (a .prints) (a .parents) (a .codes)
+
+-- the same arrays with another index, through which they are looked up
+abbrev pub through : Arrays → List ℕ → Arrays
+through a i = arraysBy indexed (a .prints) (a .parents) (a .codes) i
+
+pub record EitherLookup : Type 0 where
+  -- the theorem of the request: whatever the table holds
+  pub find-same : (t : Table) (a : Arrays) → FilledFrom t a → (q : Query) → foundIn t a q ≡ foundIn t (scanned a) q
+  pub answer-same : (t : Table) (a : Arrays) → FilledFrom t a → (q : Query) (out : List ℕ) → synthesized t a q out ≡ synthesized t (scanned a) q out
+  -- a write does not look up
+  pub write-same : (t : Table) (a : Arrays) (w k : ℕ) (out : List ℕ) → writtenIn t a w k out ≡ writtenIn t (scanned a) w k out
+  -- a fill that is not refused leaves an index that is filled from the table
+  pub fill-filled : (t : Table) (a : Arrays) (i : List ℕ) → fillOf t a ≡ fillLeft filled i → FilledFrom t (through a i)
+  -- a build leaves in the three arrays and returns what it does by the scan, and in the index what a fill from its table leaves
+  pub build-same : (l : Limits) (a b : Arrays) (t : Table) → buildOf l a ≡ left (table t) b → buildOf l (scanned a) ≡ left (table t) (scanned b)
+  pub build-filled : (l : Limits) (a b : Arrays) (t : Table) → a .by ≡ indexed → buildOf l a ≡ left (table t) b → fillOf t b ≡ fillLeft filled (b .index)
+  -- the scan leaves the index
+  pub scan-leaves : (l : Limits) (a b : Arrays) (t : Table) → a .by ≡ scan → buildOf l a ≡ left (table t) b → b .index ≡ a .index
+  -- an index keeps its length
+  pub fill-length : (t : Table) (a : Arrays) → length (fillOf t a .index) ≡ length (a .index)

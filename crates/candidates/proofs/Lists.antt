@@ -48,7 +48,7 @@ module _ (n basis : ℕ) (small : n ≤ 5) where
       ok = and-both (stepsFit (atWidth n basis) l) (upToPhase n x x) e (test-of-power n low low (power-refl n x))
 
 module _ {lim : WidthLimits} (small : lim .width ≤ 5) where
-  module _ {f u c : List ℕ} {count k top : ℕ} (h : Live lim f u c count k top) where
+  module _ {f u c i : List ℕ} {count k top : ℕ} (h : Live by lim f u c i count k top) where
     -- the arrays hold the parents and the gates of the nodes
     holds : HoldsChains (h .ns) u c
     holds = record {

@@ -10,6 +10,7 @@ use borrow.Author.Tests.{eq-eqb, ne-eqb}
 use lib.Dec.{eqb}
 use lib.ListN.{length}
 use Rattle.ints.specs.Lists.{pick}
+use Rattle.walk.specs.Index.{By}
 use Rattle.walk.specs.Walk.{Rules, Node, State, Build, root, listAt, layer, settled, deeper, ended, depths, begin}
 use Rattle.walk.proofs.Grown.{Grown, alone, ParentsTo}
 use Rattle.synthesis_arena.specs.declared.WidthLimits.{WidthLimits}
@@ -31,7 +32,7 @@ unfolding depths
 ended-stays R E b zero e = refl
 ended-stays R E b (suc m) e = rw e
 
-module _ (lim : WidthLimits) (f0 u0 c0 i0 : List ℕ) (goal : Build) where
+module _ (by : By) (lim : WidthLimits) (f0 u0 c0 i0 : List ℕ) (goal : Build) where
   abbrev R : Rules
   R = rules lim
 
@@ -57,6 +58,7 @@ module _ (lim : WidthLimits) (f0 u0 c0 i0 : List ℕ) (goal : Build) where
       f0 = f0;
       u0 = u0;
       c0 = c0;
+      i0 = i0;
       ns = r .ns;
       d = d;
       columns = r .columns;
@@ -71,7 +73,7 @@ module _ (lim : WidthLimits) (f0 u0 c0 i0 : List ℕ) (goal : Build) where
 
     whole : {t : Build} → t ≡ goal → {f′ u′ c′ i′ : List ℕ} {count′ d′ : ℕ} {b : Bool} → Columns by lim f0 u0 c0 i0 (t .nodes) f′ u′ c′ i′ count′ → d′ ≡ t .depth → b ≡ t .saturated
         → Whole by lim goal f0 u0 c0 i0 f′ u′ c′ i′ (row count′ d′ b)
-    whole {t} e {f′} {u′} {c′} {count′} {d′} {b} w p q = subst (λ (z : Build). Whole by lim z f0 u0 c0 i0 f′ u′ c′ i′ (row count′ d′ b)) e (record { columns = w; depth-is = p; full-is = q })
+    whole {t} e {f′} {u′} {c′} {i′} {count′} {d′} {b} w p q = subst (λ (z : Build). Whole by lim z f0 u0 c0 i0 f′ u′ c′ i′ (row count′ d′ b)) e (record { columns = w; depth-is = p; full-is = q })
 
     pub depth-run-end : G ≤ d → Whole by lim goal f0 u0 c0 i0 f u c i (row count d false)
     unfolding depths
@@ -137,7 +139,7 @@ module _ (lim : WidthLimits) (f0 u0 c0 i0 : List ℕ) (goal : Build) where
                 ∙ ap (λ (z : ℕ). depths R E (between (next .nodes) z (suc d)) (G - suc d)) (r .columns .count-is) ∙ round-done q;
           }
 
-pub depth-run-start : {lim : WidthLimits} {f u c i : List ℕ} (h : Start by lim f u c i) → DepthRun by lim (h .f0) (h .u0) (h .c0) (h .i0) (depths (rules lim) (lim .entries) begin (lim .gates)) 0 0 f u c i 1
+pub depth-run-start : {by : By} {lim : WidthLimits} {f u c i : List ℕ} (h : Start by lim f u c i) → DepthRun by lim (h .f0) (h .u0) (h .c0) (h .i0) (depths (rules lim) (lim .entries) begin (lim .gates)) 0 0 f u c i 1
 depth-run-start {lim} h =
     let z : lim .gates - 0 ≡ lim .gates = omega arith in
     record {

@@ -8,13 +8,14 @@ use native.Mathlib.Numerals.{add-one}
 use native.Mathlib.Omega.{arith}
 use lib.ListN.{length}
 use Rattle.generators.specs.Generators.{generators}
+use Rattle.walk.specs.Index.{By}
 use Rattle.walk.specs.Walk.{Rules, Node, State, tryAll, layer}
 use Rattle.walk.proofs.Candidates.{layer-saturated}
 use Rattle.synthesis_arena.specs.declared.WidthLimits.{WidthLimits}
 use Rattle.next_node.specs.Arrays.{rules, unsaturated, Columns, Long, Live, After}
 use Rattle.candidates.proofs.Keeping.{TriedKept, kept-node, unfilled}
 
-module _ (lim : WidthLimits) (hi d : ℕ) (f0 u0 c0 i0 : List ℕ) (goal : State) where
+module _ (by : By) (lim : WidthLimits) (hi d : ℕ) (f0 u0 c0 i0 : List ℕ) (goal : State) where
   abbrev R : Rules
   R = rules lim
 
@@ -39,6 +40,7 @@ module _ (lim : WidthLimits) (hi d : ℕ) (f0 u0 c0 i0 : List ℕ) (goal : State
       f0 = f0;
       u0 = u0;
       c0 = c0;
+      i0 = i0;
       ns = r .ns;
       d = d;
       columns = r .columns;
@@ -82,7 +84,7 @@ module _ (lim : WidthLimits) (hi d : ℕ) (f0 u0 c0 i0 : List ℕ) (goal : State
         let e : unsaturated (r .ns) ≡ goal = ap (layer R E (unsaturated (r .ns)) k) z ∙ r .rest in
         subst (λ (t : State). After by lim f0 u0 c0 i0 t f u c i count false) e (record { columns = r .columns; full-is = refl })
 
-pub layer-run-start : {lim : WidthLimits} {lo : ℕ} {f u c i : List ℕ} {count : ℕ} (h : Live by lim f u c i count lo count)
+pub layer-run-start : {by : By} {lim : WidthLimits} {lo : ℕ} {f u c i : List ℕ} {count : ℕ} (h : Live by lim f u c i count lo count)
     → LayerRun by lim count (h .d) (h .f0) (h .u0) (h .c0) (h .i0) (layer (rules lim) (lim .entries) (unsaturated (h .ns)) lo (count - lo)) lo f u c i count
 layer-run-start h = record {
   ns = h .ns;

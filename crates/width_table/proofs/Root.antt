@@ -8,6 +8,7 @@ use lib.ListN.{length, take, drop}
 use lib.Seq.{take-at, sets, sets-eq, length-sets}
 use Rattle.ints.specs.Lists.{pick}
 use Rattle.generators.specs.Generators.{generators}
+use Rattle.walk.specs.Index.{By}
 use Rattle.walk.specs.Walk.{Build, root, begin, depths, isNil, walk}
 use Rattle.synthesis_arena.specs.declared.WidthLimits.{WidthLimits}
 use Rattle.next_node.specs.Arrays.{rules, Columns, Long}
@@ -34,9 +35,9 @@ module _ (lim : WidthLimits) where
   unfolding walk
   by-generators e = ap (λ (s : Bool). pick s begin deepened) (sym e)
 
-  module _ {f0 u0 c0 i0 f u c i : List ℕ} where
+  module _ {by : By} {f0 u0 c0 i0 f u c i : List ℕ} where
     abbrev pub root-start : 0 < lim .entries → Long by lim f0 u0 c0 i0 → Columns by lim f0 u0 c0 i0 (root ∷ []) f u c i 1 → Start by lim f u c i
-    root-start some long w = record { f0 = f0; u0 = u0; c0 = c0; columns = w; some = some; long = long }
+    root-start some long w = record { f0 = f0; u0 = u0; c0 = c0; i0 = i0; columns = w; some = some; long = long }
 
     pub none-whole : length (generators (lim .width) (lim .basis)) ≡ 0 → Columns by lim f0 u0 c0 i0 (root ∷ []) f u c i 1 → Whole by lim (walk (rules lim) (lim .gates) (lim .entries)) f0 u0 c0 i0 f u c i (row 1 0 false)
     none-whole z w =

@@ -12,9 +12,7 @@ use Rattle.ints.specs.Lists.{over}
 use Rattle.ints.proofs.Bools.{clash}
 use Rattle.exact.proofs.Values.{pick-ind}
 use Rattle.walk.specs.Walk.{Node, root, gate}
-use Rattle.walk.specs.AtWidth.{atWidth, printOf, parentOf}
-use Rattle.walk.proofs.Nodes.{first}
-use Rattle.walk.proofs.Layers.{walk-shape}
+use Rattle.walk.specs.AtWidth.{printOf, parentOf}
 use Rattle.walk.proofs.Held.{map-at}
 use Rattle.tables.specs.Checks.{firstRow, Limits, limitRows, Arrays, placesOf, roomRow}
 use Rattle.tables.specs.Tables.{Table, walkOf, recordOf, printsOf, parentsOf, codesOf, within, filledTo, builtTo}
@@ -22,15 +20,8 @@ use Rattle.tables.specs.Tables.{BuildReply, table, refusal, Left, left, 
 use Rattle.tables.specs.Built.{Built}
 use Rattle.tables.proofs.Rows.{numbered-limits, first-none, first-past, firstRow-append, append-none}
 use Rattle.tables.proofs.Accepted.{accepted, roomy, room-is}
+pub use Rattle.tables.proofs.Counts.{walk-count}
 use Rattle.tables.proofs.Filled.{part-length, room-at, filled-length, filled-at}
-
--- ---- a width's walk
-
--- it has a node, and at most E
-pub walk-count : (l : Limits) (w : ℕ) → 0 < l .entries → (0 < length (walkOf l w .nodes)) × (length (walkOf l w .nodes) ≤ l .entries)
-walk-count l w h =
-    let s = walk-shape (atWidth w (l .basis)) (l .gates) (l .entries) in
-    (first (atWidth w (l .basis)) (s .layered .grown) .0, s .count h)
 
 -- ---- an array filled by what p says of the nodes of each width
 

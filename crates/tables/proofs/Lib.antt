@@ -5,11 +5,12 @@ pub mod Accepted
 pub mod Coefficients
 pub mod Lists
 pub mod Filled
-pub mod FromBuild
 pub mod Counts
-pub mod Joined
+pub mod Indexes
+pub mod FromBuild
 pub mod Asked
 pub mod Replies
+pub mod Joined
 pub mod OfBuilt
 pub mod Demand2
 pub mod Demand3

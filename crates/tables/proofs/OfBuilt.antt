@@ -29,8 +29,8 @@ use Rattle.tables.proofs.Causes.{is-true, fails, none-to}
 use Rattle.tables.proofs.InWords.{query-in-words}
 use Rattle.tables.proofs.Accepted.{above, accepted, roomy}
 use Rattle.tables.proofs.Filled.{part-length, room-at}
-use Rattle.tables.proofs.FromBuild.{walk-count}
-use Rattle.tables.proofs.Counts.{width-is, good-record}
+pub use Rattle.tables.proofs.Counts.{has-width, a-width, counted}
+use Rattle.tables.proofs.Counts.{walk-count, count-at, width-is, good-record}
 use Rattle.tables.proofs.Joined.{toldOption, Holding, chain-held, joined}
 use Rattle.tables.proofs.Replies.{not-given, one-list, rowOfAnswer, width-asked, gives-asked}
 
@@ -39,23 +39,6 @@ use Rattle.tables.proofs.Replies.{not-given, one-list, rowOfAnswer, wid
 -- row 11: it is in lowest denominator
 pub asked-lowest : (n k : ℕ) (bytes : List ℤ) → firstRow (queryRows n k bytes) ≡ 0 → Lowest n (held n k bytes)
 asked-lowest n k bytes e = record { lowest = λ h. fails (is-true (allDivisible n (read n bytes))) (λ d. none-to (query-in-words (query n k bytes)) e .1 .1 .1 .0 0 ((h, d), refl)) }
-
--- a width that a table has, and back
-pub has-width : (t : Table) (w : ℕ) → 0 < w → w ≤ t .limits .qubits → notAWidth t w ≡ false
-has-width t w p h = rw (ne-eqb w 0 (omega arith), le-ltb (t .limits .qubits) w h)
-
-pub a-width : (t : Table) (w : ℕ) → notAWidth t w ≡ false → (0 < w) × (w ≤ t .limits .qubits)
-a-width t w e =
-    let p = neither (eqb w 0) (ltb (t .limits .qubits) w) e in
-    (above w (p .0), ltb-false (t .limits .qubits) w (p .1))
-
--- a width with entries is one that the table has
-pub counted : (t : Table) (w : ℕ) {k : ℕ} → k < countAt t w → (0 < w) × (w ≤ t .limits .qubits) × (countAt t w ≡ widthAt t w .count)
-counted t w h = by (notAWidth t w) refl
-  where
-    by : (b : Bool) → notAWidth t w ≡ b → (0 < w) × (w ≤ t .limits .qubits) × (countAt t w ≡ widthAt t w .count)
-    by true e = let z : countAt t w ≡ 0 = rw e in absurd (omega (arith, h, z))
-    by false e = let (p, q) = a-width t w e in (p, q, rw e)
 
 -- ---- an answer of the walk, told
 

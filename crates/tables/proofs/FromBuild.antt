@@ -50,7 +50,7 @@ module _ (l : Limits) (some : 0 < l .entries) (p : ℕ → Node → ℕ) (column
 -- ---- limits and arrays that no row refuses: the record, and the arrays filled up to Q, are a built table
 
 -- none of the limits, of the arrays and of the index is refused
-build-passed : (l : Limits) (a : Arrays) → firstRow (buildRows l a) ≡ 0
+pub build-passed : (l : Limits) (a : Arrays) → firstRow (buildRows l a) ≡ 0
     → (firstRow (limitRows l) ≡ 0) × (roomRow l a .holds ≡ false) × (partsRow l a .holds ≡ false)
 build-passed l a e =
     let (g, h) = append-none (limitRows l) (roomRow l a ∷ partsRow l a ∷ []) (numbered-limits l) e in

@@ -16,6 +16,7 @@ pub mod Demand2
 pub mod Demand3
 pub mod ListExactly
 pub mod FindWrite
+pub mod EitherLookup
 pub mod Exactly
 pub mod Refused
 pub mod Samples

@@ -9,9 +9,7 @@ use native.Mathlib.Nat.{mul-div-le, div-eq-of-eq-mul-right, zero-mul}
 use borrow.Author.Tests.{not-false}
 use lib.ListN.{length, getD, take, drop}
 use lib.Seq.{getD-take, getD-drop}
-use Rattle.circuit.specs.Codes.{mark}
 use Rattle.walk.specs.Lookup.{Lookup, lowestFrom}
-use Rattle.walk.specs.Walk.{root}
 use Rattle.walk.specs.AtWidth.{printOf}
 use Rattle.walk.specs.Index.{By, scan, indexed, lookedUp, filled, kept}
 use Rattle.walk.specs.Finds.{lookedIn}

@@ -14,12 +14,15 @@ use Rattle.walk.specs.Finds as f
 use Rattle.walk.specs.Answers.{refused, Outcome, outcome, writeOf, thenWrite, answerOf}
 use Rattle.walk.proofs.Meaning.{no-nodes, found-below}
 use Rattle.tables.specs.Checks.{Row, firstRow, Arrays, roomRow, indexRow}
-use Rattle.tables.specs.Tables.{Table, Query, matrixOf, recordRow, tableRowsOf, listRow, notAWidth, countAt, limitsAt, partAt, lookRowsOf, findRows, foundBy, foundIn}
+use Rattle.tables.specs.Tables.{Table, Query, matrixOf, recordRow, tableRowsOf, listRow, notAWidth, countAt, limitsAt, partAt, lookRows, lookRowsOf, findRows, foundBy, foundIn}
 use Rattle.tables.specs.Tables.{filledIndex, filled, not-filled, fillLeft, filledBy, fillOf}
 use Rattle.tables.specs.Tables.{nodeRow, writeRows, writtenBy, writtenIn, answerRows, repliedBy, synthesized}
 use Rattle.tables.proofs.Rows.{Numbered, numbered-query, index-number, first-here, first-past, first-last, first-none, first-some, firstRow-append, append-none}
 
 -- ---- rows
+
+pub numbered-look : (t : Table) (by : By) (f u c places : ℕ) → Numbered (lookRows t by f u c places)
+numbered-look t by f u c places = (omega arith, (omega arith, (omega (arith, index-number (t .limits) by places), tt)))
 
 pub numbered-find : (t : Table) (a : Arrays) (q : Query) → Numbered (findRows t a q)
 numbered-find t a q =

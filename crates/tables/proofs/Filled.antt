@@ -67,7 +67,7 @@ room-at w Q E h = rw (← suc-mul) (mul-le-mul-right E h)
 
 -- ---- parts of n places, of widths 1 to Q
 
--- where the two of places agree from a on, their parts there are one
+-- two lists that agree in the n places from a on have one part there
 same-part : (a n : ℕ) (xs ys : List ℕ) → a + n ≤ length xs → a + n ≤ length ys → ((i : ℕ) → i < n → getD xs (a + i) 0 ≡ getD ys (a + i) 0)
     → take n (drop a xs) ≡ take n (drop a ys)
 same-part a n xs ys h k e =

@@ -22,7 +22,7 @@ use Rattle.tables.proofs.Rows.{numbered-limits, index-number, first-non
 use Rattle.tables.proofs.Accepted.{accepted, roomy, room-is}
 pub use Rattle.tables.proofs.Counts.{walk-count}
 use Rattle.tables.proofs.Filled.{filled-length, filled-at, filled-same}
-use Rattle.tables.proofs.Indexes.{all-length, all-again, scan-leaves, fill-is-build}
+use Rattle.tables.proofs.Indexes.{all-again, scan-leaves, index-to-length, fill-is-build}
 
 -- ---- an array filled by what p says of the nodes of each width
 
@@ -82,17 +82,14 @@ pub rows-none : (l : Limits) (a : Arrays) → firstRow (limitRows l) ≡ 0 → r
 rows-none l a e r p =
     firstRow-append (limitRows l) (roomRow l a ∷ partsRow l a ∷ []) (numbered-limits l) e ∙ first-past (roomRow l a) _ r ∙ first-last (partsRow l a) p
 
--- what a build does to an index: its length stays, and a second build changes nothing
-index-length : (l : Limits) (by : By) (index : List ℕ) → length (indexTo l by (l .qubits) index) ≡ length index
-index-length l by index = all-length l by (printsOf l) (λ v. length (walkOf l v .nodes)) index
-
+-- a second build does not change an index
 index-again : (l : Limits) (by : By) (index : List ℕ) → indexTo l by (l .qubits) (indexTo l by (l .qubits) index) ≡ indexTo l by (l .qubits) index
 index-again l by index = all-again l by (printsOf l) (λ v. length (walkOf l v .nodes)) index
 
 filled-record : (l : Limits) (a : Arrays) → firstRow (buildRows l a) ≡ 0 → FilledFrom (recordOf l) (builtTo l (l .qubits) a)
 unfolding recordOf
 filled-record l a e = record {
-  parts = ap (λ (m : ℕ). indexRow l (a .by) m .holds) (index-length l (a .by) (a .index)) ∙ build-passed l a e .2;
+  parts = ap (λ (m : ℕ). indexRow l (a .by) m .holds) (index-to-length l (a .by) (l .qubits) (a .index) (omega arith)) ∙ build-passed l a e .2;
   is = λ f. sym (index-again l (a .by) (a .index)) ∙ ap (λ (z : By). indexTo l z (l .qubits) (indexTo l (a .by) (l .qubits) (a .index))) f
       ∙ sym (fill-is-build (recordOf l) (builtTo l (l .qubits) a) (built-record l a e));
 }

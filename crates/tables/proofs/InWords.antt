@@ -26,7 +26,7 @@ use Rattle.tables.specs.Checks.{Limits, limitRows, Arrays, placesOf, roo
 use Rattle.tables.specs.Tables.{buildRows, Query, Table, widthAt, allWidths, badCount, recordRow, tableRowsOf, notAWidth, lookRowsOf, findRows, nodeRow, writeRows, answerRows}
 use Rattle.tables.specs.Exactly.{limitCauses, Short, InParts, NotInParts, buildCauses, Below, queryCauses, Cause, cause, BadRecord, bad-limits, bad-count}
 use Rattle.tables.specs.Exactly.{tableCauses, lookCauses, NoNode, no-width, too-few}
-use Rattle.tables.proofs.Causes.{Decides, is-eq, is-lt, is-true, is-false, is-not, is-or, is-and, InWords, done, more, words-append, first-to, first-from, none-to}
+use Rattle.tables.proofs.Causes.{Decides, is-eq, is-lt, is-true, is-false, is-not, is-or, is-and, fails, InWords, done, more, words-append, first-to, first-from, none-to}
 
 -- ---- a test of one of m numbers from i on
 
@@ -68,7 +68,7 @@ below-power zero = omega arith
 below-power (suc m) = lt-of-le-of-lt (below-power m) (pow-lt (omega arith))
 
 -- so many places are in parts
-is-in-parts : (l : Limits) (places : ℕ) → Decides (InParts l places) (inParts l places)
+pub is-in-parts : (l : Limits) (places : ℕ) → Decides (InParts l places) (inParts l places)
 unfolding inParts
 is-in-parts l places = record { to = to; from = from }
   where
@@ -99,6 +99,9 @@ in-parts-to l places = is-in-parts l places .to
 
 pub in-parts-from : (l : Limits) (places : ℕ) → InParts l places → inParts l places ≡ true
 in-parts-from l places = is-in-parts l places .from
+
+pub not-in-parts : (l : Limits) (places : ℕ) → (InParts l places → ⊥) → inParts l places ≡ false
+not-in-parts l places = fails (is-in-parts l places)
 
 -- the two look-ups are two
 abbrev isIndexed : By → Bool

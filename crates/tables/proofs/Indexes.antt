@@ -5,13 +5,11 @@ use mathlib.Core.Bool.{true, false}
 use mathlib.Core.List.{List}
 use Prim.Native.Nat.{ℕ, zero, suc, _+_, _-_, _*_, _^_, _≤_, _<_}
 use native.Mathlib.Omega.{arith}
-use native.Mathlib.Nat.{mul-div-le, div-eq-of-eq-mul-right, zero-mul}
+use native.Mathlib.Nat.{mul-le-mul-right, mul-div-le, div-eq-of-eq-mul-right, zero-mul}
 use borrow.Author.Tests.{not-false}
 use lib.ListN.{length, getD, take, drop}
 use lib.Seq.{getD-take, getD-drop}
-use Rattle.circuit.specs.Codes.{mark}
 use Rattle.walk.specs.Lookup.{Lookup, lowestFrom}
-use Rattle.walk.specs.Walk.{root}
 use Rattle.walk.specs.AtWidth.{printOf}
 use Rattle.walk.specs.Index.{By, scan, indexed, lookedUp, filled, kept}
 use Rattle.walk.specs.Finds.{lookedIn}
@@ -65,16 +63,24 @@ kept-again scan fps count old = refl
 kept-again indexed fps count old = ap (λ (n : ℕ). filled fps n count) (kept-length indexed fps old count)
 
 module _ (l : Limits) (by : By) (prints : ℕ → List ℕ) (count : ℕ → ℕ) where
-  -- an index after the parts of all widths were made to go with so many nodes of these fingerprints
+  -- an index after the parts of widths 1 to w were made to go with so many nodes of these fingerprints
+  abbrev pub keptTo : ℕ → List ℕ → List ℕ
+  keptTo w index = partsTo (λ v. kept by (prints v) (count v)) (partSize l (length index)) w index
+
+  -- of all widths
   abbrev pub allKept : List ℕ → List ℕ
-  allKept index = partsTo (λ v. kept by (prints v) (count v)) (partSize l (length index)) (l .qubits) index
+  allKept index = keptTo (l .qubits) index
 
   keeps : (n w : ℕ) (xs : List ℕ) → length xs ≡ n → length (kept by (prints w) (count w) xs) ≡ n
   keeps n w xs e = kept-length by (prints w) xs (count w) ∙ e
 
+  pub kept-to-length : (w : ℕ) (index : List ℕ) → w ≤ l .qubits → length (keptTo w index) ≡ length index
+  kept-to-length w index h =
+      parts-length (λ v. kept by (prints v) (count v)) (partSize l (length index)) (keeps (partSize l (length index))) w index
+      (omega (arith, mul-le-mul-right (partSize l (length index)) h, parts-fit l (length index)))
+
   pub all-length : (index : List ℕ) → length (allKept index) ≡ length index
-  all-length index =
-      parts-length (λ v. kept by (prints v) (count v)) (partSize l (length index)) (keeps (partSize l (length index))) (l .qubits) index (parts-fit l (length index))
+  all-length index = kept-to-length (l .qubits) index (omega arith)
 
   all-part : (index : List ℕ) (v : ℕ) → v < l .qubits
       → take (partSize l (length index)) (drop (v * partSize l (length index)) (allKept index))
@@ -99,6 +105,10 @@ module _ (l : Limits) (by : By) (prints : ℕ → List ℕ) (count : ℕ → ℕ
 -- the scan leaves an index
 pub scan-leaves : (l : Limits) (prints : ℕ → List ℕ) (count : ℕ → ℕ) (index : List ℕ) → allKept l scan prints count index ≡ index
 scan-leaves l prints count index = parts-same (λ v. kept scan (prints v) (count v)) (partSize l (length index)) (l .qubits) index (λ v h. refl)
+
+-- what a build does to an index up to width w keeps its length
+pub index-to-length : (l : Limits) (by : By) (w : ℕ) (index : List ℕ) → w ≤ l .qubits → length (indexTo l by w index) ≡ length index
+index-to-length l by = kept-to-length l by (printsOf l) (λ v. length (walkOf l v .nodes))
 
 -- ---- an index filled from a table, whatever the table holds
 

@@ -1,17 +1,14 @@
 -- What a built table answers: rows 13 and 5 do not refuse it, and a width that it has answers as the walk does, where its index was filled from it.
 -- Assumes nothing.
 use mathlib.Core.Path.{_≡_, refl, sym, ap, _∙_}
-use mathlib.Core.Bool.{Bool, true, false}
+use mathlib.Core.Bool.{false}
 use mathlib.Core.List.{List, [], _∷_, _++_, reverse}
 use mathlib.Core.Option.{Option, none, some}
 use Prim.Native.Nat.{ℕ, _+_, _-_, _*_, _≤_, _<_}
 use native.Mathlib.Omega.{arith}
-use borrow.Author.Tests.{ltb-false, le-ltb, ne-eqb}
-use lib.Dec.{eqb, ltb}
 use lib.IntN.{ℤ}
 use lib.ListN.{length, getD, drop}
 use lib.Seq.{getD-take, getD-drop}
-use Rattle.ints.proofs.Bools.{neither}
 use Rattle.exact.specs.Matrix.{Exact, Lowest, allDivisible}
 use Rattle.exact.specs.Places.{read, held}
 use Rattle.exact.specs.Fingerprint.{fingerprint}

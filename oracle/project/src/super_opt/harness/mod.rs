@@ -15,6 +15,8 @@ mod edges;
 mod further;
 mod further_edges;
 mod gates;
+#[cfg(feature = "port")]
+mod indexes;
 mod inputs;
 mod lines;
 mod lists;
@@ -33,6 +35,8 @@ mod table_inputs;
 mod tables;
 #[cfg(feature = "port")]
 mod tally;
+#[cfg(feature = "port")]
+mod walks;
 
 use std::io::{self, BufWriter, Write};
 use std::process::ExitCode;

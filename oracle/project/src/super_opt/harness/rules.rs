@@ -1,7 +1,7 @@
 //! What a table answers, written from docs/SPECIFICATION.md alone: nothing here
 //! is the original's or the port's. All arithmetic is on 64-bit integers.
 
-use super::port::{Finding, Lookup, Reply, Table};
+use super::port::{By, Finding, Lookup, Reply, Table};
 use super::tables::Limits;
 
 /// a + b omega + c omega^2 + d omega^3.
@@ -358,15 +358,18 @@ pub(super) fn part_size(limits: &Limits, places: usize) -> Option<usize> {
 /// What is tried of a lent table and then, where nodes are looked up through an
 /// index, of that: 17.
 fn lent_refused(table: &Table, lookup: Lookup) -> Option<u64> {
-    table_refused(table).or_else(|| match lookup {
-        Lookup::Scan(_) => None,
-        Lookup::Index(index) => part_size(&table.limits, index.len()).is_none().then_some(17),
+    table_refused(table).or_else(|| match lookup.by {
+        By::Scan => None,
+        By::Index => {
+            let parts = part_size(&table.limits, lookup.index.len());
+            parts.is_none().then_some(17)
+        }
     })
 }
 
 /// The places of a part in the order in which they are looked at: onward from
 /// the fingerprint's low bits, round the part, each once.
-fn probe(size: usize, fingerprint: u64) -> impl Iterator<Item = usize> {
+pub(super) fn probe(size: usize, fingerprint: u64) -> impl Iterator<Item = usize> {
     let low = (fingerprint % size as u64) as usize;
     (low..size).chain(0..low)
 }
@@ -418,7 +421,7 @@ fn entry_count(table: &Table, width: u32) -> usize {
 }
 
 /// The fingerprints of a width's nodes. The table is not refused.
-fn prints_of(table: &Table, width: u32) -> &[u64] {
+pub(super) fn prints_of(table: &Table, width: u32) -> &[u64] {
     match entry_count(table, width) {
         0 => &[],
         count => &table.fingerprints[(width as usize - 1) * table.limits.entries as usize..][..count],
@@ -429,16 +432,18 @@ fn prints_of(table: &Table, width: u32) -> &[u64] {
 /// that has it. Neither table nor index is refused.
 fn looked_up(table: &Table, lookup: Lookup, width: u32, fingerprint: u64) -> Option<usize> {
     let prints = prints_of(table, width);
-    match lookup {
-        Lookup::Scan(_) => prints.iter().position(|&print| print == fingerprint),
+    match lookup.by {
+        By::Scan => prints.iter().position(|&print| print == fingerprint),
         // A width without nodes has no part.
-        Lookup::Index(_) if prints.is_empty() => None,
-        Lookup::Index(index) => {
-            let size = part_size(&table.limits, index.len()).expect("an index of Q parts");
-            let part = &index[(width as usize - 1) * size..][..size];
-            led_to(part, prints, fingerprint)
-        }
+        By::Index if prints.is_empty() => None,
+        By::Index => led_to(part_of(table, lookup.index, width), prints, fingerprint),
     }
+}
+
+/// The part of an index for a width that the table has. The index is not refused.
+pub(super) fn part_of<'a>(table: &Table, index: &'a [u32], width: u32) -> &'a [u32] {
+    let size = part_size(&table.limits, index.len()).expect("an index of Q parts");
+    &index[(width as usize - 1) * size..][..size]
 }
 
 /// The answer with a lent list of so many places.

@@ -2,7 +2,7 @@
 //! index that is cleared and kept up. It is for small tables: every node's matrix
 //! is kept.
 
-use super::port::{Lookup, Table};
+use super::port::{By, Lookup, Table};
 use super::rules::{EMPTY, MARK, Matrix, gate, led_to, part_size, put_in};
 use super::tables::Limits;
 
@@ -33,12 +33,11 @@ pub(super) fn build(lent: &Table, lookup: Lookup) -> Result<(Table, Vec<u32>), u
     if let Some(row) = limits.refusal(places as u64) {
         return Err(u64::from(row));
     }
-    let (mut index, mut parts) = match lookup {
-        Lookup::Scan(index) => (index.to_vec(), Vec::new()),
-        Lookup::Index(index) => (vec![EMPTY; index.len()], Vec::new()),
-    };
-    if let Lookup::Index(_) = lookup {
+    let mut index = lookup.index.to_vec();
+    let mut parts = Vec::new();
+    if lookup.by == By::Index {
         let size = part_size(&limits, index.len()).ok_or(17u64)?;
+        index.fill(EMPTY);
         parts = index.chunks_exact_mut(size).collect();
     }
     let mut parts = parts.into_iter();

@@ -16,6 +16,8 @@ mod further;
 mod further_edges;
 mod gates;
 #[cfg(feature = "port")]
+mod indexed;
+#[cfg(feature = "port")]
 mod indexes;
 mod inputs;
 mod lines;
@@ -49,6 +51,8 @@ const MODES: &[(&str, Mode)] = &[
     ("bench", bench::run),
     #[cfg(feature = "port")]
     ("damage", damage::run),
+    #[cfg(feature = "port")]
+    ("index", indexed::run),
     ("circuits", circuits::run),
     ("gates", gates::run),
     ("inputs", inputs::run),

@@ -55,9 +55,9 @@ counted-part t w r h = let (p, q, z) = counted t w h in part t w r p q
 module _ (limits : WidthLimits) (x : Exact) (by : By) (start entries place size : ℕ) (f u c i : List ℕ) {g : Finding} {list : List ℕ} where
   pub same-size : {m k count : ℕ} → m ≡ entries → k ≡ size → ListFound limits (partFrom by start m count place k f u c i) x g list
       → ListFound limits (partFrom by start entries count place size f u c i) x g list
-  same-size {m} {count = count} e h w =
+  same-size {m} {k} {count} e h w =
       subst (λ (z : ℕ). ListFound limits (partFrom by start entries count place z f u c i) x g list) h
-      (subst (λ (z : ℕ). ListFound limits (partFrom by start z count place _ f u c i) x g list) e w)
+      (subst (λ (z : ℕ). ListFound limits (partFrom by start z count place k f u c i) x g list) e w)
 
   pub same-count : {count m : ℕ} → count ≡ m → ListFound limits (partFrom by start entries count place size f u c i) x g list
       → ListFound limits (partFrom by start entries m place size f u c i) x g list

@@ -1,38 +1,62 @@
+-- `ask` meets its contract: the list found is copied. Assumes nothing.
 use borrow.Author.Needs.{needs}
+use mathlib.Core.List.{[]}
+use Prim.Native.Nat.{_-_}
+use native.Mathlib.Omega.{arith}
+use lib.ListN.{length-take}
+use Rattle.tables.specs.Checks.{Arrays, arraysBy}
+use Rattle.tables.specs.Tables.{Table, Query, query}
+use Rattle.index.specs.Told.{toldBy}
+use Rattle.murm_config.specs.Told.{toldMurm}
+use Rattle.width_answer.proofs.Widths.{answered-none, answered-bad, found-short, found-within, answered-list}
+use Rattle.murm.proofs.Asked.{short-list, long-list}
 use Rattle.murm.proofs.ask.Statement.{statement}
 use Rattle.murm.proofs.ask.Tie as tie
-use Rattle.murm.proofs.ask.Reads as reads
-use Rattle.murm.proofs.ask.Lts as lts
-use Rattle.murm.proofs.find_any.Reads as find-any-reads
-use Rattle.width_answer.proofs.copy_codes.Reads as copy-codes-reads
 
--- src/lib.rt:628:9
+-- what the definition is asked
+module _ (s : tie.Start) where
+  abbrev table : Table
+  table = toldMurm (s .args .table)
+
+  abbrev memory : Arrays
+  memory = arraysBy (toldBy (s .args .by)) (s .args .fingerprints .now) (s .args .parents .now) (s .args .codes .now) (s .args .index .now)
+
+  abbrev asked : Query
+  asked = query (s .args .width) (s .args .exponent) (s .args .matrix .now)
+
 returns : tie.Need-returns
-returns c = ?
+returns c = let s = c .before .before .before .before .before .before .before in short-list (table s) (memory s) (asked s) (s .args .out .now) (c .if1 .taken)
 
--- src/lib.rt:631:11
 find-any-requires : tie.Need-find-any-requires
-find-any-requires c κs = ?
+find-any-requires c κs = let p = c .before .before .before .before .before .before .before .before .pre in (p .0, (p .1 .0, (p .1 .1 .0, p .1 .1 .1, search needs)))
 
--- src/lib.rt:644:43
 part-copy-codes-end : tie.Need-part-copy-codes-end
-part-copy-codes-end c = ?
+part-copy-codes-end c = found-within _ _ _ [] _ (c .before .before .before .before .before .before .find-any .ensures) (c .before .before .before .size .given .1)
 
--- src/lib.rt:644:13
 copy-codes-requires : tie.Need-copy-codes-requires
-copy-codes-requires c κs = ?
+copy-codes-requires c κs =
+    omega (
+      arith,
+      c .before .before .before .before .before .before .before .before .before .if1 .left,
+      found-short _ _ _ [] _ (c .before .before .before .before .before .before .before .find-any .ensures) (c .before .before .before .before .size .given .1),
+      length-take (c .before .before .before .before .size .given .0 .1 .0 - 0) (c .before .before .before .before .before .before .before .find-any .last .1 .1 .1 .1 .1 .1 .1 .1 .1 .0),
+    )
 
--- src/lib.rt:608:1
 returns-2 : tie.Need-returns-2
-returns-2 c = ?
+returns-2 c =
+    let s = c .before .before .before .before .before .before .before .before .before .before .before .before .before .before .before .before .before .before .before in
+    long-list (table s) (memory s) (asked s) (s .args .out .now) (c .before .before .before .before .before .before .before .before .before .before .before .before .if1 .left)
+    (answered-list _ _ _ _ _ (c .before .before .before .before .before .before .before .before .before .before .find-any .ensures) (c .before .before .before .before .before .before .before .size .given .1) (c .before .before .copy-codes .ensures))
 
--- src/lib.rt:608:1
 returns-3 : tie.Need-returns-3
-returns-3 c = ?
+returns-3 c =
+    let s = c .before .before .before .before .before .before .before .before .before .before .before .before in
+    long-list (table s) (memory s) (asked s) (s .args .out .now) (c .before .before .before .before .before .if1 .left) (answered-none _ _ _ _ _ (c .before .before .before .find-any .ensures) (c .enum-told .given .1))
 
--- src/lib.rt:608:1
 returns-4 : tie.Need-returns-4
-returns-4 c = ?
+returns-4 c =
+    let s = c .before .before .before .before .before .before .before .before .before .before .before .before in
+    long-list (table s) (memory s) (asked s) (s .args .out .now) (c .before .before .before .before .before .if1 .left) (answered-bad _ _ _ _ _ (c .before .before .before .find-any .ensures) (c .enum-told2 .given .1))
 
 pub ask-spec : {M : Type 1} → statement M
 ask-spec =
@@ -53,4 +77,3 @@ ask-spec =
     returns-2
     returns-3
     returns-4)
-

@@ -1,13 +1,16 @@
+-- `build` meets its contract: by the scan, an index of no places stays one. Assumes nothing.
 use borrow.Author.Needs.{needs}
+use Rattle.tables.specs.Checks.{arrays}
+use Rattle.murm_config.specs.Told.{toldConfig}
+use Rattle.murm.proofs.Builds.{no-index}
 use Rattle.murm.proofs.build.Statement.{statement}
 use Rattle.murm.proofs.build.Tie as tie
-use Rattle.murm.proofs.build.Reads as reads
-use Rattle.murm.proofs.build.Lts as lts
-use Rattle.murm.proofs.build_by.Reads as build-by-reads
 
--- src/lib.rt:213:1
 returns : tie.Need-returns
-returns c = ?
+returns c =
+    let s = c .before .before .before .before .before .before .before .before .before .before .before .before .before .before .before .args in
+    let b = c .before .before .before .before .before .before .before .build-by in
+    no-index (toldConfig (s .config)) (arrays (s .fingerprints .now) (s .parents .now) (s .codes .now)) _ _ _ _ (b .kept .1 .1 .1 .1 .1 .0) (b .ensures)
 
 pub build-spec : {M : Type 1} → statement M
 build-spec =
@@ -21,4 +24,3 @@ build-spec =
     (λ c. search needs)
     (λ c. search needs)
     returns)
-

@@ -6,6 +6,8 @@ mod altered;
 #[cfg(feature = "port")]
 mod bench;
 #[cfg(feature = "port")]
+mod bench_index;
+#[cfg(feature = "port")]
 mod bench_tables;
 mod circuits;
 mod codes;

@@ -12,10 +12,10 @@ use Rattle.exact.specs.Matrix.{Exact}
 use Rattle.walk.specs.Index.{By}
 use Rattle.walk.specs.Finds.{WidthLimits, Finding}
 use Rattle.tables.specs.Checks.{placesOf}
-use Rattle.tables.specs.Tables.{Table, recordRow, countAt}
+use Rattle.tables.specs.Tables.{Table, widthAt, recordRow, countAt}
 use Rattle.murm.specs.Entries.{partFrom}
 use Rattle.tables.proofs.Accepted.{record-limits}
-use Rattle.tables.proofs.Counts.{counted, record-count}
+use Rattle.tables.proofs.Counts.{has-width, counted, record-count}
 use Rattle.tables.proofs.Filled.{room-at}
 
 -- where the part of a width lies, and how many of its places are counted
@@ -27,6 +27,7 @@ pub record PartBounds (t : Table) (w : ℕ) : Type 0 where
   pub entries : t .limits .entries ≤ 1000000
   pub start : (w - 1) * t .limits .entries ≤ 5000000
   pub inside : (n : ℕ) → placesOf (t .limits) ≤ n → (w - 1) * t .limits .entries + t .limits .entries ≤ n
+  pub counted : countAt t w ≡ widthAt t w .count
   pub count : countAt t w ≤ t .limits .entries
 
 pub part : (t : Table) (w : ℕ) → recordRow t .holds ≡ false → 0 < w → w ≤ t .limits .qubits → PartBounds t w
@@ -43,6 +44,7 @@ part t w r p q =
       entries = l .entries;
       start = omega (arith, mul-le-mul four (l .entries));
       inside = λ n m. omega (arith, b, m);
+      counted = rw (has-width t w p q);
       count = record-count t w r;
     }
 

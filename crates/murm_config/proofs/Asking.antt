@@ -1,7 +1,7 @@
--- The rows that are tried before a table is asked, how many entries a width has, and the rows of a node. Assumes nothing.
+-- The rows that are tried before a table is asked or built, how many entries a width has, and the rows of a node. Assumes nothing.
 use mathlib.Core.Path.{_≡_, refl, sym, ap, _∙_}
 use mathlib.Core.Bool.{true, false}
-use mathlib.Core.List.{List, _++_}
+use mathlib.Core.List.{List, [], _∷_, _++_}
 use Prim.Native.Nat.{ℕ, zero, suc, _≤_, _<_}
 use borrow.Author.Tests.{ne-eqb, lt-ltb, le-ltb}
 use native.Mathlib.Omega.{arith}
@@ -12,9 +12,10 @@ use Rattle.refusal.specs.declared.Refusal.{Refusal}
 use Rattle.refusal.specs.declared.Check.{Check}
 use Rattle.refusal.specs.declared.Check.the-variants as check
 use Rattle.refusal.proofs.Numbers as n
-use Rattle.tables.specs.Checks.{Row, firstRow, tooShort}
+use Rattle.walk.specs.Index.{By}
+use Rattle.tables.specs.Checks.{Row, firstRow, Limits, limitRows, tooShort, shortRow, indexRow}
 use Rattle.tables.specs.Tables.{Table, Width, widthAt, recordRow, tableRows, countAt, nodeRows}
-use Rattle.tables.proofs.Rows.{Numbered, first-here, first-past, first-last, first-some, firstRow-append}
+use Rattle.tables.proofs.Rows.{Numbered, numbered-limits, index-number, first-here, first-past, first-last, first-some, firstRow-append}
 
 module _ (t : Table) (f u c : ℕ) where
   pub bad : recordRow t .holds ≡ true → 13 ≡ firstRow (tableRows t f u c)
@@ -62,3 +63,28 @@ module _ (t : Table) (w k room : ℕ) where
     pub long-enough : t .limits .gates ≤ room → 0 ≡ firstRow (nodeRows t w k room)
     unfolding firstRow
     long-enough h = rw (lt-ltb k (countAt t w) there, le-ltb room (t .limits .gates) h)
+
+-- ---- row 17, the last of its rows
+
+module _ (l : Limits) (by : By) (places : ℕ) where
+  pub index-refuses : indexRow l by places .holds ≡ true → 17 ≡ firstRow (indexRow l by places ∷ [])
+  index-refuses e = sym (first-here _ _ e ∙ index-number l by places)
+
+  pub index-passes : indexRow l by places .holds ≡ false → 0 ≡ firstRow (indexRow l by places ∷ [])
+  index-passes e = sym (first-last _ e)
+
+-- ---- the rows of a build
+
+module _ (l : Limits) (by : By) (f u c places : ℕ) where
+  abbrev all : List Row
+  all = limitRows l ++ (shortRow l f u c ∷ indexRow l by places ∷ [])
+
+  pub limits-refuse : {r : Refusal} → n.Refuses r (firstRow (limitRows l)) → toldRefusal r ≡ byRow (firstRow all)
+  limits-refuse w = w .told ∙ ap byRow (sym (first-some (limitRows l) _ _ (w .some) refl))
+
+  module _ (e : firstRow (limitRows l) ≡ 0) where
+    pub arrays-short : tooShort l f u c ≡ true → 5 ≡ firstRow all
+    arrays-short h = sym (firstRow-append (limitRows l) _ (numbered-limits l) e ∙ first-here _ _ h)
+
+    pub arrays-long : tooShort l f u c ≡ false → {r : ℕ} → r ≡ firstRow (indexRow l by places ∷ []) → r ≡ firstRow all
+    arrays-long h g = g ∙ sym (firstRow-append (limitRows l) _ (numbered-limits l) e ∙ first-past _ _ h)

@@ -297,9 +297,10 @@ fn build(
     codes: &mut [u32],
     index: &mut [u32],
 ) -> Building {
+    let by = lookup.by;
     let end = index_end(config.max_qubits, lookup.size, index.len());
     murm::build_by(
-        lookup.by,
+        by,
         config,
         fingerprints,
         parents,
@@ -787,11 +788,12 @@ fn put_asked(
     let Building::Table(table) = built else {
         return circuits_lines::put_refused(out, at, Refusal::BrokenLine);
     };
+    let by = lookup.by;
     let end = index_end(table.config.max_qubits, lookup.size, index.len());
     let mut list = [0u32; 64];
     let told = ask(
         what,
-        lookup.by,
+        by,
         table,
         fingerprints,
         parents,

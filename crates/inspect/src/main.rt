@@ -299,14 +299,7 @@ fn build(
 ) -> Building {
     let by = lookup.by;
     let end = index_end(config.max_qubits, lookup.size, index.len());
-    murm::build_by(
-        by,
-        config,
-        fingerprints,
-        parents,
-        codes,
-        &mut index[..end],
-    )
+    murm::build_by(by, config, fingerprints, parents, codes, &mut index[..end])
 }
 
 // The parts of every width are emptied.
@@ -949,6 +942,55 @@ fn index_after(
     }
 }
 
+// What is at hand: the look-up, the last table, and what the last line did to the index.
+struct State {
+    lookup: Lookup,
+    table: Building,
+    filling: Filling,
+}
+
+fn first_state() -> State {
+    State {
+        lookup: Lookup {
+            by: LookupBy::Scan,
+            size: 1,
+        },
+        table: Building::Refused(Refusal::BrokenLine),
+        filling: Filling::Filled,
+    }
+}
+
+// The state after a line.
+fn after(
+    word: First,
+    last: State,
+    fingerprints: &mut [u64],
+    parents: &mut [u32],
+    codes: &mut [u32],
+    index: &mut [u32],
+    rest: &[u8],
+) -> State {
+    let before = last.lookup;
+    let built = last.table;
+    let lookup = lookup_after(word, before);
+    let table = table_after(
+        word,
+        lookup,
+        built,
+        fingerprints,
+        parents,
+        codes,
+        index,
+        rest,
+    );
+    let filling = index_after(word, lookup, table, fingerprints, parents, codes, index);
+    State {
+        lookup,
+        table,
+        filling,
+    }
+}
+
 // `index` and M: at most 27 bytes.
 fn put_index(out: &mut [u8], at: usize, m: u32) -> usize
     requires { ⌜ at + 27 ≤ length (now out) ⌝ }
@@ -961,9 +1003,7 @@ fn put_index(out: &mut [u8], at: usize, m: u32) -> usize
 // What a line prints.
 fn put_line(
     word: First,
-    lookup: Lookup,
-    table: Building,
-    filling: Filling,
+    state: State,
     fingerprints: &[u64],
     parents: &[u32],
     codes: &[u32],
@@ -975,6 +1015,9 @@ fn put_line(
     requires { ⌜ (at ≤ 16346) × (65536 ≤ length (now out)) ⌝ }
     ensures { λ r. ⌜ r ≤ 65536 ⌝ }
 {
+    let lookup = state.lookup;
+    let table = state.table;
+    let filling = state.filling;
     match word {
         First::List => put_list_line(rest, out, at),
         First::Table => put_table(table, fingerprints, parents, codes, out, at),
@@ -1010,11 +1053,7 @@ fn lines(
     requires { ⌜ 65536 ≤ length (now out) ⌝ }
 {
     let mut filled = 0;
-    let mut lookup = Lookup {
-        by: LookupBy::Scan,
-        size: 1,
-    };
-    let mut table = Building::Refused(Refusal::BrokenLine);
+    let mut state = first_state();
     let mut at = 0;
     while at < input.len() {
         let next = make_room(out, filled);
@@ -1022,23 +1061,18 @@ fn lines(
         let begun = begin(input, at, e);
         let word = begun.word;
         let rest = begun.rest;
-        lookup = lookup_after(word, lookup);
-        table = table_after(
+        state = after(
             word,
-            lookup,
-            table,
+            state,
             fingerprints,
             parents,
             codes,
             index,
             &input[rest..e],
         );
-        let filling = index_after(word, lookup, table, fingerprints, parents, codes, index);
         filled = put_line(
             word,
-            lookup,
-            table,
-            filling,
+            state,
             fingerprints,
             parents,
             codes,

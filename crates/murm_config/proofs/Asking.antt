@@ -13,9 +13,9 @@ use Rattle.refusal.specs.declared.Check.{Check}
 use Rattle.refusal.specs.declared.Check.the-variants as check
 use Rattle.refusal.proofs.Numbers as n
 use Rattle.walk.specs.Index.{By}
-use Rattle.tables.specs.Checks.{Row, firstRow, Limits, limitRows, tooShort, shortRow, indexRow}
+use Rattle.tables.specs.Checks.{Row, firstRow, Limits, tooShort, shortRow, indexRow}
 use Rattle.tables.specs.Tables.{Table, Width, widthAt, recordRow, tableRows, countAt, nodeRows}
-use Rattle.tables.proofs.Rows.{Numbered, numbered-limits, index-number, first-here, first-past, first-last, first-some, firstRow-append}
+use Rattle.tables.proofs.Rows.{Numbered, index-number, first-here, first-past, first-last, first-some, firstRow-append}
 
 module _ (t : Table) (f u c : ℕ) where
   pub bad : recordRow t .holds ≡ true → 13 ≡ firstRow (tableRows t f u c)
@@ -36,17 +36,17 @@ pub count-is : (t : Table) (w : ℕ) {v : Width} → w ≤ t .limits .qubits →
 count-is t zero h e = ap (λ (v : Width). v .count) e
 count-is t (suc w) h e = ap (λ (v : Width). v .count) e ∙ rw (ne-eqb (suc w) 0 (λ z. absurd (omega (arith, z))), le-ltb (t .limits .qubits) (suc w) h)
 
--- ---- rows after those of the table
+-- ---- rows after others, which a check has tried
 
-numbered-table : (t : Table) (f u c : ℕ) → Numbered (tableRows t f u c)
+pub numbered-table : (t : Table) (f u c : ℕ) → Numbered (tableRows t f u c)
 numbered-table t f u c = (omega arith, (omega arith, tt))
 
-module _ (t : Table) (f u c : ℕ) (rs : List Row) {x : Check} (e : toldCheck x ≡ byRow (firstRow (tableRows t f u c))) where
-  pub later-rows : x ≡ check.Passed → {r : Reason} → r ≡ byRow (firstRow rs) → r ≡ byRow (firstRow (tableRows t f u c ++ rs))
-  later-rows h g = g ∙ ap byRow (sym (firstRow-append (tableRows t f u c) rs (numbered-table t f u c) (n.passed e h)))
+module _ (rs ss : List Row) (numbered : Numbered rs) {x : Check} (e : toldCheck x ≡ byRow (firstRow rs)) where
+  pub later-rows : x ≡ check.Passed → {r : Reason} → r ≡ byRow (firstRow ss) → r ≡ byRow (firstRow (rs ++ ss))
+  later-rows h g = g ∙ ap byRow (sym (firstRow-append rs ss numbered (n.passed e h)))
 
-  pub table-refuses : {r : Refusal} → x ≡ check.Refused r → toldRefusal r ≡ byRow (firstRow (tableRows t f u c ++ rs))
-  table-refuses h = let w = n.refused e h in w .told ∙ ap byRow (sym (first-some (tableRows t f u c) rs _ (w .some) refl))
+  pub first-refuses : {r : Refusal} → x ≡ check.Refused r → toldRefusal r ≡ byRow (firstRow (rs ++ ss))
+  first-refuses h = let w = n.refused e h in w .told ∙ ap byRow (sym (first-some rs ss _ (w .some) refl))
 
 -- ---- rows 16 and 12
 
@@ -73,18 +73,11 @@ module _ (l : Limits) (by : By) (places : ℕ) where
   pub index-passes : indexRow l by places .holds ≡ false → 0 ≡ firstRow (indexRow l by places ∷ [])
   index-passes e = sym (first-last _ e)
 
--- ---- the rows of a build
+-- ---- row 5, then 17
 
 module _ (l : Limits) (by : By) (f u c places : ℕ) where
-  abbrev all : List Row
-  all = limitRows l ++ (shortRow l f u c ∷ indexRow l by places ∷ [])
+  pub arrays-short : tooShort l f u c ≡ true → 5 ≡ firstRow (shortRow l f u c ∷ indexRow l by places ∷ [])
+  arrays-short h = sym (first-here _ _ h)
 
-  pub limits-refuse : {r : Refusal} → n.Refuses r (firstRow (limitRows l)) → toldRefusal r ≡ byRow (firstRow all)
-  limits-refuse w = w .told ∙ ap byRow (sym (first-some (limitRows l) _ _ (w .some) refl))
-
-  module _ (e : firstRow (limitRows l) ≡ 0) where
-    pub arrays-short : tooShort l f u c ≡ true → 5 ≡ firstRow all
-    arrays-short h = sym (firstRow-append (limitRows l) _ (numbered-limits l) e ∙ first-here _ _ h)
-
-    pub arrays-long : tooShort l f u c ≡ false → {r : ℕ} → r ≡ firstRow (indexRow l by places ∷ []) → r ≡ firstRow all
-    arrays-long h g = g ∙ sym (firstRow-append (limitRows l) _ (numbered-limits l) e ∙ first-past _ _ h)
+  pub arrays-long : tooShort l f u c ≡ false → {r : ℕ} → r ≡ firstRow (indexRow l by places ∷ []) → r ≡ firstRow (shortRow l f u c ∷ indexRow l by places ∷ [])
+  arrays-long h g = g ∙ sym (first-past _ _ h)

@@ -39,5 +39,5 @@ pub record Beside : Type 0 where
   -- the nodes that a built table holds are in order
   pub ordered : (t : Table) (a : Arrays) → Built t a → (w : ℕ) → 0 < w → w ≤ t .limits .qubits → Ordered (t .limits) w
   -- a table is built, and an index is filled from it, exactly where a build of its limits in its arrays returns its record and changes no place
-  -- (SPECIFICATION 8.11, 8.15)
+  -- (SPECIFICATION 8.11, 8.16)
   pub built-again : (t : Table) (a : Arrays) → (Built t a × FilledFrom t a) ↔ (buildOf (t .limits) a ≡ left (table t) a)

@@ -1,4 +1,4 @@
--- A built table, and an index filled from a table (SPECIFICATION 8.11, 8.15). A built table is said of the places that hold nodes, not as the result
+-- A built table, and an index filled from a table (SPECIFICATION 8.11, 8.16). A built table is said of the places that hold nodes, not as the result
 -- of a call, so that the other places may hold anything, and copied arrays are a built table too. Assumes nothing.
 use mathlib.Core.Path.{_≡_}
 use mathlib.Core.Bool.{false}
@@ -25,7 +25,7 @@ pub record Built (t : Table) (a : Arrays) : Type 0 where
   pub nodes : (w : ℕ) → 0 < w → w ≤ t .limits .qubits → (j : ℕ) → j < length (walkOf (t .limits) w .nodes) → HoldsNode (t .limits) a w j
 
 -- row 17 does not hold, and an index is what a fill from the table leaves, whatever the table is, damaged or not; the scan asks nothing of it
--- (SPECIFICATION 8.15)
+-- (SPECIFICATION 8.16)
 pub record FilledFrom (t : Table) (a : Arrays) : Type 0 where
   pub parts : partsRow (t .limits) a .holds ≡ false
   pub is : a .by ≡ indexed → a .index ≡ filledIndex t a

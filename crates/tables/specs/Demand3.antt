@@ -74,7 +74,7 @@ pub record Demand3 : Type 0 where
   -- one of the basis at the width, of at most G gates (SPECIFICATION 8.3)
   pub right : (t : Table) (a : Arrays) (q : Query) (out l : List ℕ) → Gives t a q out l
       → PowerOf (q .width) (matrixOf q) (product (q .width) l) × ListOf (q .width) (t .limits .basis) l × (length l ≤ t .limits .gates)
-  -- a build that is not refused leaves a built table of its limits, and by the index one that is filled from it (SPECIFICATION 8.11, 8.15)
+  -- a build that is not refused leaves a built table of its limits, and by the index one that is filled from it (SPECIFICATION 8.11, 8.16)
   pub build-built : (l : Limits) (a b : Arrays) (t : Table) → buildOf l a ≡ left (table t) b → Built t b × (t .limits ≡ l) × FilledFrom t b
   -- (b) the list that a built table gives is given by each larger one too, or that one refuses by 12, since its gate limit wants a longer
   -- lent list (SPECIFICATION 8.4)

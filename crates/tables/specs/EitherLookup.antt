@@ -1,4 +1,4 @@
--- The scan and the index side by side (SPECIFICATION 7.13 to 7.17, 8.15): an index that is filled from a table, damaged or not, answers as the scan;
+-- The scan and the index side by side (SPECIFICATION 7.13 to 7.17, 8.16): an index that is filled from a table, damaged or not, answers as the scan;
 -- a fill leaves such an index, and so does a build, place by place; a second fill changes nothing. Assumes nothing.
 use mathlib.Core.Path.{_≡_}
 use mathlib.Core.List.{List}

@@ -2,12 +2,13 @@
 use mathlib.Core.Path.{_≡_, sym, ap, _∙_}
 use borrow.Author.Needs.{needs}
 use Rattle.refusal.specs.Told.{byRow}
-use Rattle.refusal.proofs.Numbers.{passed, refused}
+use Rattle.refusal.proofs.Numbers.{passed}
 use Rattle.tables.specs.Checks.{firstRow, limitRows}
 use Rattle.tables.proofs.Accepted.{accepted}
 use Rattle.index.specs.Told.{toldBy}
 use Rattle.murm_config.specs.Told.{toldConfig}
-use Rattle.murm_config.proofs.Asking.{limits-refuse, arrays-short, arrays-long, index-refuses, index-passes}
+use Rattle.tables.proofs.Rows.{numbered-limits}
+use Rattle.murm_config.proofs.Asking.{later-rows, first-refuses, arrays-short, arrays-long, index-refuses, index-passes}
 use Rattle.murm_config.proofs.check_build.Statement.{statement}
 use Rattle.murm_config.proofs.check_build.Tie as tie
 
@@ -21,7 +22,9 @@ too-short-requires c κs = let a = accepted (toldConfig (c .before .before .befo
 returns : tie.Need-returns
 returns c =
     let a = c .before .before .before .before .before .args in
-    ap byRow (arrays-short (toldConfig (a .config)) (toldBy (a .by)) (a .prints) (a .parents) (a .codes) (a .places) (allowed (c .before .before)) (sym (c .before .too-short .ensures) ∙ c .if1 .taken))
+    let l = toldConfig (a .config) in
+    later-rows (limitRows l) _ (numbered-limits l) (c .before .before .before .before .limits .ensures) (c .before .before .enum-told .given .1)
+    (ap byRow (arrays-short l (toldBy (a .by)) (a .prints) (a .parents) (a .codes) (a .places) (sym (c .before .too-short .ensures) ∙ c .if1 .taken)))
 
 bad-index-requires : tie.Need-bad-index-requires
 bad-index-requires c κs =
@@ -33,20 +36,22 @@ returns-2 : tie.Need-returns-2
 returns-2 c =
     let a = c .before .before .before .before .before .before .before .args in
     let l = toldConfig (a .config) in
-    ap byRow (arrays-long l (toldBy (a .by)) (a .prints) (a .parents) (a .codes) (a .places) (allowed (c .before .before .before .before)) (sym (c .before .before .before .too-short .ensures) ∙ c .before .before .if1 .left)
-    (index-refuses l (toldBy (a .by)) (a .places) (sym (c .before .bad-index .ensures) ∙ c .if2 .taken)))
+    later-rows (limitRows l) _ (numbered-limits l) (c .before .before .before .before .before .before .limits .ensures) (c .before .before .before .before .enum-told .given .1)
+    (ap byRow (arrays-long l (toldBy (a .by)) (a .prints) (a .parents) (a .codes) (a .places) (sym (c .before .before .before .too-short .ensures) ∙ c .before .before .if1 .left)
+    (index-refuses l (toldBy (a .by)) (a .places) (sym (c .before .bad-index .ensures) ∙ c .if2 .taken))))
 
 returns-3 : tie.Need-returns-3
 returns-3 c =
     let a = c .before .before .before .before .before .before .before .args in
     let l = toldConfig (a .config) in
-    ap byRow (arrays-long l (toldBy (a .by)) (a .prints) (a .parents) (a .codes) (a .places) (allowed (c .before .before .before .before)) (sym (c .before .before .before .too-short .ensures) ∙ c .before .before .if1 .left)
-    (index-passes l (toldBy (a .by)) (a .places) (sym (c .before .bad-index .ensures) ∙ c .if2 .left)))
+    later-rows (limitRows l) _ (numbered-limits l) (c .before .before .before .before .before .before .limits .ensures) (c .before .before .before .before .enum-told .given .1)
+    (ap byRow (arrays-long l (toldBy (a .by)) (a .prints) (a .parents) (a .codes) (a .places) (sym (c .before .before .before .too-short .ensures) ∙ c .before .before .if1 .left)
+    (index-passes l (toldBy (a .by)) (a .places) (sym (c .before .bad-index .ensures) ∙ c .if2 .left))))
 
 returns-4 : tie.Need-returns-4
 returns-4 c =
-    let a = c .before .before .before .before .args in
-    limits-refuse (toldConfig (a .config)) (toldBy (a .by)) (a .prints) (a .parents) (a .codes) (a .places) (refused (c .before .before .before .limits .ensures) (c .before .r .given .1))
+    let l = toldConfig (c .before .before .before .before .args .config) in
+    first-refuses (limitRows l) _ (numbered-limits l) (c .before .before .before .limits .ensures) (c .before .r .given .1)
 
 pub check-build-spec : {M : Type 1} → statement M
 check-build-spec =

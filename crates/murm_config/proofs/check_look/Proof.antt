@@ -5,12 +5,12 @@ use native.Mathlib.Omega.{arith}
 use borrow.Author.Needs.{needs}
 use Rattle.refusal.specs.Told.{byRow}
 use Rattle.refusal.proofs.Numbers.{passed}
-use Rattle.tables.specs.Tables.{recordRow}
+use Rattle.tables.specs.Tables.{recordRow, tableRows}
 use Rattle.tables.proofs.Rows.{first-none}
 use Rattle.tables.proofs.Accepted.{record-limits}
 use Rattle.index.specs.Told.{toldBy}
 use Rattle.murm_config.specs.Told.{toldMurm}
-use Rattle.murm_config.proofs.Asking.{later-rows, table-refuses, index-refuses, index-passes}
+use Rattle.murm_config.proofs.Asking.{numbered-table, later-rows, first-refuses, index-refuses, index-passes}
 use Rattle.murm_config.proofs.check_look.Statement.{statement}
 use Rattle.murm_config.proofs.check_look.Tie as tie
 
@@ -27,19 +27,19 @@ bad-index-requires c κs =
 returns : tie.Need-returns
 returns c =
     let a = c .before .before .before .before .before .args in
-    later-rows (toldMurm (a .table)) (a .prints) (a .parents) (a .codes) _ (c .before .before .before .before .check-table .ensures) (c .before .before .enum-told .given .1)
+    later-rows (tableRows (toldMurm (a .table)) (a .prints) (a .parents) (a .codes)) _ (numbered-table (toldMurm (a .table)) (a .prints) (a .parents) (a .codes)) (c .before .before .before .before .check-table .ensures) (c .before .before .enum-told .given .1)
     (ap byRow (index-refuses (toldMurm (a .table) .limits) (toldBy (a .by)) (a .places) (sym (c .before .bad-index .ensures) ∙ c .if1 .taken)))
 
 returns-2 : tie.Need-returns-2
 returns-2 c =
     let a = c .before .before .before .before .before .args in
-    later-rows (toldMurm (a .table)) (a .prints) (a .parents) (a .codes) _ (c .before .before .before .before .check-table .ensures) (c .before .before .enum-told .given .1)
+    later-rows (tableRows (toldMurm (a .table)) (a .prints) (a .parents) (a .codes)) _ (numbered-table (toldMurm (a .table)) (a .prints) (a .parents) (a .codes)) (c .before .before .before .before .check-table .ensures) (c .before .before .enum-told .given .1)
     (ap byRow (index-passes (toldMurm (a .table) .limits) (toldBy (a .by)) (a .places) (sym (c .before .bad-index .ensures) ∙ c .if1 .left)))
 
 returns-3 : tie.Need-returns-3
 returns-3 c =
     let a = c .before .before .before .before .args in
-    table-refuses (toldMurm (a .table)) (a .prints) (a .parents) (a .codes) _ (c .before .before .before .check-table .ensures) (c .before .r .given .1)
+    first-refuses (tableRows (toldMurm (a .table)) (a .prints) (a .parents) (a .codes)) _ (numbered-table (toldMurm (a .table)) (a .prints) (a .parents) (a .codes)) (c .before .before .before .check-table .ensures) (c .before .r .given .1)
 
 pub check-look-spec : {M : Type 1} → statement M
 check-look-spec =

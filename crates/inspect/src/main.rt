@@ -321,7 +321,7 @@ fn fill_from(
     murm::fill_index(table, fingerprints, parents, codes, &mut index[..end])
 }
 
-// The index is filled from the last table.
+// The same of the last table, where an index is used.
 fn fill(
     lookup: Lookup,
     built: Building,
@@ -1091,8 +1091,8 @@ fn lines(
 // The longest input, one byte more than which is read.
 const MOST: usize = 1048576;
 
-// The input's lines, with arrays for the nodes that the widths of a table have together, and an index of five parts of 2^18 places. The arrays are
-// locals: one that a function returns may stand on the stack three times, and these take most of it.
+// The input's lines, with arrays for the nodes that the widths of a table have together, and an index of five parts of 2^18 places. The
+// arrays are locals: one that a function returns may stand on the stack three times, and these take most of it.
 fn answer(input: &[u8]) {
     let mut out = io::large_buffer();
     let mut fingerprints = [0u64; 100000];

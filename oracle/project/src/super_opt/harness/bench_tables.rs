@@ -220,7 +220,8 @@ fn time_answers(
                 // By the scan the crate in rust/ is asked, as any caller asks it.
                 match lookup.by {
                     By::Scan => {
-                        let _ = black_box(table.synthesize(width, exponent, coefficients, &mut out));
+                        let _ =
+                            black_box(table.synthesize(width, exponent, coefficients, &mut out));
                     }
                     By::Index => {
                         let told =

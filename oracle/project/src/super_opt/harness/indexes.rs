@@ -36,6 +36,7 @@ pub(super) fn run(tally: &mut Tally) {
         asker.filled();
         asker.places();
         asker.one_number();
+        asker.last_places();
         asker.any();
         asker.altered_tables();
     }
@@ -126,8 +127,9 @@ impl Asker<'_> {
             let (one, other) = (ask(By::Index), ask(By::Scan));
             if one != other {
                 let table = table.limits.line();
-                self.tally
-                    .differs(format!("{table} through a filled index: {one:?}, {other:?}"));
+                self.tally.differs(format!(
+                    "{table} through a filled index: {one:?}, {other:?}"
+                ));
             }
         }
     }
@@ -170,6 +172,30 @@ impl Asker<'_> {
             for number in (0..most + 2).chain([limits.entries, EMPTY - 1, EMPTY]) {
                 let index = vec![number; limits.qubits as usize * size];
                 self.ask(self.table, &index, None);
+            }
+        }
+    }
+
+    /// A node at the last place that its probe comes to, or at the one before it, and
+    /// no place empty.
+    fn last_places(&mut self) {
+        let limits = self.table.limits;
+        let size = sizes(limits.entries)[0];
+        for width in 1..=limits.qubits as usize {
+            let count = self.table.count(width);
+            for node in 0..count {
+                let print = self.table.fingerprints[(width - 1) * limits.entries as usize + node];
+                for (number, step) in [
+                    (EMPTY - 1, size - 1),
+                    (count as u32, size - 1),
+                    (((node + 1) % count) as u32, size - 1),
+                    (EMPTY - 1, size - 2),
+                ] {
+                    let place = (print as usize + step) % size;
+                    let mut index = vec![number; limits.qubits as usize * size];
+                    index[(width - 1) * size + place] = node as u32;
+                    self.ask(self.table, &index, Some(width as u32));
+                }
             }
         }
     }
@@ -290,7 +316,9 @@ fn equal_fingerprints(random: &mut Random, tally: &mut Tally) {
             // The nodes of one fingerprint stand in a row, rising; but node 0 may be
             // among the places where they would be.
             let row = (0..size).map(|step| index[along(step)] as usize);
-            let row: Vec<usize> = row.filter(|&node| (lowest..NODES).contains(&node)).collect();
+            let row: Vec<usize> = row
+                .filter(|&node| (lowest..NODES).contains(&node))
+                .collect();
             if row != (lowest..NODES).collect::<Vec<usize>>() {
                 tally.differs("equal fingerprints do not rise".to_owned());
             }

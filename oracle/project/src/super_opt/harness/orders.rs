@@ -201,7 +201,9 @@ fn answer(table: &Table, by: By, causes: usize, random: &mut Random, tally: &mut
     let lookup = Lookup { by, index: &index };
     let (reply, found) = tally.ask_by(&altered, lookup, 0, &asked, room);
     if reply != expected || found != finding {
-        tally.differs(format!("causes {causes:#b} by {by:?}: {reply:?}, {found:?}"));
+        tally.differs(format!(
+            "causes {causes:#b} by {by:?}: {reply:?}, {found:?}"
+        ));
     }
 }
 

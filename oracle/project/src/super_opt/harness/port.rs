@@ -374,13 +374,7 @@ impl Table {
     }
 
     /// The node that answers a matrix.
-    pub(super) fn find(
-        &self,
-        lookup: Lookup,
-        width: u32,
-        exponent: u16,
-        matrix: &[i8],
-    ) -> Finding {
+    pub(super) fn find(&self, lookup: Lookup, width: u32, exponent: u16, matrix: &[i8]) -> Finding {
         let Lookup { by, index } = lookup;
         let told = over!(
             bench_find,
@@ -408,12 +402,7 @@ impl Table {
             bench_write,
             [],
             self,
-            [
-                width,
-                node,
-                out.as_mut_ptr(),
-                out.len(),
-            ]
+            [width, node, out.as_mut_ptr(), out.len(),]
         );
         reply(told, out)
     }

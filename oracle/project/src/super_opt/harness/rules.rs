@@ -422,10 +422,12 @@ fn entry_count(table: &Table, width: u32) -> usize {
 
 /// The fingerprints of a width's nodes. The table is not refused.
 pub(super) fn prints_of(table: &Table, width: u32) -> &[u64] {
-    match entry_count(table, width) {
-        0 => &[],
-        count => &table.fingerprints[(width as usize - 1) * table.limits.entries as usize..][..count],
+    let count = entry_count(table, width);
+    if count == 0 {
+        return &[];
     }
+    let start = (width as usize - 1) * table.limits.entries as usize;
+    &table.fingerprints[start..][..count]
 }
 
 /// The node of a width that a fingerprint is looked up to: by the scan the lowest

@@ -35,7 +35,7 @@ const CHAIN: &str = "13 of a chain";
 
 /// What must come among them: two causes together, lists that only one of find
 /// and write is about, and what an index may lead to.
-const AMONG: [&str; 13] = [
+const AMONG: [&str; 14] = [
     SHORT_FIRST,
     PASSED_OVER,
     NO_NODE_SHORT,
@@ -48,6 +48,7 @@ const AMONG: [&str; 13] = [
     OTHER_NODE,
     ABOVE_COUNT,
     ROUND,
+    LAST,
     FULL,
 ];
 
@@ -66,6 +67,7 @@ const OTHER_NODE: &str = "finds through an index of another node than by the sca
 const ABOVE_COUNT: &str =
     "nodes that a probe leads to past a number at or above the count that is not empty";
 const ROUND: &str = "nodes that a probe leads to round the end of the part";
+const LAST: &str = "nodes that a probe leads to at its last step";
 const FULL: &str = "probes of a part without an empty place that lead to no node";
 
 /// How often each of some kinds came.
@@ -344,18 +346,20 @@ impl Tally {
         }
         let part = part_of(table, index, asked.width);
         let (mut above, mut start) = (false, None);
-        for place in probe(part.len(), *print) {
+        for (step, place) in probe(part.len(), *print).enumerate() {
             let held = part[place];
             if held == EMPTY {
                 return;
             }
             let round = place < *start.get_or_insert(place);
             if prints.get(held as usize) == Some(print) {
-                if above {
-                    self.among.add(ABOVE_COUNT);
-                }
-                if round {
-                    self.among.add(ROUND);
+                let cases = [
+                    (ABOVE_COUNT, above),
+                    (ROUND, round),
+                    (LAST, step + 1 == part.len()),
+                ];
+                for (name, _) in cases.into_iter().filter(|(_, holds)| *holds) {
+                    self.among.add(name);
                 }
                 return;
             }

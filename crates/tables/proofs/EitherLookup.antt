@@ -20,6 +20,7 @@ use Rattle.tables.specs.Tables.{Table, walkOf, printsOf, indexTo, table,
 use Rattle.tables.specs.Tables.{filledIndex, FillReply, filled, not-filled, FillLeft, fillLeft, fillOf, findRows, foundIn, writtenIn, answerRows, repliedBy, synthesized}
 use Rattle.tables.specs.Built.{FilledFrom}
 use Rattle.tables.specs.EitherLookup.{scanned, through, EitherLookup}
+use Rattle.tables.proofs.InWords.{not-both}
 use Rattle.tables.proofs.Counts.{a-width, good-record}
 use Rattle.tables.proofs.Indexes.{all-again, scan-leaves, fill-keeps, looks-scan}
 use Rattle.tables.proofs.FromBuild.{build-passed, rows-none, build-fills, build-returned, build-built}
@@ -88,18 +89,26 @@ module _ (t : Table) (a : Arrays) where
       by zero e = (e, ap (λ (z : FillLeft). z .index) (sym (fill-passed t a e) ∙ n))
       by (suc r) e = clash refl (ap (λ (z : FillLeft). isFilled (z .reply)) (sym n ∙ fill-refused t a (suc r) (omega arith) e))
 
-  -- a second fill changes nothing
-  fill-again : filledIndex t (through a (filledIndex t a)) ≡ filledIndex t a
+  -- what is filled once more is the same
+  filled-again : filledIndex t (through a (filledIndex t a)) ≡ filledIndex t a
   unfolding filledIndex
-  fill-again = all-again (t .limits) indexed (λ w. partOf w (t .limits .entries) (a .prints)) (countAt t) (a .index)
+  filled-again = all-again (t .limits) indexed (λ w. partOf w (t .limits .entries) (a .prints)) (countAt t) (a .index)
 
   fill-filled : (i : List ℕ) → fillOf t a ≡ fillLeft filled i → FilledFrom t (through a i)
   fill-filled i n =
       let (e, z) = fill-returned i n in
       subst (λ (j : List ℕ). FilledFrom t (through a j)) z (record {
         parts = ap (λ (m : ℕ). indexRow (t .limits) indexed m .holds) (fill-keeps t a) ∙ good-look t indexed a [] e .2;
-        is = λ h. sym fill-again;
+        is = λ h. sym filled-again;
       })
+
+  fill-again : (i : List ℕ) → fillOf t a ≡ fillLeft filled i → fillOf t (through a i) ≡ fillLeft filled i
+  unfolding firstRow
+  fill-again i n =
+      let (e, z) = fill-returned i n in
+      let x = fill-filled i n in
+      let (r, m, p, o) = good-look t indexed a [] e in
+      fill-passed t (through a i) (look-passed t indexed (through a i) [] r m (x .parts)) ∙ ap (fillLeft filled) (sym (x .is refl))
 
   fill-length : length (fillOf t a .index) ≡ length (a .index)
   fill-length = by (firstRow (lookRowsOf t indexed a)) refl
@@ -133,10 +142,12 @@ module _ (l : Limits) (a b : Arrays) (t : Table) (n : buildOf l a ≡ left (tabl
 
 pub either-lookup : EitherLookup
 either-lookup = record {
+  looks-same = λ t a x r w p h y. looks-scan t a x r w p h y ∙ sym (looks-scan t (scanned a) (record { parts = refl; is = λ e. not-both refl e }) r w p h y);
   find-same = find-same;
   answer-same = answer-same;
   write-same = write-same;
   fill-filled = fill-filled;
+  fill-again = fill-again;
   build-same = build-same;
   build-filled = λ l a b t e n. build-filled l a b t n e;
   scan-leaves = λ l a b t e n. build-leaves l a b t n e;

@@ -51,9 +51,13 @@ asked-lowest n k bytes e = record { lowest = λ h. fails (is-true (allDivisible 
 pub only-record : (t : Table) (a : Arrays) (q : Query) (out : List ℕ) → recordRow t .holds ≡ false → rowOfAnswer t a q out ≡ 13 → ⊥
 only-record t a q out r e =
     first-number (λ (k : ℕ). k ≡ 13 → ⊥)
-    (roomRow (t .limits) a ∷ partsRow (t .limits) a ∷ (queryRows (q .width) (q .exponent) (q .bytes) ++ (listRow t out ∷ []))) (other 0 (omega arith))
-    (other 5 (omega arith), (λ z. absurd (omega (arith, z, index-number (t .limits) (a .by) (length (a .index)))),
-    (other 6 (omega arith), (other 9 (omega arith), (other 10 (omega arith), (other 11 (omega arith), (other 12 (omega arith), tt)))))))
+    (roomRow (t .limits) a ∷ partsRow (t .limits) a ∷ (queryRows (q .width) (q .exponent) (q .bytes) ++ (listRow t out ∷ []))) (other 0 (omega arith)) (
+      other 5 (omega arith),
+      (
+        λ z. absurd (omega (arith, z, index-number (t .limits) (a .by) (length (a .index)))),
+        (other 6 (omega arith), (other 9 (omega arith), (other 10 (omega arith), (other 11 (omega arith), (other 12 (omega arith), tt))))),
+      ),
+    )
     (sym (first-past (recordRow t) _ r) ∙ e)
   where
     other : (k : ℕ) → k < 13 → k ≡ 13 → ⊥

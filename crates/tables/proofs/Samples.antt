@@ -376,6 +376,10 @@ samples = record {
   circular-short = computed .circular-short;
   no-node = computed .no-node;
   past-count = computed .past-count;
+  some-places = (
+    record { in-prints = omega arith; in-parents = omega arith; in-codes = omega arith; in-index = refl },
+    record { in-prints = omega arith; in-parents = omega arith; in-codes = omega arith; in-index = rw (computed .four-places .0) },
+  );
   four-places = computed .four-places;
   emptied-table = λ a p. emptied-table a p;
   emptied-x = λ a p. emptied-x a p;

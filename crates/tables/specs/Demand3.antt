@@ -13,7 +13,7 @@ use Rattle.exact.specs.Unitary.{Unitary}
 use Rattle.walk.specs.AtWidth.{ListOf, NoSharedPrint}
 use Rattle.walk.specs.Answers.{given, none, refused, outcome}
 use Rattle.tables.specs.Checks.{Limits, Arrays}
-use Rattle.tables.specs.Tables.{Table, walkOf, table, refusal, left, buildOf, widthAt, Query, matrixOf, synthesized}
+use Rattle.tables.specs.Tables.{Table, table, refusal, left, buildOf, widthAt, Query, matrixOf, synthesized}
 use Rattle.tables.specs.Built.{Built, FilledFrom}
 
 -- ---- what a table answers

@@ -168,6 +168,8 @@ pub record Samples : Type 0 where
   pub no-node : WriteRefuses (recordOf xLimits) circular 1 2 [] 16
   -- what lies past the count is neither found nor written
   pub past-count : FindsNone fewer damaged askX × WriteRefuses fewer damaged 1 1 lent 16
+  -- there are such arrays, looked up either way
+  pub some-places : Places xLimits (arrays (0 ∷ 0 ∷ []) (0 ∷ 0 ∷ []) (0 ∷ 0 ∷ [])) × Places xLimits (arraysBy indexed (0 ∷ 0 ∷ []) (0 ∷ 0 ∷ []) (0 ∷ 0 ∷ []) (0 ∷ 0 ∷ 0 ∷ 0 ∷ []))
   -- an index of 4 places is one part of them, and 3, 2 or 8 in two parts of 3 entries are not what the limits want
   pub four-places : (inParts xLimits 4 ≡ true) × (inParts xLimits 3 ≡ false) × (inParts xLimits 2 ≡ false) × (inParts largerLimits 8 ≡ false) × (inParts largerLimits 16 ≡ true)
   -- an index that was not filled from the built table at hand misses X, so that none says nothing: that it was is asked with reason

@@ -53,7 +53,17 @@ fn deepen(
     let mut n = count;
     let mut node = first;
     while node < count {
-        let t = candidates::try_node(lookup, l, n, node, gates, fingerprints, parents, codes, index);
+        let t = candidates::try_node(
+            lookup,
+            l,
+            n,
+            node,
+            gates,
+            fingerprints,
+            parents,
+            codes,
+            index,
+        );
         n = t.count;
         if t.saturated {
             return Tried {
@@ -94,7 +104,17 @@ fn deepen_all(
     let mut d = 0;
     while d < limit {
         let next = d + 1;
-        let t = deepen(lookup, l, first, n, gates, fingerprints, parents, codes, index);
+        let t = deepen(
+            lookup,
+            l,
+            first,
+            n,
+            gates,
+            fingerprints,
+            parents,
+            codes,
+            index,
+        );
         if t.saturated {
             return WidthTable {
                 count: t.count,
@@ -149,5 +169,13 @@ pub fn build_width(
             saturated: false,
         };
     }
-    deepen_all(by, limits, &gates[0..size], fingerprints, parents, codes, index)
+    deepen_all(
+        by,
+        limits,
+        &gates[0..size],
+        fingerprints,
+        parents,
+        codes,
+        index,
+    )
 }

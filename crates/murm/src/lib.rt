@@ -197,14 +197,10 @@ pub fn build_by(
         codes.len(),
         index.len(),
     ) {
-        Check::Passed => Building::Table(murm_widths::build_widths(
-            by,
-            config,
-            fingerprints,
-            parents,
-            codes,
-            index,
-        )),
+        Check::Passed => {
+            let table = murm_widths::build_widths(by, config, fingerprints, parents, codes, index);
+            Building::Table(table)
+        }
         Check::Refused(r) => Building::Refused(r),
     }
 }

@@ -2,7 +2,7 @@
 use mathlib.Core.Path.{_≡_, refl, sym, ap, _∙_, subst}
 use mathlib.Core.Bool.{Bool, true, false}
 use mathlib.Core.List.{List, [], _++_}
-use Prim.Native.Nat.{ℕ, zero, suc}
+use Prim.Native.Nat.{ℕ, zero, suc, _<_}
 use native.Mathlib.Omega.{arith}
 use lib.Dec.{eqb}
 use lib.ListN.{length}
@@ -15,14 +15,15 @@ use Rattle.walk.specs.Lookup as lookup
 use Rattle.walk.specs.Finds.{byLookup, findOf}
 use Rattle.walk.specs.Finds as f
 use Rattle.walk.specs.Answers.{refused, outcome, writeOf, thenWrite}
-use Rattle.tables.specs.Checks.{Row, firstRow, Limits, Arrays, arraysBy, indexRow}
+use Rattle.tables.specs.Checks.{Row, firstRow, Limits, Arrays, arraysBy, inParts, indexRow}
 use Rattle.tables.specs.Tables.{Table, walkOf, printsOf, indexTo, table, left, buildOf, Query, matrixOf, notAWidth, countAt, partOf, limitsAt, partAt, lookRowsOf}
 use Rattle.tables.specs.Tables.{filledIndex, FillReply, filled, not-filled, FillLeft, fillLeft, fillOf, findRows, foundIn, writtenIn, answerRows, repliedBy, synthesized}
 use Rattle.tables.specs.Built.{FilledFrom}
 use Rattle.tables.specs.EitherLookup.{scanned, through, EitherLookup}
 use Rattle.tables.proofs.InWords.{not-both}
 use Rattle.tables.proofs.Counts.{a-width, good-record}
-use Rattle.tables.proofs.Indexes.{all-again, scan-leaves, fill-keeps, looks-scan}
+use Rattle.tables.proofs.Accepted.{record-limits}
+use Rattle.tables.proofs.Indexes.{part-sizes, indexed-parts, all-again, all-anew, scan-leaves, index-to-length, fill-keeps, looks-scan}
 use Rattle.tables.proofs.FromBuild.{build-passed, rows-none, build-fills, build-returned, build-built}
 use Rattle.tables.proofs.Asked.{good-look, look-passed, fill-passed, fill-refused, partFound, find-passed, find-refused, no-part}
 
@@ -110,6 +111,20 @@ module _ (t : Table) (a : Arrays) where
       let (r, m, p, o) = good-look t indexed a [] e in
       fill-passed t (through a i) (look-passed t indexed (through a i) [] r m (x .parts)) ∙ ap (fillLeft filled) (sym (x .is refl))
 
+  -- each place is given anew
+  filled-anew : (other : List ℕ) → length other ≡ length (a .index) → inParts (t .limits) (length (a .index)) ≡ true → 0 < t .limits .entries
+      → filledIndex t (through a other) ≡ filledIndex t a
+  unfolding filledIndex
+  filled-anew other h e p = all-anew (t .limits) (λ w. partOf w (t .limits .entries) (a .prints)) (countAt t) (a .index) other e p h
+
+  fill-anew : (i : List ℕ) → fillOf t a ≡ fillLeft filled i → (other : List ℕ) → length other ≡ length (a .index) → fillOf t (through a other) ≡ fillLeft filled i
+  unfolding firstRow
+  fill-anew i n other h =
+      let (e, z) = fill-returned i n in
+      let (r, m, p, o) = good-look t indexed a [] e in
+      fill-passed t (through a other) (look-passed t indexed (through a other) [] r m (ap (λ (k : ℕ). indexRow (t .limits) indexed k .holds) h ∙ p))
+      ∙ ap (fillLeft filled) (filled-anew other h (indexed-parts (t .limits) indexed (length (a .index)) refl p) (record-limits t r .some) ∙ z)
+
   fill-length : length (fillOf t a .index) ≡ length (a .index)
   fill-length = by (firstRow (lookRowsOf t indexed a)) refl
     where
@@ -135,6 +150,11 @@ module _ (l : Limits) (a b : Arrays) (t : Table) (n : buildOf l a ≡ left (tabl
       fill-passed t b (look-passed t indexed b [] (good-record t b c) (c .room) (ap (λ (y : By). indexRow (t .limits) y (length (b .index)) .holds) (sym h) ∙ f .parts))
       ∙ ap (fillLeft filled) (sym (f .is h))
 
+  build-anew : a .by ≡ indexed → (other : List ℕ) → length other ≡ length (a .index) → fillOf t (through b other) ≡ fillLeft filled (b .index)
+  build-anew e other h =
+      fill-anew t b (b .index) (build-filled e) other
+      (h ∙ sym (index-to-length l (a .by) (l .qubits) (a .index) (omega arith)) ∙ ap (λ (y : Arrays). length (y .index)) (build-returned l a b t n .2))
+
   build-leaves : a .by ≡ scan → b .index ≡ a .index
   build-leaves e =
       sym (ap (λ (y : Arrays). y .index) (build-returned l a b t n .2)) ∙ ap (λ (y : By). indexTo l y (l .qubits) (a .index)) e
@@ -142,14 +162,16 @@ module _ (l : Limits) (a b : Arrays) (t : Table) (n : buildOf l a ≡ left (tabl
 
 pub either-lookup : EitherLookup
 either-lookup = record {
+  parts = part-sizes;
   looks-same = λ t a x r w p h y. looks-scan t a x r w p h y ∙ sym (looks-scan t (scanned a) (record { parts = refl; is = λ e. not-both refl e }) r w p h y);
   find-same = find-same;
   answer-same = answer-same;
   write-same = write-same;
   fill-filled = fill-filled;
+  fill-anew = fill-anew;
   fill-again = fill-again;
   build-same = build-same;
-  build-filled = λ l a b t e n. build-filled l a b t n e;
+  build-filled = λ l a b t e n. build-anew l a b t n e;
   scan-leaves = λ l a b t e n. build-leaves l a b t n e;
   fill-length = fill-length;
 }

@@ -4,8 +4,8 @@
 use mathlib.Core.Path.{_≡_, refl, sym, ap, _∙_}
 use mathlib.Core.List.{List, _++_}
 use mathlib.Core.Logic.{_⊎_, inl, inr}
-use Prim.Native.Nat.{ℕ, suc, zero, _+_, _-_, _*_, _≤_, _<_}
-use native.Mathlib.Nat.{suc-mul, mul-le-mul-right, eq-or-lt-of-le}
+use Prim.Native.Nat.{ℕ, suc, zero, _+_, _-_, _*_, _/_, _%_, _≤_, _<_}
+use native.Mathlib.Nat.{suc-mul, mul-le-mul-right, eq-or-lt-of-le, div-add-mod', mod-lt, div-lt-iff-lt-mul}
 use native.Mathlib.Omega.{arith}
 use lib.ListN.{length, getD, take, drop, length-append, length-drop, List·getD-append, take-append-drop}
 use lib.Seq.{getD-append-add, getD-take, getD-drop, length-take-le, take-at, drop-at, ext-getD}
@@ -152,6 +152,26 @@ module _ (g : ℕ → List ℕ → List ℕ) (n : ℕ) (keeps : (w : ℕ) (xs : 
           same-part (v * n) n (partsTo g n (suc q) old) to-here (omega (arith, b, fits, parts-length (suc q) old h)) (omega (arith, b, fits))
           (λ i p. within-before (q * n) n (g (suc q)) to-here fits (one-keeps (q * n) (suc q) to-here fits) (v * n + i) (omega (arith, b)))
           ∙ rest less
+
+  -- parts that are all places, each worked by what sees no more of it than its size: what was there does not matter
+  module _ (blind : (w : ℕ) (xs ys : List ℕ) → length xs ≡ length ys → g w xs ≡ g w ys) where
+    part-anew : (Q v i : ℕ) (old new : List ℕ) → Q * n ≤ length old → Q * n ≤ length new → v < Q → i < n
+        → getD (partsTo g n Q old) (v * n + i) 0 ≡ getD (partsTo g n Q new) (v * n + i) 0
+    part-anew Q v i old new h k lt d =
+        let r = room-at v Q n lt in
+        let e = blind (suc v) (take n (drop (v * n) old)) (take n (drop (v * n) new))
+        (part-length (v * n) n old (omega (arith, r)) ∙ sym (part-length (v * n) n new (omega (arith, r)))) in
+        let p = parts-part Q v old h lt ∙ e ∙ sym (parts-part Q v new k lt) in
+        sym (getD-take n (drop (v * n) (partsTo g n Q old)) i 0 d ∙ getD-drop (v * n) (partsTo g n Q old) i 0)
+        ∙ ap (λ (xs : List ℕ). getD xs i 0) p
+        ∙ getD-take n (drop (v * n) (partsTo g n Q new)) i 0 d ∙ getD-drop (v * n) (partsTo g n Q new) i 0
+
+    pub parts-anew : (Q : ℕ) (old new : List ℕ) → 0 < n → Q * n ≡ length old → length old ≡ length new → partsTo g n Q old ≡ partsTo g n Q new
+    parts-anew Q old new s h e =
+        let l = parts-length Q old (omega arith) in
+        ext-getD 0 (partsTo g n Q old) (partsTo g n Q new) (l ∙ e ∙ sym (parts-length Q new (omega arith)))
+        (λ k p. rw (← div-add-mod' k n) (part-anew Q (k / n) (k % n) old new (omega arith) (omega arith)
+        (div-lt-iff-lt-mul s .1 (omega (arith, l))) (mod-lt k s)))
 
 -- ---- widths 1 to Q filled, no column longer than E
 

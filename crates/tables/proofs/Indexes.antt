@@ -18,9 +18,10 @@ use Rattle.walk.proofs.Indexed.{kept-looks-up, kept-length, kept-cong}
 use Rattle.tables.specs.Checks.{Limits, Arrays, inParts, indexRow}
 use Rattle.tables.specs.Tables.{Table, walkOf, printsOf, partsTo, partSize, indexTo, recordRow, countAt, partOf, partAt, filledIndex}
 use Rattle.tables.specs.Built.{Built, FilledFrom}
+use Rattle.tables.specs.EitherLookup.{PartSizes}
 use Rattle.tables.proofs.InWords.{in-parts-to, not-both}
 use Rattle.tables.proofs.Accepted.{accepted, record-limits}
-use Rattle.tables.proofs.Filled.{part-length, room-at, parts-length, parts-part, parts-same, parts-cong}
+use Rattle.tables.proofs.Filled.{part-length, room-at, parts-length, parts-part, parts-same, parts-cong, parts-anew}
 use Rattle.tables.proofs.Counts.{record-count, walk-count, count-at}
 
 -- ---- the parts of so many places
@@ -38,13 +39,7 @@ module _ (l : Limits) (places : ℕ) where
   part-fits v h = omega (arith, room-at v (l .qubits) (partSize l places) h, parts-fit)
 
   -- where row 17 does not refuse them they are all, and each is a power of two, at least twice E
-  pub record PartSizes : Type 0 where
-    pub power : ℕ
-    pub size : partSize l places ≡ 2 ^ power
-    pub in-all : l .qubits * partSize l places ≡ places
-    pub large : 2 * l .entries ≤ partSize l places
-
-  pub part-sizes : inParts l places ≡ true → PartSizes
+  pub part-sizes : inParts l places ≡ true → PartSizes l places
   part-sizes e =
       let w = in-parts-to l places e in
       let z : partSize l places ≡ 2 ^ w .power = div-eq-of-eq-mul-right (some-factor (l .qubits) (2 ^ w .power) places (w .some) (w .in-all)) (w .in-all) in
@@ -105,6 +100,15 @@ module _ (l : Limits) (by : By) (prints : ℕ → List ℕ) (count : ℕ → ℕ
 -- the scan leaves an index
 pub scan-leaves : (l : Limits) (prints : ℕ → List ℕ) (count : ℕ → ℕ) (index : List ℕ) → allKept l scan prints count index ≡ index
 scan-leaves l prints count index = parts-same (λ v. kept scan (prints v) (count v)) (partSize l (length index)) (l .qubits) index (λ v h. refl)
+
+-- through the index each place is given anew
+pub all-anew : (l : Limits) (prints : ℕ → List ℕ) (count : ℕ → ℕ) (index other : List ℕ) → inParts l (length index) ≡ true → 0 < l .entries
+    → length other ≡ length index → allKept l indexed prints count other ≡ allKept l indexed prints count index
+all-anew l prints count index other e p h =
+    let s = part-sizes l (length index) e in
+    ap (λ (m : ℕ). partsTo (λ v. kept indexed (prints v) (count v)) (partSize l m) (l .qubits) other) h
+    ∙ parts-anew (λ v. kept indexed (prints v) (count v)) (partSize l (length index)) (λ w xs z. kept-length indexed (prints w) xs (count w) ∙ z)
+    (λ w xs ys z. ap (λ (n : ℕ). filled (prints w) n (count w)) z) (l .qubits) other index (omega (arith, s .large)) (s .in-all ∙ sym h) h
 
 -- what a build does to an index up to width w keeps its length
 pub index-to-length : (l : Limits) (by : By) (w : ℕ) (index : List ℕ) → w ≤ l .qubits → length (indexTo l by w index) ≡ length index

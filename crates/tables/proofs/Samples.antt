@@ -18,7 +18,7 @@ use Rattle.words.specs.Words
 use Rattle.words.specs.Words.{rotated, word}
 use Rattle.circuit.specs.Sets.{subset}
 use Rattle.circuit.specs.Kinds.{kindAt, number, arity, sorted, isKind, dual, ofTables}
-use Rattle.circuit.specs.Codes.{placed, rises, valid, validFor}
+use Rattle.circuit.specs.Codes.{mark, placed, rises, valid, validFor}
 use Rattle.circuit.specs.Pairs.{inverse, qubits, disjoint}
 use Rattle.generators.specs.Generators.{kept, generators}
 use Rattle.exact.specs.Matrix.{Exact, identity, lower, PowerOf}
@@ -31,7 +31,8 @@ use Rattle.exact.specs.Phase.{pivot, phaseOf, upToPhase}
 use Rattle.exact.specs.Fingerprint.{mix, fold, fingerprint}
 use Rattle.exact.specs.Places.{entry}
 use Rattle.walk.specs.Lookup.{lowestFrom}
-use Rattle.walk.specs.Index.{By, scan, probed, probeOf}
+use Rattle.walk.specs.Index.{By, scan, probed, probeOf, inserted, freeOf}
+use Rattle.walk.specs.Index as index
 use Rattle.walk.specs.Chains.{marked, chainOf}
 use Rattle.walk.specs.Walk.{skipped, try, tryAll, layer, deeper, depths, walk}
 use Rattle.exact.proofs.Listed.{product-nil}
@@ -48,11 +49,11 @@ use Rattle.walk.specs.Finds as f
 use Rattle.walk.specs.Answers.{writeOf}
 use Rattle.walk.proofs.Meaning.{kind-of}
 use Rattle.tables.specs.Checks.{firstRow, Limits, limitRows, Arrays, inParts, indexRow, partsRow, anyBelow, queryRows}
-use Rattle.tables.specs.Tables.{Table, widthAt, recordOf, builtTo, buildRows, Query, matrixOf, listRow, foundIn, writtenIn, synthesized}
+use Rattle.tables.specs.Tables.{Table, widthAt, recordOf, builtTo, refusal, left, buildRows, buildOf, filledIndex, filled, not-filled, fillLeft, fillOf, partsTo, Query, query, matrixOf, listRow, foundIn, writtenIn, synthesized}
 use Rattle.tables.specs.Built.{Built, FilledFrom}
-use Rattle.tables.specs.EitherLookup.{scanned}
+use Rattle.tables.specs.EitherLookup.{scanned, through}
 use Rattle.tables.specs.Demand3.{Gives, GivesNone, Refuses, NotRefused, NoSmaller, Reaches, Complete}
-use Rattle.tables.specs.Samples.{xLimits, largerLimits, chLimits, Places, askX, askT, askZero, lent, damaged, mistaken, circular, foreign, forgotten, emptied, crowded, misled, strange, fewer, Samples}
+use Rattle.tables.specs.Samples.{xLimits, largerLimits, chLimits, Places, askX, askT, askZero, lent, damaged, mistaken, circular, foreign, forgotten, emptied, crowded, misled, one-place, no-places, strange, fewer, Samples}
 use Rattle.tables.proofs.Rows.{numbered-query, first-here, first-past, firstRow-append}
 use Rattle.tables.proofs.InWords.{not-both}
 use Rattle.tables.proofs.Accepted.{room-is}
@@ -123,6 +124,13 @@ record Computed : Type 0 where
   no-width : WriteRefuses strange damaged 2 0 lent 16 × WriteRefuses strange damaged 0 0 lent 16 × WriteRefuses strange damaged 4294967295 0 lent 16
   -- how many places an index may have, what the altered index answers, and that an empty one leads nowhere
   four-places : (inParts xLimits 4 ≡ true) × (inParts xLimits 3 ≡ false) × (inParts xLimits 2 ≡ false) × (inParts largerLimits 8 ≡ false) × (inParts largerLimits 16 ≡ true)
+  six-places : (inParts xLimits 6 ≡ false) × (inParts largerLimits 12 ≡ false) × (inParts xLimits 8 ≡ true) × (inParts xLimits 0 ≡ false)
+  one-build : (buildOf xLimits one-place ≡ left (refusal 17 0) one-place) × (buildOf xLimits no-places ≡ left (refusal 5 0) no-places)
+  one-fill : (fillOf (recordOf xLimits) one-place ≡ fillLeft (not-filled 17 0) (0 ∷ [])) × (fillOf (recordOf xLimits) no-places ≡ fillLeft (not-filled 5 0) [])
+  one-answer : Refuses (recordOf xLimits) one-place askX lent 17 × Refuses (recordOf xLimits) one-place (query 6 0 []) [] 17
+      × Refuses (recordOf xLimits) no-places askX lent 5
+  damaged-fill : fillOf (recordOf xLimits) (through damaged (0 ∷ 1 ∷ 2 ∷ mark ∷ [])) ≡ fillLeft filled (mark ∷ 1 ∷ mark ∷ 0 ∷ [])
+  damaged-filled : Gives (recordOf xLimits) (through damaged (mark ∷ 1 ∷ mark ∷ 0 ∷ [])) askX lent (4096 ∷ [])
   crowded-x : Gives (recordOf xLimits) crowded askX lent (4096 ∷ [])
   misled-t : GivesNone (recordOf xLimits) misled askT lent
   emptied-found : (a : Arrays) → partFound (recordOf xLimits) (emptied a) askX ≡ f.none
@@ -131,7 +139,7 @@ record Computed : Type 0 where
   x-of : ListOf 1 2 (4096 ∷ [])
 
 computed : Computed
-unfolding ofTables synthesized foundIn writtenIn recordOf firstRow inParts subset anyBelow findOf writeOf lowestFrom probed probeOf chainOf marked rechecked steps answerBy recheck upToPhase eqω product walk depths deeper layer tryAll try skipped samePrint fingerprint mix fold Words.product rotated word pivot phaseOf leastUpTo less turn zeroω oneω isZero gateOf column flip lower stepFits fits valid validFor placed rises all elem distinct range each kept generators kindAt arity sorted isKind number dual inverse qubits disjoint bit entry
+unfolding ofTables buildOf fillOf filledIndex partsTo index.filled inserted freeOf synthesized foundIn writtenIn recordOf firstRow inParts subset anyBelow findOf writeOf lowestFrom probed probeOf chainOf marked rechecked steps answerBy recheck upToPhase eqω product walk depths deeper layer tryAll try skipped samePrint fingerprint mix fold Words.product rotated word pivot phaseOf leastUpTo less turn zeroω oneω isZero gateOf column flip lower stepFits fits valid validFor placed rises all elem distinct range each kept generators kindAt arity sorted isKind number dual inverse qubits disjoint bit entry
 computed = record {
   ch-limits = λ a. refl;
   x-limits = refl;
@@ -158,6 +166,12 @@ computed = record {
   strange-count = refl;
   no-width = (refl, refl, refl);
   four-places = (refl, refl, refl, refl, refl);
+  six-places = (refl, refl, refl, refl);
+  one-build = (refl, refl);
+  one-fill = (refl, refl);
+  one-answer = (refl, refl, refl);
+  damaged-fill = refl;
+  damaged-filled = refl;
   crowded-x = refl;
   misled-t = refl;
   emptied-found = λ a. refl;
@@ -381,6 +395,12 @@ samples = record {
     record { in-prints = omega arith; in-parents = omega arith; in-codes = omega arith; in-index = rw (computed .four-places .0) },
   );
   four-places = computed .four-places;
+  six-places = computed .six-places;
+  one-build = computed .one-build;
+  one-fill = computed .one-fill;
+  one-answer = computed .one-answer;
+  damaged-fill = computed .damaged-fill;
+  damaged-filled = computed .damaged-filled;
   emptied-table = λ a p. emptied-table a p;
   emptied-x = λ a p. emptied-x a p;
   emptied-not-complete = λ a p. missed (emptied a) (emptied-x a p);

@@ -16,7 +16,7 @@ use Rattle.walk.specs.AtWidth.{NoSharedPrint}
 use Rattle.walk.specs.Known.{SkippedRightly}
 use Rattle.walk.specs.Index.{scan, indexed}
 use Rattle.tables.specs.Checks.{Limits, Arrays, arrays, arraysBy, placesOf, inParts, partsRow}
-use Rattle.tables.specs.Tables.{Table, widthAt, rowOf, walkOf, recordOf, builtTo, table, refusal, left, buildOf, Query, query, matrixOf}
+use Rattle.tables.specs.Tables.{Table, widthAt, rowOf, walkOf, recordOf, builtTo, table, refusal, left, buildOf, filled, not-filled, fillLeft, fillOf, Query, query, matrixOf}
 use Rattle.tables.specs.Built.{Built, FilledFrom}
 use Rattle.tables.specs.Demand3.{Gives, GivesNone, Refuses, NotRefused, NoSmaller, Reaches, Complete}
 use Rattle.tables.specs.EitherLookup.{through}
@@ -103,6 +103,13 @@ crowded = arraysBy indexed (7 ∷ fingerprint 1 (matrixOf askX) ∷ []) (mark �
 abbrev pub misled : Arrays
 misled = arraysBy indexed (7 ∷ fingerprint 1 (matrixOf askT) ∷ []) (mark ∷ 0 ∷ []) (mark ∷ 4096 ∷ []) (1 ∷ 1 ∷ 1 ∷ 1 ∷ [])
 
+-- the damaged memory with one place, which is no part for two entries; and no places at all
+abbrev pub one-place : Arrays
+one-place = through damaged (0 ∷ [])
+
+abbrev pub no-places : Arrays
+no-places = arraysBy indexed [] [] [] []
+
 -- a record of the same limits with counts at widths that the table does not have
 abbrev pub strange : Table
 strange = record { limits = xLimits; widths = rowOf xLimits 1 ∷ rowOf xLimits 1 ∷ rowOf xLimits 1 ∷ [] }
@@ -170,8 +177,17 @@ pub record Samples : Type 0 where
   pub past-count : FindsNone fewer damaged askX × WriteRefuses fewer damaged 1 1 lent 16
   -- there are such arrays, looked up either way
   pub some-places : Places xLimits (arrays (0 ∷ 0 ∷ []) (0 ∷ 0 ∷ []) (0 ∷ 0 ∷ [])) × Places xLimits (arraysBy indexed (0 ∷ 0 ∷ []) (0 ∷ 0 ∷ []) (0 ∷ 0 ∷ []) (0 ∷ 0 ∷ 0 ∷ 0 ∷ []))
-  -- an index of 4 places is one part of them, and 3, 2 or 8 in two parts of 3 entries are not what the limits want
+  -- an index of 4 places is one part of them, and so is one of 8; 3, 2, 6, and 8 or 12 in two parts for 3 entries are not what the limits want
   pub four-places : (inParts xLimits 4 ≡ true) × (inParts xLimits 3 ≡ false) × (inParts xLimits 2 ≡ false) × (inParts largerLimits 8 ≡ false) × (inParts largerLimits 16 ≡ true)
+  pub six-places : (inParts xLimits 6 ≡ false) × (inParts largerLimits 12 ≡ false) × (inParts xLimits 8 ≡ true) × (inParts xLimits 0 ≡ false)
+  -- what is not in parts is refused by 17: after 5, before the query is looked at; the scan does not look at it
+  pub one-build : (buildOf xLimits one-place ≡ left (refusal 17 0) one-place) × (buildOf xLimits no-places ≡ left (refusal 5 0) no-places)
+  pub one-fill : (fillOf (recordOf xLimits) one-place ≡ fillLeft (not-filled 17 0) (0 ∷ [])) × (fillOf (recordOf xLimits) no-places ≡ fillLeft (not-filled 5 0) [])
+  pub one-answer : Refuses (recordOf xLimits) one-place askX lent 17 × Refuses (recordOf xLimits) one-place (query 6 0 []) [] 17
+      × Refuses (recordOf xLimits) no-places askX lent 5
+  -- a fill from the damaged memory, and what it then answers
+  pub damaged-fill : fillOf (recordOf xLimits) (through damaged (0 ∷ 1 ∷ 2 ∷ mark ∷ [])) ≡ fillLeft filled (mark ∷ 1 ∷ mark ∷ 0 ∷ [])
+  pub damaged-filled : Gives (recordOf xLimits) (through damaged (mark ∷ 1 ∷ mark ∷ 0 ∷ [])) askX lent (4096 ∷ [])
   -- an index that was not filled from the built table at hand misses X, so that none says nothing: that it was is asked with reason
   pub emptied-table : (a : Arrays) → Places xLimits a → Built (recordOf xLimits) (emptied a)
   pub emptied-x : (a : Arrays) → Places xLimits a → GivesNone (recordOf xLimits) (emptied a) askX lent

@@ -58,8 +58,10 @@ kept-cong indexed fps gps old count h = filled-cong fps gps (length old) count h
 computed : (kept indexed (7 ∷ 3 ∷ 7 ∷ []) 3 (0 ∷ 0 ∷ 0 ∷ 0 ∷ []) ≡ 1 ∷ 2 ∷ mark ∷ 0 ∷ [])
     × (lookedUp indexed (1 ∷ 2 ∷ mark ∷ 0 ∷ []) (7 ∷ 3 ∷ 7 ∷ []) 3 1 7 ≡ found 2)
     × (lookedUp indexed (5 ∷ 5 ∷ []) (7 ∷ 3 ∷ []) 2 0 3 ≡ none)
+    × (keptUp indexed (5 ∷ 6 ∷ []) 3 1 ≡ 5 ∷ 6 ∷ [])
+    × (lookedUp indexed (kept indexed (7 ∷ 3 ∷ []) 2 (0 ∷ [])) (7 ∷ 3 ∷ []) 2 0 3 ≡ none)
 unfolding filled inserted freeOf probed probeOf
-computed = (refl, refl, refl)
+computed = (refl, refl, refl, refl, refl)
 
 pub indexing : Indexing
 indexing = record {

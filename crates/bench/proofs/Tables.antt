@@ -1,12 +1,13 @@
 -- What a build comes to as numbers: a record that is too short, and else the library's. Assumes nothing.
-use mathlib.Core.Path.{_≡_, sym, ap, _∙_}
+use mathlib.Core.Path.{_≡_, sym, ap, subst, _∙_}
 use mathlib.Core.Bool.{true, false}
 use mathlib.Core.List.{List}
 use Prim.Native.Nat.{ℕ, _≤_, _<_}
 use borrow.Author.Tests.{lt-ltb, le-ltb}
 use lib.ListN.{length}
 use Rattle.ints.specs.Lists.{over}
-use Rattle.tables.specs.Checks.{Limits, Arrays}
+use Rattle.walk.specs.Index.{By}
+use Rattle.tables.specs.Checks.{Limits, Arrays, arraysBy}
 use Rattle.tables.specs.Tables.{BuildReply, Left, left, buildOf}
 use Rattle.murm_config.specs.Told.{toldMurm}
 use Rattle.murm_config.specs.declared.Murm.{Murm}
@@ -44,6 +45,11 @@ refused-told old r e h = (
   h ∙ ap (λ (x : Building). buildNumber (toldBuilding x)) (sym e),
   ap (λ (x : Building). recorded (toldBuilding x) old) (sym e),
 )
+
+-- by the same look-up, called otherwise
+pub by-built : (t : BuildReply) (l : Limits) (f u c i f′ u′ c′ i′ : List ℕ) {b b′ : By} → b ≡ b′
+    → left t (arraysBy b f′ u′ c′ i′) ≡ buildOf l (arraysBy b f u c i) → left t (arraysBy b′ f′ u′ c′ i′) ≡ buildOf l (arraysBy b′ f u c i)
+by-built t l f u c i f′ u′ c′ i′ e h = subst (λ (z : By). left t (arraysBy z f′ u′ c′ i′) ≡ buildOf l (arraysBy z f u c i)) e h
 
 pub short-built : (l : List ℕ) (a : Arrays) (numbers : List ℕ) → tooFew l numbers ≡ true → builtAs 99 a numbers ≡ benchBuilt l a numbers
 unfolding benchBuilt

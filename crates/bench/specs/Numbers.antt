@@ -1,11 +1,13 @@
 -- An entry's answer as one number. Assumes nothing.
 use mathlib.Core.Bool.{_||_}
 use Prim.Native.Nat.{ℕ, _+_, _*_}
-use lib.Dec.{ltb}
+use lib.Dec.{eqb, ltb}
 use Rattle.ints.specs.Lists.{pick}
 use Rattle.exact.specs.Answers.{Answer, given, refused}
+use Rattle.walk.specs.Index.{By, scan, indexed}
 use Rattle.walk.specs.Finds.{Finding, node, none}
 use Rattle.walk.specs.Finds as f
+use Rattle.tables.specs.Tables.{FillReply, filled, not-filled}
 use Rattle.murm_c.specs.Numbers.{refusalNumber}
 
 -- the number given, or another for every refusal
@@ -23,3 +25,12 @@ abbrev pub foundNumber : Finding → ℕ
 foundNumber (node k m) = nodeNumber k m
 foundNumber none = 4294967295
 foundNumber (f.refused r p) = refusalNumber r p
+
+-- how nodes are looked up: 0 is the scan, any other number the index
+abbrev pub byNumber : ℕ → By
+byNumber k = pick (eqb k 0) scan indexed
+
+-- a fill: 0, or the number of the refusal
+abbrev pub fillNumber : FillReply → ℕ
+fillNumber filled = 0
+fillNumber (not-filled r p) = r

@@ -1,5 +1,6 @@
-// C functions over the entries for fingerprints, builds, finds and writes, which murm_c does not export, and nothing else. `oracle/bench` and
-// `oracle/damage` link both crates beside the original, in one process; lists and answers they ask by murm_c.
+// C functions over the entries for fingerprints, builds, fills, finds and writes, and for answers by either look-up, which murm_c does not export, and
+// nothing else. `oracle/bench`, `oracle/damage` and `oracle/index` link both crates beside the original, in one process; lists and answers by the scan
+// alone they ask by murm_c. Where nodes are looked up, a number says how: 0 by the scan, which leaves the lent index alone, any other through the index.
 ghost use mathlib.Core.Path.{_≡_};
 ghost use Prim.Native.Nat.{_+_, _*_, _^_, _≤_};
 ghost use lib.ListN.{length};
@@ -8,17 +9,20 @@ ghost use Rattle.ints.specs.Lists.{over};
 ghost use Rattle.exact.proofs.Words.{AllSmall};
 ghost use Rattle.exact.specs.Fingerprint.{fingerprint};
 ghost use Rattle.exact.specs.Places.{read, held};
-ghost use Rattle.tables.specs.Checks.{limitsOf, arrays};
-ghost use Rattle.tables.specs.Tables.{query, foundIn, writtenIn};
-ghost use Rattle.circuits_answers.specs.Lent.{lent, left};
+ghost use Rattle.walk.specs.Index.{indexed};
+ghost use Rattle.index.specs.Told.{toldBy};
+ghost use Rattle.tables.specs.Checks.{limitsOf, arrays, arraysBy};
+ghost use Rattle.tables.specs.Tables.{query, fillOf, foundIn, writtenIn, synthesized};
 ghost use Rattle.murm_config.specs.Told.{toldConfig, toldWidth, toldMurm};
-ghost use Rattle.murm.specs.Entries.{fingerprinted, toldBuilding, toldFoundNode, toldWritten};
+ghost use Rattle.murm.specs.Entries.{fingerprinted, toldBuilding, toldFilling, toldFoundNode, toldWritten};
 ghost use Rattle.murm_c.specs.Numbers.{replyNumber, countsTable};
-ghost use Rattle.bench.specs.Numbers.{orElse, nodeNumber, foundNumber};
+ghost use Rattle.bench.specs.Numbers.{orElse, byNumber, nodeNumber, foundNumber, fillNumber};
 ghost use Rattle.bench.specs.Tables.{limitsIn, widthNumbers, numbersOf, buildNumber, recorded, builtAs, benchBuilt};
 use circuit::GateSet;
 use cyclotomic::Coefficient;
+use index::LookupBy;
 use murm::Building;
+use murm::Filling;
 use murm::Fingerprinted;
 use murm::FoundNode;
 use murm::Written;
@@ -97,16 +101,31 @@ fn built(building: Building, numbers: &mut [u64]) -> u64
     }
 }
 
+// How nodes are looked up.
+fn lookup_by(by: u32) -> LookupBy
+    ensures { λ r. ⌜ toldBy r ≡ byNumber by ⌝ }
+{
+    if by == 0 {
+        return LookupBy::Scan;
+    }
+    LookupBy::Index
+}
+
 // The entry for tables. 99 for less than four limits, or a record of less than 15 places.
 #[no_mangle]
 pub extern "C" fn bench_build(
+    by: u32,
     limits: &[u32],
     fingerprints: &mut [u64],
     parents: &mut [u32],
     codes: &mut [u32],
+    index: &mut [u32],
     numbers: &mut [u64],
 ) -> u64
-    ensures { λ r. ⌜ builtAs r (left fingerprints parents codes) (now (numbers .exit)) ≡ benchBuilt (now (limits .entry)) (lent fingerprints parents codes) (now (numbers .entry)) ⌝ }
+    ensures { λ r. ⌜ builtAs r
+        (arraysBy (byNumber by) (now (fingerprints .exit)) (now (parents .exit)) (now (codes .exit)) (now (index .exit))) (now (numbers .exit))
+        ≡ benchBuilt (now (limits .entry))
+        (arraysBy (byNumber by) (now (fingerprints .entry)) (now (parents .entry)) (now (codes .entry)) (now (index .entry))) (now (numbers .entry)) ⌝ }
 {
     if limits.len() < 4 {
         return 99;
@@ -114,8 +133,52 @@ pub extern "C" fn bench_build(
     if numbers.len() < 15 {
         return 99;
     }
-    let building = murm::build(config_of(limits), fingerprints, parents, codes);
+    let building = murm::build_by(
+        lookup_by(by),
+        config_of(limits),
+        fingerprints,
+        parents,
+        codes,
+        index,
+    );
     built(building, numbers)
+}
+
+// What a fill came to: 0, or the number of the refusal.
+fn filled(filling: Filling) -> u64
+    ensures { λ r. ⌜ r ≡ fillNumber (toldFilling filling) ⌝ }
+{
+    match filling {
+        Filling::Filled => 0,
+        Filling::Refused(r) => refusal::number_of(r).0,
+    }
+}
+
+// The entry for fills of an index (SPECIFICATION 7.17), with the table's record as numbers.
+#[no_mangle]
+pub extern "C" fn bench_fill(
+    q: u32,
+    g: u32,
+    e: u32,
+    b: u32,
+    count1: usize,
+    count2: usize,
+    count3: usize,
+    count4: usize,
+    count5: usize,
+    fingerprints: &[u64],
+    parents: &[u32],
+    codes: &[u32],
+    index: &mut [u32],
+) -> u64
+    ensures number { λ r. ⌜ r ≡ fillNumber (fillOf (countsTable (limitsOf q g e b) count1 count2 count3 count4 count5)
+        (arraysBy indexed (now (fingerprints .entry)) (now (parents .entry)) (now (codes .entry)) (now (index .entry))) .reply) ⌝ }
+    ensures places { λ _. ⌜ now (index .exit) ≡ fillOf (countsTable (limitsOf q g e b) count1 count2 count3 count4 count5)
+        (arraysBy indexed (now (fingerprints .entry)) (now (parents .entry)) (now (codes .entry)) (now (index .entry))) .index ⌝ }
+{
+    let table = murm_c::counts_table(q, g, e, b, count1, count2, count3, count4, count5);
+    let filling = murm::fill_index(table, fingerprints, parents, codes, index);
+    filled(filling)
 }
 
 // A node and its gate count as one number.
@@ -145,6 +208,7 @@ fn found_number(told: FoundNode) -> u64
 // The entry for finds (SPECIFICATION 7.10), with the table's record as numbers.
 #[no_mangle]
 pub extern "C" fn bench_find(
+    by: u32,
     q: u32,
     g: u32,
     e: u32,
@@ -157,17 +221,73 @@ pub extern "C" fn bench_find(
     fingerprints: &[u64],
     parents: &[u32],
     codes: &[u32],
+    index: &[u32],
     width: u32,
     exponent: u16,
     matrix: &[Coefficient],
 ) -> u64
     ensures { λ r. ⌜ r ≡ foundNumber (foundIn (countsTable (limitsOf q g e b) count1 count2 count3 count4 count5)
-        (arrays (now (fingerprints .entry)) (now (parents .entry)) (now (codes .entry)))
+        (arraysBy (byNumber by) (now (fingerprints .entry)) (now (parents .entry)) (now (codes .entry)) (now (index .entry)))
         (query width exponent (now (matrix .entry)))) ⌝ }
 {
     let table = murm_c::counts_table(q, g, e, b, count1, count2, count3, count4, count5);
-    let told = murm::find(table, fingerprints, parents, codes, width, exponent, matrix);
+    let told = murm::find_by(
+        lookup_by(by),
+        table,
+        fingerprints,
+        parents,
+        codes,
+        index,
+        width,
+        exponent,
+        matrix,
+    );
     found_number(told)
+}
+
+// The entry for answers (SPECIFICATION, chapter 7), with the table's record as numbers.
+#[no_mangle]
+pub extern "C" fn bench_synthesize(
+    by: u32,
+    q: u32,
+    g: u32,
+    e: u32,
+    b: u32,
+    count1: usize,
+    count2: usize,
+    count3: usize,
+    count4: usize,
+    count5: usize,
+    fingerprints: &[u64],
+    parents: &[u32],
+    codes: &[u32],
+    index: &[u32],
+    width: u32,
+    exponent: u16,
+    matrix: &[Coefficient],
+    out: &mut [u32],
+) -> u64
+    ensures number { λ r. ⌜ r ≡ replyNumber (synthesized (countsTable (limitsOf q g e b) count1 count2 count3 count4 count5)
+        (arraysBy (byNumber by) (now (fingerprints .entry)) (now (parents .entry)) (now (codes .entry)) (now (index .entry)))
+        (query width exponent (now (matrix .entry))) (now (out .entry)) .reply) ⌝ }
+    ensures places { λ _. ⌜ now (out .exit) ≡ synthesized (countsTable (limitsOf q g e b) count1 count2 count3 count4 count5)
+        (arraysBy (byNumber by) (now (fingerprints .entry)) (now (parents .entry)) (now (codes .entry)) (now (index .entry)))
+        (query width exponent (now (matrix .entry))) (now (out .entry)) .list ⌝ }
+{
+    let table = murm_c::counts_table(q, g, e, b, count1, count2, count3, count4, count5);
+    let told = murm::synthesize_by(
+        lookup_by(by),
+        table,
+        fingerprints,
+        parents,
+        codes,
+        index,
+        width,
+        exponent,
+        matrix,
+        out,
+    );
+    murm_c::reply_number(told)
 }
 
 // What a write came to: the gate count, or why it was refused.

@@ -19,6 +19,7 @@ use Rattle.exact.proofs.Listed.{product-lowest}
 use Rattle.exact.proofs.Values.{equal-sym}
 use Rattle.exact.proofs.Keeps.{equal-lowest}
 use Rattle.matrix.specs.Step.{Holds, Ready}
+use Rattle.walk.specs.Index.{By}
 use Rattle.walk.specs.Chains.{good, chainOf}
 use Rattle.walk.specs.Walk.{listAt, prod}
 use Rattle.walk.specs.AtWidth.{atWidth}
@@ -47,8 +48,8 @@ module _ (n basis : ℕ) (small : n ≤ 5) where
       ok : recheck (atWidth n basis) l x ≡ true
       ok = and-both (stepsFit (atWidth n basis) l) (upToPhase n x x) e (test-of-power n low low (power-refl n x))
 
-module _ {lim : WidthLimits} (small : lim .width ≤ 5) where
-  module _ {f u c : List ℕ} {count k top : ℕ} (h : Live lim f u c count k top) where
+module _ {by : By} {lim : WidthLimits} (small : lim .width ≤ 5) where
+  module _ {f u c i : List ℕ} {count k top : ℕ} (h : Live by lim f u c i count k top) where
     -- the arrays hold the parents and the gates of the nodes
     holds : HoldsChains (h .ns) u c
     holds = record {

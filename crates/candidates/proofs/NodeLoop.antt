@@ -9,6 +9,7 @@ use native.Mathlib.Omega.{arith}
 use lib.ListN.{length, getD, drop, drop-of-length-le}
 use lib.Seq.{drop-cons}
 use Rattle.generators.specs.Generators.{generators}
+use Rattle.walk.specs.Index.{By}
 use Rattle.walk.specs.Walk.{Rules, Node, State, root, listAt, try, tryAll}
 use Rattle.walk.proofs.Sequences.{prefix-at}
 use Rattle.walk.proofs.Candidates.{try-later, tryAll-saturated}
@@ -16,7 +17,7 @@ use Rattle.synthesis_arena.specs.declared.WidthLimits.{WidthLimits}
 use Rattle.next_node.specs.Arrays.{rules, unsaturated, Columns, Long, Live, After}
 use Rattle.candidates.proofs.Keeping.{mem-at, TriedKept, kept-try, unfilled}
 
-module _ (lim : WidthLimits) (k d : ℕ) (f0 u0 c0 own : List ℕ) (goal : State) where
+module _ (by : By) (lim : WidthLimits) (k d : ℕ) (f0 u0 c0 i0 own : List ℕ) (goal : State) where
   abbrev R : Rules
   R = rules lim
 
@@ -26,19 +27,20 @@ module _ (lim : WidthLimits) (k d : ℕ) (f0 u0 c0 own : List ℕ) (goal : State
   abbrev gens : List ℕ
   gens = generators (lim .width) (lim .basis)
 
-  pub record NodeRun (j : ℕ) (f u c : List ℕ) (count : ℕ) : Type 0 where
+  pub record NodeRun (j : ℕ) (f u c i : List ℕ) (count : ℕ) : Type 0 where
     pub ns : List Node
-    pub columns : Columns lim f0 u0 c0 ns f u c count
+    pub columns : Columns by lim f0 u0 c0 i0 ns f u c i count
     pub kept : TriedKept R E d (suc k) k ns
     pub own-is : listAt ns k ≡ own
     pub rest : tryAll R E (unsaturated ns) k (drop j gens) ≡ goal
 
-  module _ {j : ℕ} {f u c : List ℕ} {count : ℕ} (r : NodeRun j f u c count) where
-    abbrev pub node-run-live : d ≤ 64 → Long lim f0 u0 c0 → Live lim f u c count k (suc k)
+  module _ {j : ℕ} {f u c i : List ℕ} {count : ℕ} (r : NodeRun j f u c i count) where
+    abbrev pub node-run-live : d ≤ 64 → Long by lim f0 u0 c0 i0 → Live by lim f u c i count k (suc k)
     node-run-live deep long = record {
       f0 = f0;
       u0 = u0;
       c0 = c0;
+      i0 = i0;
       ns = r .ns;
       d = d;
       columns = r .columns;
@@ -60,17 +62,17 @@ module _ (lim : WidthLimits) (k d : ℕ) (f0 u0 c0 own : List ℕ) (goal : State
     node-run-cons l = ap (tryAll R E (unsaturated (r .ns)) k) (sym (drop-cons gens j 0 l)) ∙ r .rest
 
     -- gs: the generators, as the code has them
-    module _ {gs : List ℕ} (same : gs ≡ gens) (lt : j < length gs) {f′ u′ c′ : List ℕ} {count′ : ℕ} {b : Bool} (after : After lim f0 u0 c0 (try R E (unsaturated (r .ns)) k (getD gs j 0)) f′ u′ c′ count′ b) where
+    module _ {gs : List ℕ} (same : gs ≡ gens) (lt : j < length gs) {f′ u′ c′ i′ : List ℕ} {count′ : ℕ} {b : Bool} (after : After by lim f0 u0 c0 i0 (try R E (unsaturated (r .ns)) k (getD gs j 0)) f′ u′ c′ i′ count′ b) where
       l : j < length gens
       l = subst (λ (z : List ℕ). j < length z) same lt
 
-      a : After lim f0 u0 c0 (try R E (unsaturated (r .ns)) k (getD gens j 0)) f′ u′ c′ count′ b
-      a = subst (λ (z : List ℕ). After lim f0 u0 c0 (try R E (unsaturated (r .ns)) k (getD z j 0)) f′ u′ c′ count′ b) same after
+      a : After by lim f0 u0 c0 i0 (try R E (unsaturated (r .ns)) k (getD gens j 0)) f′ u′ c′ i′ count′ b
+      a = subst (λ (z : List ℕ). After by lim f0 u0 c0 i0 (try R E (unsaturated (r .ns)) k (getD z j 0)) f′ u′ c′ i′ count′ b) same after
 
       abbrev tried : State
       tried = try R E (unsaturated (r .ns)) k (getD gens j 0)
 
-      pub node-run-next : b ≡ false → NodeRun (j + 1) f′ u′ c′ count′
+      pub node-run-next : b ≡ false → NodeRun (j + 1) f′ u′ c′ i′ count′
       node-run-next q = record {
         ns = tried .nodes;
         columns = a .columns;
@@ -80,20 +82,20 @@ module _ (lim : WidthLimits) (k d : ℕ) (f0 u0 c0 own : List ℕ) (goal : State
             ∙ ap (λ (t : State). tryAll R E t k (drop (suc j) gens)) (sym (unfilled tried b (a .full-is) q)) ∙ node-run-cons l;
       }
 
-      pub node-run-full : b ≡ true → After lim f0 u0 c0 goal f′ u′ c′ count′ true
+      pub node-run-full : b ≡ true → After by lim f0 u0 c0 i0 goal f′ u′ c′ i′ count′ true
       node-run-full q =
           let e : tried ≡ goal = sym (tryAll-saturated R E tried k (drop (suc j) gens) (sym (a .full-is) ∙ q)) ∙ node-run-cons l in
-          subst (λ (t : State). After lim f0 u0 c0 t f′ u′ c′ count′ true) e (record { columns = a .columns; full-is = sym q ∙ a .full-is })
+          subst (λ (t : State). After by lim f0 u0 c0 i0 t f′ u′ c′ i′ count′ true) e (record { columns = a .columns; full-is = sym q ∙ a .full-is })
 
-    pub node-run-end : {gs : List ℕ} → gs ≡ gens → length gs ≤ j → After lim f0 u0 c0 goal f u c count false
+    pub node-run-end : {gs : List ℕ} → gs ≡ gens → length gs ≤ j → After by lim f0 u0 c0 i0 goal f u c i count false
     unfolding tryAll
     node-run-end same lt =
         let l : length gens ≤ j = subst (λ (z : List ℕ). length z ≤ j) same lt in
         let e : unsaturated (r .ns) ≡ goal = ap (tryAll R E (unsaturated (r .ns)) k) (sym (drop-of-length-le gens {i = j} l)) ∙ r .rest in
-        subst (λ (t : State). After lim f0 u0 c0 t f u c count false) e (record { columns = r .columns; full-is = refl })
+        subst (λ (t : State). After by lim f0 u0 c0 i0 t f u c i count false) e (record { columns = r .columns; full-is = refl })
 
-pub node-run-start : {lim : WidthLimits} {k : ℕ} {f u c : List ℕ} {count : ℕ} (h : Live lim f u c count k (suc k)) → k < count
-    → NodeRun lim k (h .d) (h .f0) (h .u0) (h .c0) (listAt (h .ns) k) (tryAll (rules lim) (lim .entries) (unsaturated (h .ns)) k (generators (lim .width) (lim .basis))) 0 f u c count
+pub node-run-start : {by : By} {lim : WidthLimits} {k : ℕ} {f u c i : List ℕ} {count : ℕ} (h : Live by lim f u c i count k (suc k)) → k < count
+    → NodeRun by lim k (h .d) (h .f0) (h .u0) (h .c0) (h .i0) (listAt (h .ns) k) (tryAll (rules lim) (lim .entries) (unsaturated (h .ns)) k (generators (lim .width) (lim .basis))) 0 f u c i count
 node-run-start h l = record {
   ns = h .ns;
   columns = h .columns;

@@ -8,9 +8,11 @@ ghost use Rattle.generators.specs.Generators.{generators};
 ghost use Rattle.exact.specs.Places.{held};
 ghost use Rattle.places.specs.Places.{places};
 ghost use Rattle.matrix.specs.Step.{Ready};
+ghost use Rattle.index.specs.Told.{toldBy};
 ghost use Rattle.next_node.specs.Arrays.{Room, Live};
 ghost use Rattle.candidates.specs.Tries.{CandidateTried, NodeTried};
 use cyclotomic::Coefficient;
+use index::LookupBy;
 use matrix::UnitaryMatrix;
 use next_node::Tried;
 use node_matrix::Candidate;
@@ -18,6 +20,7 @@ use synthesis_arena::WidthLimits;
 
 // One candidate: a generator after a node, whose matrix is handed over.
 fn try_candidate(
+    by: LookupBy,
     limits: WidthLimits,
     count: usize,
     node: usize,
@@ -26,6 +29,7 @@ fn try_candidate(
     fingerprints: &mut [u64],
     parents: &mut [u32],
     codes: &mut [u32],
+    index: &mut [u32],
     m: &[Coefficient],
     scratch: &mut [Coefficient; 4096],
 ) -> Tried
@@ -33,10 +37,10 @@ fn try_candidate(
     requires valid { ⌜ valid (limits .width) gate ≡ true ⌝ }
     requires ready { ⌜ Ready (limits .width) exponent (now m) ⌝ }
     requires long { ⌜ length (now scratch) ≡ places ⌝ }
-    requires room { ⌜ Room limits count node (now fingerprints) (now parents) (now codes) ⌝ }
-    ensures tried { λ r. ⌜ CandidateTried limits count node gate (held (limits .width) exponent (now (m .entry)))
-        (now (fingerprints .entry)) (now (parents .entry)) (now (codes .entry))
-        (now (fingerprints .exit)) (now (parents .exit)) (now (codes .exit)) r ⌝ }
+    requires room { ⌜ Room (toldBy by) limits count node (now fingerprints) (now parents) (now codes) (now index) ⌝ }
+    ensures tried { λ r. ⌜ CandidateTried (toldBy by) limits count node gate (held (limits .width) exponent (now (m .entry)))
+        (now (fingerprints .entry)) (now (parents .entry)) (now (codes .entry)) (now (index .entry))
+        (now (fingerprints .exit)) (now (parents .exit)) (now (codes .exit)) (now (index .exit)) r ⌝ }
     ensures long { λ _. ⌜ length (now (scratch .exit)) ≡ places ⌝ }
 {
     if next_node::is_pruned(node, gate, codes) {
@@ -58,6 +62,7 @@ fn try_candidate(
         };
     };
     next_node::append(
+        by,
         limits,
         count,
         node,
@@ -66,11 +71,13 @@ fn try_candidate(
         fingerprints,
         parents,
         codes,
+        index,
     )
 }
 
 // One node: each generator, in order.
 pub fn try_node(
+    by: LookupBy,
     limits: WidthLimits,
     count: usize,
     node: usize,
@@ -78,14 +85,16 @@ pub fn try_node(
     fingerprints: &mut [u64],
     parents: &mut [u32],
     codes: &mut [u32],
+    index: &mut [u32],
 ) -> Tried
     requires bounds { ⌜ ((limits .width) ≤ 5) × (node < count) × ((limits .entries) ≤ 1000000) ⌝ }
     requires generators { ⌜ now gates ≡ generators (limits .width) (limits .basis) ⌝ }
-    requires live { ⌜ Live limits (now fingerprints) (now parents) (now codes) count node (suc node) ⌝ }
-    ensures tried { λ r. ⌜ NodeTried limits count node
-        (now (fingerprints .entry)) (now (parents .entry)) (now (codes .entry))
-        (now (fingerprints .exit)) (now (parents .exit)) (now (codes .exit)) r ⌝ }
+    requires live { ⌜ Live (toldBy by) limits (now fingerprints) (now parents) (now codes) (now index) count node (suc node) ⌝ }
+    ensures tried { λ r. ⌜ NodeTried (toldBy by) limits count node
+        (now (fingerprints .entry)) (now (parents .entry)) (now (codes .entry)) (now (index .entry))
+        (now (fingerprints .exit)) (now (parents .exit)) (now (codes .exit)) (now (index .exit)) r ⌝ }
 {
+    let lookup = by;
     let l = limits;
     let one = UnitaryMatrix::identity(l.width as usize);
     let mut data = one.data;
@@ -95,6 +104,7 @@ pub fn try_node(
     let mut j = 0;
     while j < gates.len() {
         let t = try_candidate(
+            lookup,
             l,
             n,
             node,
@@ -103,6 +113,7 @@ pub fn try_node(
             fingerprints,
             parents,
             codes,
+            index,
             &data,
             &mut scratch,
         );

@@ -31,7 +31,7 @@ use Rattle.walk.proofs.Held.{map-at}
 use Rattle.walk.proofs.Prefixes.{completed-unsaturated}
 use Rattle.tables.specs.Checks.{Limits, Arrays, byteCount, queryRows}
 use Rattle.tables.specs.Tables.{Table, Width, walkOf, widthAt, widthOf, parentsOf, codesOf, partOf, Query, query, listRow, synthesized}
-use Rattle.tables.specs.Built.{Built}
+use Rattle.tables.specs.Built.{Built, FilledFrom}
 use Rattle.tables.specs.Demand3 as d
 use Rattle.tables.specs.Demand3.{Gives, Refuses, NotRefused, NoSmaller, Complete, Decided}
 use Rattle.tables.proofs.Demand3.{demand, beside}
@@ -131,7 +131,7 @@ own w asked = by-width (ltb 5 w) refl
 
 -- ---- a list whose matrix is asked
 
-module _ (t : Table) (m : Arrays) (b : Built t m) (w : ℕ) (asked : List ℕ) (k : ℕ) (bytes : List ℤ)
+module _ (t : Table) (m : Arrays) (b : Built t m) (i : FilledFrom t m) (w : ℕ) (asked : List ℕ) (k : ℕ) (bytes : List ℤ)
     (e : listed w asked (lentCoefficients w) ≡ outcome (given k) bytes) where
   abbrev q : Query
   q = query w k bytes
@@ -161,13 +161,13 @@ module _ (t : Table) (m : Arrays) (b : Built t m) (w : ℕ) (asked : List ℕ) (
   not-refused : NotRefused t m q lentList
   unfolding firstRow
   not-refused =
-      never-refused t m q lentList b
+      never-refused t m q lentList b (i .parts)
       (firstRow-append (queryRows w k bytes) (listRow t lentList ∷ []) (numbered-query w k bytes) (accepted-allowed w asked (lentCoefficients w) k bytes e)
       ∙ first-past (listRow t lentList) [] list-short)
 
   complete : Condition (t .limits) w → Complete t m q
   complete c =
-      ⊎-elim (λ p. demand .complete t m b (c .gates) q p) (λ p. beside .complete-rightly t m b (c .gates) q p) (c .prints)
+      ⊎-elim (λ p. demand .complete t m b i (c .gates) q p) (λ p. beside .complete-rightly t m b i (c .gates) q p) (c .prints)
 
   -- its text
   text : listText t m w asked ≡ answerText (synthesized t m q lentList)
@@ -178,33 +178,33 @@ module _ (t : Table) (m : Arrays) (b : Built t m) (w : ℕ) (asked : List ℕ) (
   given-text l g = text ∙ (ap answerText g ∙ ap answerLine (take-at l (drop (length l) lentList) (length l) refl))
 
 -- a larger table gives the same list
-module _ (t t′ : Table) (m m′ : Arrays) (b : Built t m) (b′ : Built t′ m′) (s : NoSmaller (t .limits) (t′ .limits)) where
+module _ (t t′ : Table) (m m′ : Arrays) (b : Built t m) (b′ : Built t′ m′) (i : FilledFrom t m) (i′ : FilledFrom t′ m′) (s : NoSmaller (t .limits) (t′ .limits)) where
   larger-text : (w : ℕ) (asked : List ℕ) (k : ℕ) (bytes : List ℤ) → listed w asked (lentCoefficients w) ≡ outcome (given k) bytes → (l : List ℕ)
       → Gives t m (query w k bytes) lentList l → listText t′ m′ w asked ≡ answerLine l
   larger-text w asked k bytes e l g =
       ⊎-elim
-      (λ (x : Gives t′ m′ (query w k bytes) lentList l). given-text t′ m′ b′ w asked k bytes e l x)
-      (λ (x : Refuses t′ m′ (query w k bytes) lentList 12). absurd (not-refused t′ m′ b′ w asked k bytes e 12 x))
-      (demand .larger t t′ m m′ b b′ s (query w k bytes) lentList lentList l g)
+      (λ (x : Gives t′ m′ (query w k bytes) lentList l). given-text t′ m′ b′ i′ w asked k bytes e l x)
+      (λ (x : Refuses t′ m′ (query w k bytes) lentList 12). absurd (not-refused t′ m′ b′ i′ w asked k bytes e 12 x))
+      (demand .larger t t′ m m′ b b′ i i′ s (query w k bytes) lentList lentList l g)
 
-module _ (t : Table) (m : Arrays) (b : Built t m) (w : ℕ) (asked : List ℕ) where
+module _ (t : Table) (m : Arrays) (b : Built t m) (i : FilledFrom t m) (w : ℕ) (asked : List ℕ) where
   matrix-means : (k : ℕ) (bytes : List ℤ) → listed w asked (lentCoefficients w) ≡ outcome (given k) bytes → LineMeans (t .limits) w asked (listText t m w asked)
   matrix-means k bytes e = by (demand .decided t m (query w k bytes) lentList)
     where
       by : Decided t m (query w k bytes) lentList → LineMeans (t .limits) w asked (listText t m w asked)
       by (d.a-list l g) =
           let r = demand .right t m (query w k bytes) lentList l g in
-          let x = given-text t m b w asked k bytes e l g in
+          let x = given-text t m b i w asked k bytes e l g in
           a-list l x (subst (ReadsAs l) (sym x) (answer-reads w (t .limits) l (r .1) (omega (arith, r .2, accepted (t .limits) (b .accepted) .gates))))
-          (record { power = to t m b w asked k bytes e l (r .0); of-basis = r .1 }) (r .2)
+          (record { power = to t m b i w asked k bytes e l (r .0); of-basis = r .1 }) (r .2)
           (λ l′ lent m′ t′ s f. let z = demand .build-built l′ lent m′ t′ f in
-          larger-text t t′ m m′ b (z .0) (subst (NoSmaller (t .limits)) (sym (z .1)) s) w asked k bytes e l g ∙ sym x)
-          (λ c o z. complete t m b w asked k bytes e c .shortest lentList l g o (from t m b w asked k bytes e o z))
+          larger-text t t′ m m′ b (z .0) i (z .2) (subst (NoSmaller (t .limits)) (sym (z .1)) s) w asked k bytes e l g ∙ sym x)
+          (λ c o z. complete t m b i w asked k bytes e c .shortest lentList l g o (from t m b i w asked k bytes e o z))
       by (d.no-list g) =
-          no-list (text t m b w asked k bytes e ∙ ap answerText g)
-          (λ c p u s o z h. complete t m b w asked k bytes e c .none-exactly p u (ap (λ (v : Width). v .saturated) (width-is t m b w p u) ∙ s) lentList
-          (not-refused t m b w asked k bytes e) .0 g o (from t m b w asked k bytes e o z) h)
-      by (d.a-refusal r n) = absurd (not-refused t m b w asked k bytes e r n)
+          no-list (text t m b i w asked k bytes e ∙ ap answerText g)
+          (λ c p u s o z h. complete t m b i w asked k bytes e c .none-exactly p u (ap (λ (v : Width). v .saturated) (width-is t m b w p u) ∙ s) lentList
+          (not-refused t m b i w asked k bytes e) .0 g o (from t m b i w asked k bytes e o z) h)
+      by (d.a-refusal r n) = absurd (not-refused t m b i w asked k bytes e r n)
 
   refused-means : (number position : ℕ) (bytes : List ℤ) → listed w asked (lentCoefficients w) ≡ outcome (e.refused number position) bytes
       → LineMeans (t .limits) w asked (listText t m w asked)
@@ -273,6 +273,6 @@ program-demand-3 = record {
         rows = λ w p u. row-is t m (z .0) l (z .1) w p u;
         again = λ w. completed-unsaturated (atWidth w (l .basis)) (l .gates) (l .entries);
         prints = λ w asked line h. query-prints t m h;
-        means = λ w asked. subst (λ (k : Limits). LineMeans k w asked (listText t m w asked)) (z .1) (line-means t m (z .0) w asked);
+        means = λ w asked. subst (λ (k : Limits). LineMeans k w asked (listText t m w asked)) (z .1) (line-means t m (z .0) (z .2) w asked);
       };
 }

@@ -6,7 +6,8 @@ ghost use Prim.Native.Nat.{_+_, _%_, _<_, _≤_};
 ghost use lib.ListN.{length, replicate};
 ghost use Rattle.circuit.specs.Codes.{mark};
 ghost use Rattle.synthesis_arena.specs.Lookup.{toldFound};
-ghost use Rattle.walk.specs.Index.{placeOf, leads, probed, inserted, filled, lookedUp, keptUp};
+ghost use mathlib.Core.List.{[]};
+ghost use Rattle.walk.specs.Index.{placeOf, leads, probed, inserted, filled, lookedUp, keptUp, kept};
 ghost use Rattle.index.specs.Told.{toldBy};
 use synthesis_arena::Found;
 use synthesis_arena::MARK;
@@ -141,6 +142,16 @@ pub fn look_up(
     match by {
         LookupBy::Scan => synthesis_arena::node_for(fingerprints, count, from, fingerprint),
         LookupBy::Index => probe(index, fingerprints, count, from, fingerprint),
+    }
+}
+
+// The part before a table has nodes: cleared; the scan leaves it.
+pub fn start(by: LookupBy, index: &mut [u32])
+    ensures started { λ _. ⌜ now (index .exit) ≡ kept (toldBy by) [] 0 (now (index .entry)) ⌝ }
+{
+    match by {
+        LookupBy::Scan => {}
+        LookupBy::Index => clear(index),
     }
 }
 

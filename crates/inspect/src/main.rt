@@ -10,7 +10,14 @@
 //                                    or `refused N 0`
 //   write WIDTH NODE PLACES          the list of a node of the table at hand, with a lent list of PLACES places, at most 64: prints
 //                                    `COUNT CODES..` or `refused N 0`
-// The table at hand is that of the last `table` line; with no such line, or if it was refused, a line that asks it prints `refused 14 0`.
+//   index M                          from here on tables are built, and matrices looked up, by an index whose parts have 2^M places each, M at
+//                                    most 18; its places are empty until a build or a `fill`: prints `index M`
+//   scan                             from here on the scan is used, as at first: prints `scan`
+//   places                           the index of the table at hand: prints for each width `places WIDTH`, and then a line `PLACE NODE` for each
+//                                    place of its part that is not empty
+//   fill                             clears the index and fills it from the table at hand: prints `fill` or `refused N 0`
+// The table at hand is that of the last `table` line; with no such line, or if it was refused, a line that asks it prints `refused 14 0`. So
+// do `places` and `fill` while the scan is used.
 // Numbers and lines are those of the program `circuits`, and a line of another form prints `refused 14 0`. The COUNT of a list is up to
 // 256, K up to 65535. A coefficient is such a number, after a `-` or not, from -128 to 127; there are at most 4097. More than 1 MiB of input
 // prints `refused 15 0` alone. A new word has its case in `First`, or in `Asks` if it asks the table at hand.
@@ -26,16 +33,20 @@ use circuits_text::NEWLINE;
 use circuits_text::SPACE;
 use circuits_text::Word;
 use cyclotomic::Coefficient;
+use index::LookupBy;
 use libc::STDIN_FILENO;
 use libc::STDOUT_FILENO;
 use murm::Building;
+use murm::Filling;
 use murm::Fingerprinted;
 use murm::FoundNode;
 use murm::Listed;
 use murm::Synthesized;
 use murm::Written;
 use murm_config::Murm;
+use murm_config::MurmConfig;
 use refusal::Refusal;
+use synthesis_arena::MARK;
 
 // ---- a list
 
@@ -182,8 +193,8 @@ fn least(a: usize, b: usize, c: usize) -> usize
     c
 }
 
-// Where a width's nodes end; 0 if some lie past the places that there are.
-fn node_end(start: usize, count: usize, places: usize) -> usize
+// Where a part of an array ends; 0 if some of it lies past the places that there are.
+fn part_end(start: usize, count: usize, places: usize) -> usize
     ensures { λ r. ⌜ r ≤ places ⌝ }
 {
     if places < start {
@@ -215,7 +226,7 @@ fn put_width(
     let row = murm_config::width_table(table, width);
     let start = product(width - 1, table.config.max_entries_per_qubit);
     let places = least(fingerprints.len(), parents.len(), codes.len());
-    let end = node_end(start, row.count, places);
+    let end = part_end(start, row.count, places);
     let at = make_room(out, filled);
     let next = circuits_lines::put_table_line(out, at, width, row);
     put_nodes(start, end, fingerprints, parents, codes, out, next)
@@ -260,6 +271,153 @@ fn put_table(
         Building::Table(table) => put_widths(table, fingerprints, parents, codes, out, at),
         Building::Refused(r) => circuits_lines::put_refused(out, at, r),
     }
+}
+
+// ---- the index
+
+// How nodes are looked up, and how many places each part of the index has.
+struct Lookup {
+    by: LookupBy,
+    size: u32,
+}
+
+// Where the parts of so many widths end.
+fn index_end(widths: u32, size: u32, places: usize) -> usize
+    ensures { λ r. ⌜ r ≤ places ⌝ }
+{
+    part_end(0, product(widths, size), places)
+}
+
+// A table is built, with its parts of the index.
+fn build(
+    lookup: Lookup,
+    config: MurmConfig,
+    fingerprints: &mut [u64],
+    parents: &mut [u32],
+    codes: &mut [u32],
+    index: &mut [u32],
+) -> Building {
+    let by = lookup.by;
+    let end = index_end(config.max_qubits, lookup.size, index.len());
+    murm::build_by(by, config, fingerprints, parents, codes, &mut index[..end])
+}
+
+// The parts of every width are emptied.
+fn empty(size: u32, index: &mut [u32]) {
+    let end = index_end(5, size, index.len());
+    index::clear(&mut index[..end]);
+}
+
+// The index is filled from a table.
+fn fill_from(
+    table: Murm,
+    size: u32,
+    fingerprints: &[u64],
+    parents: &[u32],
+    codes: &[u32],
+    index: &mut [u32],
+) -> Filling {
+    let end = index_end(table.config.max_qubits, size, index.len());
+    murm::fill_index(table, fingerprints, parents, codes, &mut index[..end])
+}
+
+// The same of the last table, where an index is used.
+fn fill(
+    lookup: Lookup,
+    built: Building,
+    fingerprints: &[u64],
+    parents: &[u32],
+    codes: &[u32],
+    index: &mut [u32],
+) -> Filling {
+    let by = lookup.by;
+    let LookupBy::Index = by else {
+        return Filling::Refused(Refusal::BrokenLine);
+    };
+    let Building::Table(table) = built else {
+        return Filling::Refused(Refusal::BrokenLine);
+    };
+    fill_from(table, lookup.size, fingerprints, parents, codes, index)
+}
+
+// What a fill came to: at most 50 bytes.
+fn put_filling(filling: Filling, out: &mut [u8], at: usize) -> usize
+    requires { ⌜ at + 50 ≤ length (now out) ⌝ }
+    ensures { λ r. ⌜ r ≤ at + 50 ⌝ }
+{
+    match filling {
+        Filling::Filled => circuits_text::put_bytes(out, at, b"fill\n"),
+        Filling::Refused(r) => circuits_lines::put_refused(out, at, r),
+    }
+}
+
+// A place and its node; an empty place has no line.
+fn put_place(out: &mut [u8], filled: usize, place: usize, node: u32) -> usize
+    requires { ⌜ (filled ≤ 65536) × (65536 ≤ length (now out)) ⌝ }
+    ensures { λ r. ⌜ r ≤ 65536 ⌝ }
+{
+    if node == MARK {
+        return filled;
+    }
+    let at = make_room(out, filled);
+    let next = circuits_lines::put_number(out, at, place as u64, SPACE);
+    circuits_lines::put_number(out, next, node as u64, NEWLINE)
+}
+
+// The places from start up to end, counted from start.
+fn put_part(start: usize, end: usize, index: &[u32], out: &mut [u8], filled: usize) -> usize
+    requires { ⌜ (filled ≤ 65536) × (65536 ≤ length (now out)) × (end ≤ length (now index)) ⌝ }
+    ensures { λ r. ⌜ r ≤ 65536 ⌝ }
+{
+    let mut p = filled;
+    let mut i = start;
+    while i < end {
+        p = put_place(out, p, i - start, index[i]);
+        i += 1;
+    }
+    p
+}
+
+// A width's part of the index.
+fn put_width_part(width: u32, size: u32, index: &[u32], out: &mut [u8], filled: usize) -> usize
+    requires { ⌜ (1 ≤ width) × (filled ≤ 65536) × (65536 ≤ length (now out)) ⌝ }
+    ensures { λ r. ⌜ r ≤ 65536 ⌝ }
+{
+    let start = product(width - 1, size);
+    let end = part_end(start, size as usize, index.len());
+    let at = make_room(out, filled);
+    let next = circuits_text::put_bytes(out, at, b"places ");
+    let first = circuits_lines::put_number(out, next, width as u64, NEWLINE);
+    put_part(start, end, index, out, first)
+}
+
+// Each width's part.
+fn put_parts(widths: u32, size: u32, index: &[u32], out: &mut [u8], filled: usize) -> usize
+    requires { ⌜ (filled ≤ 65536) × (65536 ≤ length (now out)) ⌝ }
+    ensures { λ r. ⌜ r ≤ 65536 ⌝ }
+{
+    let mut p = filled;
+    let mut w = 0;
+    while w < widths {
+        p = put_width_part(w + 1, size, index, out, p);
+        w += 1;
+    }
+    p
+}
+
+// The index of the last table.
+fn put_places(lookup: Lookup, built: Building, index: &[u32], out: &mut [u8], at: usize) -> usize
+    requires { ⌜ (at ≤ 16346) × (65536 ≤ length (now out)) ⌝ }
+    ensures { λ r. ⌜ r ≤ 65536 ⌝ }
+{
+    let by = lookup.by;
+    let LookupBy::Index = by else {
+        return circuits_lines::put_refused(out, at, Refusal::BrokenLine);
+    };
+    let Building::Table(table) = built else {
+        return circuits_lines::put_refused(out, at, Refusal::BrokenLine);
+    };
+    put_parts(table.config.max_qubits, lookup.size, index, out, at)
 }
 
 // ---- a matrix
@@ -412,10 +570,12 @@ enum Told {
 
 // A table is asked for the matrix of a line.
 fn ask_matrix(
+    by: LookupBy,
     table: Murm,
     fingerprints: &[u64],
     parents: &[u32],
     codes: &[u32],
+    index: &[u32],
     rest: &[u8],
     list: &mut [u32],
 ) -> Told {
@@ -423,11 +583,13 @@ fn ask_matrix(
     match read_matrix(rest, &mut space) {
         Asked::Matrix(width, k, n) => {
             let fingerprint = fingerprint_of(width, k, &space[..n]);
-            let answer = murm::synthesize(
+            let answer = murm::synthesize_by(
+                by,
                 table,
                 fingerprints,
                 parents,
                 codes,
+                index,
                 width,
                 k,
                 &space[..n],
@@ -441,19 +603,23 @@ fn ask_matrix(
 
 // The node for the matrix of a line is found (SPECIFICATION 7.10).
 fn ask_find(
+    by: LookupBy,
     table: Murm,
     fingerprints: &[u64],
     parents: &[u32],
     codes: &[u32],
+    index: &[u32],
     rest: &[u8],
 ) -> Told {
     let mut space = coefficient_space();
     match read_matrix(rest, &mut space) {
-        Asked::Matrix(width, k, n) => Told::Found(murm::find(
+        Asked::Matrix(width, k, n) => Told::Found(murm::find_by(
+            by,
             table,
             fingerprints,
             parents,
             codes,
+            index,
             width,
             k,
             &space[..n],
@@ -490,18 +656,20 @@ fn ask_write(
 // A table is asked by a line.
 fn ask(
     what: Asks,
+    by: LookupBy,
     table: Murm,
     fingerprints: &[u64],
     parents: &[u32],
     codes: &[u32],
+    index: &[u32],
     rest: &[u8],
     list: &mut [u32],
 ) -> Told
     requires { ⌜ 64 ≤ length (now list) ⌝ }
 {
     match what {
-        Asks::Matrix => ask_matrix(table, fingerprints, parents, codes, rest, list),
-        Asks::Find => ask_find(table, fingerprints, parents, codes, rest),
+        Asks::Matrix => ask_matrix(by, table, fingerprints, parents, codes, index, rest, list),
+        Asks::Find => ask_find(by, table, fingerprints, parents, codes, index, rest),
         Asks::Write => ask_write(table, fingerprints, parents, codes, rest, list),
     }
 }
@@ -597,10 +765,12 @@ fn put_told(told: Told, list: &[u32], out: &mut [u8], at: usize) -> usize
 // What the last table tells to a line that asks it.
 fn put_asked(
     what: Asks,
+    lookup: Lookup,
     built: Building,
     fingerprints: &[u64],
     parents: &[u32],
     codes: &[u32],
+    index: &[u32],
     rest: &[u8],
     out: &mut [u8],
     at: usize,
@@ -611,22 +781,64 @@ fn put_asked(
     let Building::Table(table) = built else {
         return circuits_lines::put_refused(out, at, Refusal::BrokenLine);
     };
+    let by = lookup.by;
+    let end = index_end(table.config.max_qubits, lookup.size, index.len());
     let mut list = [0u32; 64];
-    let told = ask(what, table, fingerprints, parents, codes, rest, &mut list);
+    let told = ask(
+        what,
+        by,
+        table,
+        fingerprints,
+        parents,
+        codes,
+        &index[..end],
+        rest,
+        &mut list,
+    );
     put_told(told, &list, out, at)
 }
 
 // ---- a line
 
-// What a line begins with.
+// What a line begins with; of `index` its M, and how many places that makes.
 enum First {
     List,
     Table,
     Asks(Asks),
+    Index(u32, u32),
+    Scan,
+    Places,
+    Fill,
     Other,
 }
 
-fn first_word(word: &[u8]) -> First {
+// What follows the word `index` and its space: M.
+fn index_word(rest: &[u8]) -> First {
+    let Word::Number(m) = circuits_text::number(rest) else {
+        return First::Other;
+    };
+    if 18 < m {
+        return First::Other;
+    }
+    First::Index(m, 1 << m)
+}
+
+// A word that is the whole line.
+fn lone_word(word: &[u8]) -> First {
+    if circuits_text::same_bytes(word, b"scan") {
+        return First::Scan;
+    }
+    if circuits_text::same_bytes(word, b"places") {
+        return First::Places;
+    }
+    if circuits_text::same_bytes(word, b"fill") {
+        return First::Fill;
+    }
+    First::Other
+}
+
+// A word and what follows its space.
+fn first_word(word: &[u8], rest: &[u8]) -> First {
     if circuits_text::same_bytes(word, b"list") {
         return First::List;
     }
@@ -642,6 +854,9 @@ fn first_word(word: &[u8]) -> First {
     if circuits_text::same_bytes(word, b"write") {
         return First::Asks(Asks::Write);
     }
+    if circuits_text::same_bytes(word, b"index") {
+        return index_word(rest);
+    }
     First::Other
 }
 
@@ -651,53 +866,148 @@ struct Begun {
     rest: usize,
 }
 
-// The line from at to end. Where it has no space, or lacks its newline, it begins with another word.
+// The line from at to end. Where it lacks its newline, it begins with another word.
 fn begin(input: &[u8], at: usize, end: usize) -> Begun
     requires { ⌜ (at ≤ end) × (end ≤ length (now input)) ⌝ }
     ensures { λ r. ⌜ r .rest ≤ end ⌝ }
 {
-    let s = circuits_text::find(input, at, SPACE);
-    if end <= s {
-        return Begun {
-            word: First::Other,
-            rest: end,
-        };
-    }
     if input.len() <= end {
         return Begun {
             word: First::Other,
             rest: end,
         };
     }
-    let word = first_word(&input[at..s]);
-    Begun { word, rest: s + 1 }
+    let s = circuits_text::find(input, at, SPACE);
+    if end <= s {
+        let word = lone_word(&input[at..end]);
+        return Begun { word, rest: end };
+    }
+    let rest = s + 1;
+    let word = first_word(&input[at..s], &input[rest..end]);
+    Begun { word, rest }
+}
+
+// The look-up after a line.
+fn lookup_after(word: First, last: Lookup) -> Lookup {
+    match word {
+        First::Index(_, size) => Lookup {
+            by: LookupBy::Index,
+            size,
+        },
+        First::Scan => Lookup {
+            by: LookupBy::Scan,
+            size: 1,
+        },
+        _ => last,
+    }
 }
 
 // The table after a line: what follows the word `table` and its space, Q G E B, builds one.
 fn table_after(
     word: First,
+    lookup: Lookup,
     last: Building,
     fingerprints: &mut [u64],
     parents: &mut [u32],
     codes: &mut [u32],
+    index: &mut [u32],
     rest: &[u8],
 ) -> Building {
     let First::Table = word else {
         return last;
     };
     match circuits_input::read_line_one(rest) {
-        LineOne::Limits(config) => murm::build(config, fingerprints, parents, codes),
+        LineOne::Limits(config) => build(lookup, config, fingerprints, parents, codes, index),
         LineOne::Refused(r) => Building::Refused(r),
     }
+}
+
+// What a line does to the index besides a build: `index` empties it, and `fill` fills it, or says why not.
+fn index_after(
+    word: First,
+    lookup: Lookup,
+    table: Building,
+    fingerprints: &[u64],
+    parents: &[u32],
+    codes: &[u32],
+    index: &mut [u32],
+) -> Filling {
+    match word {
+        First::Index(_, size) => {
+            empty(size, index);
+            Filling::Filled
+        }
+        First::Fill => fill(lookup, table, fingerprints, parents, codes, index),
+        _ => Filling::Filled,
+    }
+}
+
+// What is at hand: the look-up, the last table, and what the last line did to the index.
+struct State {
+    lookup: Lookup,
+    table: Building,
+    filling: Filling,
+}
+
+fn first_state() -> State {
+    State {
+        lookup: Lookup {
+            by: LookupBy::Scan,
+            size: 1,
+        },
+        table: Building::Refused(Refusal::BrokenLine),
+        filling: Filling::Filled,
+    }
+}
+
+// The state after a line.
+fn after(
+    word: First,
+    last: State,
+    fingerprints: &mut [u64],
+    parents: &mut [u32],
+    codes: &mut [u32],
+    index: &mut [u32],
+    rest: &[u8],
+) -> State {
+    let before = last.lookup;
+    let built = last.table;
+    let lookup = lookup_after(word, before);
+    let table = table_after(
+        word,
+        lookup,
+        built,
+        fingerprints,
+        parents,
+        codes,
+        index,
+        rest,
+    );
+    let filling = index_after(word, lookup, table, fingerprints, parents, codes, index);
+    State {
+        lookup,
+        table,
+        filling,
+    }
+}
+
+// `index` and M: at most 27 bytes.
+fn put_index(out: &mut [u8], at: usize, m: u32) -> usize
+    requires { ⌜ at + 27 ≤ length (now out) ⌝ }
+    ensures { λ r. ⌜ r ≤ at + 27 ⌝ }
+{
+    let next = circuits_text::put_bytes(out, at, b"index ");
+    circuits_lines::put_number(out, next, m as u64, NEWLINE)
 }
 
 // What a line prints.
 fn put_line(
     word: First,
-    table: Building,
+    state: State,
     fingerprints: &[u64],
     parents: &[u32],
     codes: &[u32],
+    index: &[u32],
     rest: &[u8],
     out: &mut [u8],
     at: usize,
@@ -705,10 +1015,28 @@ fn put_line(
     requires { ⌜ (at ≤ 16346) × (65536 ≤ length (now out)) ⌝ }
     ensures { λ r. ⌜ r ≤ 65536 ⌝ }
 {
+    let lookup = state.lookup;
+    let table = state.table;
+    let filling = state.filling;
     match word {
         First::List => put_list_line(rest, out, at),
         First::Table => put_table(table, fingerprints, parents, codes, out, at),
-        First::Asks(what) => put_asked(what, table, fingerprints, parents, codes, rest, out, at),
+        First::Asks(what) => put_asked(
+            what,
+            lookup,
+            table,
+            fingerprints,
+            parents,
+            codes,
+            index,
+            rest,
+            out,
+            at,
+        ),
+        First::Index(m, _) => put_index(out, at, m),
+        First::Scan => circuits_text::put_bytes(out, at, b"scan\n"),
+        First::Places => put_places(lookup, table, index, out, at),
+        First::Fill => put_filling(filling, out, at),
         First::Other => circuits_lines::put_refused(out, at, Refusal::BrokenLine),
     }
 }
@@ -719,12 +1047,13 @@ fn lines(
     fingerprints: &mut [u64],
     parents: &mut [u32],
     codes: &mut [u32],
+    index: &mut [u32],
     out: &mut [u8],
 )
     requires { ⌜ 65536 ≤ length (now out) ⌝ }
 {
     let mut filled = 0;
-    let mut table = Building::Refused(Refusal::BrokenLine);
+    let mut state = first_state();
     let mut at = 0;
     while at < input.len() {
         let next = make_room(out, filled);
@@ -732,13 +1061,22 @@ fn lines(
         let begun = begin(input, at, e);
         let word = begun.word;
         let rest = begun.rest;
-        table = table_after(word, table, fingerprints, parents, codes, &input[rest..e]);
-        filled = put_line(
+        state = after(
             word,
-            table,
+            state,
             fingerprints,
             parents,
             codes,
+            index,
+            &input[rest..e],
+        );
+        filled = put_line(
+            word,
+            state,
+            fingerprints,
+            parents,
+            codes,
+            index,
             &input[rest..e],
             out,
             next,
@@ -753,41 +1091,30 @@ fn lines(
 // The longest input, one byte more than which is read.
 const MOST: usize = 1048576;
 
-fn input_space() -> [u8; 1048577]
-    ensures { λ r. ⌜ 1048577 ≡ length r ⌝ }
-{
-    [0; 1048577]
-}
-
-// How many nodes the widths of a table have places for, together.
-fn fingerprint_space() -> [u64; 100000]
-    ensures { λ r. ⌜ 100000 ≡ length r ⌝ }
-{
-    [0; 100000]
-}
-
-fn node_space() -> [u32; 100000]
-    ensures { λ r. ⌜ 100000 ≡ length r ⌝ }
-{
-    [0; 100000]
+// The input's lines, with arrays for the nodes that the widths of a table have together, and an index of five parts of 2^18 places. The
+// arrays are locals: one that a function returns may stand on the stack three times, and these take most of it.
+fn answer(input: &[u8]) {
+    let mut out = io::large_buffer();
+    let mut fingerprints = [0u64; 100000];
+    let mut parents = [0u32; 100000];
+    let mut codes = [0u32; 100000];
+    let mut index = [0u32; 1310720];
+    lines(
+        input,
+        &mut fingerprints,
+        &mut parents,
+        &mut codes,
+        &mut index,
+        &mut out,
+    );
 }
 
 fn main() {
-    let mut input = input_space();
+    let mut input = [0u8; 1048577];
     let n = io::read_full(STDIN_FILENO, &mut input);
     if MOST < n {
         io::write_all(STDOUT_FILENO, b"refused 15 0\n");
         return;
     }
-    let mut out = io::large_buffer();
-    let mut fingerprints = fingerprint_space();
-    let mut parents = node_space();
-    let mut codes = node_space();
-    lines(
-        &input[..n],
-        &mut fingerprints,
-        &mut parents,
-        &mut codes,
-        &mut out,
-    );
+    answer(&input[..n]);
 }

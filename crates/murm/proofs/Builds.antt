@@ -1,38 +1,52 @@
--- What a build answers, by the row that refuses: one of the limits' rows, row 5, or none. Assumes nothing.
+-- What a build and a fill answer, by the row that refuses, or that none does. Assumes nothing.
 use mathlib.Core.Path.{_≡_, refl, sym, ap, _∙_}
-use mathlib.Core.Bool.{true, false}
 use mathlib.Core.List.{List, [], _∷_}
 use Prim.Native.Nat.{ℕ}
 use native.Mathlib.Omega.{arith}
+use lib.ListN.{length}
 use Rattle.refusal.specs.Told.{Reason, numberOf, positionOf}
 use Rattle.refusal.specs.declared.Refusal.{Refusal}
 use Rattle.refusal.proofs.Numbers.{Refuses}
-use Rattle.tables.specs.Checks.{firstRow, Limits, limitRows, Arrays, arrays, roomRow}
-use Rattle.tables.specs.Tables.{Table, recordOf, printsOf, parentsOf, codesOf, filledTo, table, refusal, left, buildOf}
-use Rattle.tables.proofs.Rows.{numbered-limits, first-here, first-past, first-some, firstRow-append}
+use Rattle.walk.specs.Index.{scan, indexed}
+use Rattle.tables.specs.Checks.{firstRow, Limits, Arrays, arrays, arraysBy}
+use Rattle.tables.specs.Tables.{Table, recordOf, printsOf, parentsOf, codesOf, filledTo, indexTo, BuildReply, table, refusal, left, buildRows, buildOf}
+use Rattle.tables.specs.Tables.{lookRowsOf, filledIndex, filled, not-filled, fillLeft, fillOf}
 use Rattle.tables.proofs.FromBuild.{build-refusal, build-fills}
+use Rattle.tables.proofs.Asked.{fill-passed, fill-refused}
 
 module _ (l : Limits) (a : Arrays) where
-  -- a row of the limits
-  pub limits-refuse : {r : Refusal} → Refuses r (firstRow (limitRows l)) → left (refusal (numberOf r) (positionOf r)) a ≡ buildOf l a
-  limits-refuse x =
-      ap (λ (z : Reason). left (refusal (z .number) (z .position)) a) (x .told)
-      ∙ sym (build-refusal l a _ (x .some) (first-some (limitRows l) (roomRow l a ∷ []) _ (x .some) refl))
+  -- a row refuses
+  pub refused-build : {r : Refusal} → Refuses r (firstRow (buildRows l a)) → left (refusal (numberOf r) (positionOf r)) a ≡ buildOf l a
+  refused-build x = ap (λ (z : Reason). left (refusal (z .number) (z .position)) a) (x .told) ∙ sym (build-refusal l a _ (x .some) refl)
 
-  module _ (e : 0 ≡ firstRow (limitRows l)) where
-    -- row 5
-    pub room-refuses : roomRow l a .holds ≡ true → left (refusal 5 0) a ≡ buildOf l a
-    room-refuses h =
-        sym (build-refusal l a 5 (omega arith)
-        (firstRow-append (limitRows l) (roomRow l a ∷ []) (numbered-limits l) (sym e) ∙ first-here (roomRow l a) [] h))
+  -- none: the record, the three arrays filled up to Q, and the index
+  pub passed-build : firstRow (buildRows l a) ≡ 0 → (t : Table) (f u c i : List ℕ) → t ≡ recordOf l
+      → f ≡ filledTo (printsOf l) (l .entries) (l .qubits) (a .prints)
+      → u ≡ filledTo (parentsOf l) (l .entries) (l .qubits) (a .parents)
+      → c ≡ filledTo (codesOf l) (l .entries) (l .qubits) (a .codes)
+      → i ≡ indexTo l (a .by) (l .qubits) (a .index)
+      → left (table t) (arraysBy (a .by) f u c i) ≡ buildOf l a
+  passed-build e t f u c i et ef eu ec ei = rw (et, ef, eu, ec, ei) (sym (build-fills l a e))
 
-    -- none: the record, and the three arrays filled up to Q
-    pub none-refuses : roomRow l a .holds ≡ false → (t : Table) (f u c : List ℕ) → t ≡ recordOf l
-        → f ≡ filledTo (printsOf l) (l .entries) (l .qubits) (a .prints)
-        → u ≡ filledTo (parentsOf l) (l .entries) (l .qubits) (a .parents)
-        → c ≡ filledTo (codesOf l) (l .entries) (l .qubits) (a .codes)
-        → left (table t) (arrays f u c) ≡ buildOf l a
-    unfolding firstRow
-    none-refuses h t f u c et ef eu ec =
-        rw (et, ef, eu, ec) (sym (build-fills l a
-        (firstRow-append (limitRows l) (roomRow l a ∷ []) (numbered-limits l) (sym e) ∙ first-past (roomRow l a) [] h)))
+-- an index of no places is none
+no-places : (i : List ℕ) → length i ≡ 0 → i ≡ []
+no-places [] e = refl
+no-places (x ∷ i) e = absurd (omega (arith, e))
+
+pub no-index : (l : Limits) (a : Arrays) (f u c i : List ℕ) {r : BuildReply} → length i ≡ 0 → left r (arraysBy scan f u c i) ≡ buildOf l a
+    → left r (arrays f u c) ≡ buildOf l a
+no-index l a f u c i {r} e h = ap (λ (z : List ℕ). left r (arraysBy scan f u c z)) (sym (no-places i e)) ∙ h
+
+-- ---- a fill
+
+module _ (t : Table) (f u c i : List ℕ) where
+  pub refused-fill : {r : Refusal} → Refuses r (firstRow (lookRowsOf t indexed (arraysBy indexed f u c i)))
+      → fillLeft (not-filled (numberOf r) (positionOf r)) i ≡ fillOf t (arraysBy indexed f u c i)
+  refused-fill x =
+      ap (λ (z : Reason). fillLeft (not-filled (z .number) (z .position)) i) (x .told) ∙ sym (fill-refused t (arraysBy indexed f u c i) _ (x .some) refl)
+
+  -- the parents and codes play no part in what is left
+  pub passed-fill : firstRow (lookRowsOf t indexed (arraysBy indexed f u c i)) ≡ 0 → {i′ : List ℕ} → i′ ≡ filledIndex t (arraysBy indexed f [] [] i)
+      → fillLeft filled i′ ≡ fillOf t (arraysBy indexed f u c i)
+  unfolding filledIndex
+  passed-fill e h = ap (fillLeft filled) h ∙ sym (fill-passed t (arraysBy indexed f u c i) e)

@@ -2,8 +2,16 @@
 use Rattle.tables.proofs.Demand2.{demand-2}
 use Rattle.tables.proofs.Demand3.{demand, beside}
 use Rattle.tables.proofs.FindWrite.{find-write}
+use Rattle.tables.proofs.EitherLookup.{either-lookup}
 use Rattle.tables.proofs.Exactly.{exactly}
 use Rattle.murm.specs.Demands.{Demands}
 
 pub demands : Demands
-demands = record { refusals = exactly; second = λ n codes bytes. demand-2 n codes bytes; third = demand; apart = find-write; beside = beside }
+demands = record {
+  refusals = exactly;
+  second = λ n codes bytes. demand-2 n codes bytes;
+  third = demand;
+  apart = find-write;
+  either = either-lookup;
+  beside = beside;
+}

@@ -9,12 +9,13 @@ use Rattle.ints.specs.Lists.{pick}
 use Rattle.exact.specs.Answers.{Answer, given, refused}
 use Rattle.exact.specs.Fingerprint.{fingerprint}
 use Rattle.exact.specs.Places.{held}
+use Rattle.walk.specs.Index.{By}
 use Rattle.walk.specs.Finds.{Part, partWith, Finding}
 use Rattle.walk.specs.Finds as finds
 use Rattle.walk.specs.Answers.{Reply}
 use Rattle.walk.specs.Answers as a
 use Rattle.tables.specs.Checks.{firstRow, queryRows, Arrays}
-use Rattle.tables.specs.Tables.{Table, BuildReply, table, refusal, Query, listRow}
+use Rattle.tables.specs.Tables.{Table, BuildReply, table, refusal, FillReply, filled, not-filled, Query, listRow}
 use Rattle.tables.proofs.Asked.{partAsked}
 use Rattle.refusal.specs.Told.{numberOf, positionOf}
 use Rattle.murm_config.specs.Told.{toldMurm}
@@ -24,6 +25,8 @@ use Rattle.murm.specs.declared.Fingerprinted.{Fingerprinted}
 use Rattle.murm.specs.declared.Fingerprinted.the-variants as f
 use Rattle.murm.specs.declared.Building.{Building}
 use Rattle.murm.specs.declared.Building.the-variants as b
+use Rattle.murm.specs.declared.Filling.{Filling}
+use Rattle.murm.specs.declared.Filling.the-variants as i
 use Rattle.murm.specs.declared.FoundNode.{FoundNode}
 use Rattle.murm.specs.declared.FoundNode.the-variants as n
 use Rattle.murm.specs.declared.Written.{Written}
@@ -60,6 +63,11 @@ abbrev pub toldBuilding : Building → BuildReply
 toldBuilding (b.Table m) = table (toldMurm m)
 toldBuilding (b.Refused r) = refusal (numberOf r) (positionOf r)
 
+-- what a fill came to, as the definitions have it
+abbrev pub toldFilling : Filling → FillReply
+toldFilling i.Filled = filled
+toldFilling (i.Refused r) = not-filled (numberOf r) (positionOf r)
+
 -- what is found, as the definitions have it
 abbrev pub toldFoundNode : FoundNode → Finding
 toldFoundNode (n.Node k m) = finds.node k m
@@ -77,9 +85,10 @@ toldSynthesized (s.Circuit m) = a.given m
 toldSynthesized s.Nothing = a.none
 toldSynthesized (s.Refused r) = a.refused (numberOf r) (positionOf r)
 
--- the places from a start on, as many as a width has, of each array (SPECIFICATION 6.2)
-abbrev pub partFrom : ℕ → ℕ → ℕ → List ℕ → List ℕ → List ℕ → Part
-partFrom start entries count f u c = partWith (take entries (drop start f)) (take entries (drop start u)) (take entries (drop start c)) count
+-- the places from a start on, as many as a width has, of each array, and `size` places of the index from a place on (SPECIFICATION 6.2, 7.16)
+abbrev pub partFrom : By → ℕ → ℕ → ℕ → ℕ → ℕ → List ℕ → List ℕ → List ℕ → List ℕ → Part
+partFrom by start entries count place size f u c i =
+    partWith by (take entries (drop start f)) (take entries (drop start u)) (take entries (drop start c)) count (take size (drop place i))
 
 -- what is answered to a query that row 13 of the record and rows 5 to 11 do not refuse
 abbrev pub askedOf : Table → Arrays → Query → List ℕ → a.Outcome

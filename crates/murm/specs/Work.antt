@@ -10,12 +10,13 @@ use Rattle.cyclotomic.specs.Zomega.{limit, eqZ}
 use Rattle.exact.proofs.Words.{AllSmall}
 use Rattle.exact.specs.Places.{read}
 use Rattle.refusal.specs.Told.{Reason, byRow}
+use Rattle.walk.specs.Index.{By}
 use Rattle.walk.specs.Chains.{chainOf}
 use Rattle.walk.specs.Finds.{Finding}
 use Rattle.walk.specs.Answers.{Outcome, written}
 use Rattle.width_answer.specs.Answers.{ListFound}
 use Rattle.tables.specs.Checks.{anyBelow, firstRow, queryRows, Arrays, placesOf}
-use Rattle.tables.specs.Tables.{Table, Query, matrixOf, recordRow, tableRows, countAt, partOf, limitsAt, partAt}
+use Rattle.tables.specs.Tables.{Table, Query, matrixOf, recordRow, lookRows, countAt, partOf, limitsAt, partAt}
 
 -- whether a coefficient is -128; one that is not is within the limit
 pub record PastLimit (x : ℤ) (r : Bool) : Type 0 where
@@ -33,8 +34,8 @@ pub record Checked (n k : ℕ) (l : List ℤ) (r : Reason) : Type 0 where
   pub small : r .number ≡ 0 → AllSmall n (read n l)
 
 -- the checks of a find, by the row that refuses; of a query that none refuses all coefficients are within the limit
-pub record FindChecked (t : Table) (f u c n k : ℕ) (l : List ℤ) (r : Reason) : Type 0 where
-  pub told : r ≡ byRow (firstRow (tableRows t f u c ++ queryRows n k l))
+pub record FindChecked (t : Table) (by : By) (f u c places n k : ℕ) (l : List ℤ) (r : Reason) : Type 0 where
+  pub told : r ≡ byRow (firstRow (lookRows t by f u c places ++ queryRows n k l))
   pub small : r .number ≡ 0 → AllSmall n (read n l)
 
 -- this is found in the part of the query's width, and its list, copied, is what is answered

@@ -1,5 +1,6 @@
 // The public entries: none asks anything of its caller, and each decides every input (SPECIFICATION 8.1). murm.rs of the original:
 // `library_circuit_matrix`, `Murm::build`, `Murm::synthesize`; matrix.rs: `unitary_fingerprint`. `find` and `write` are the parts of `synthesize`.
+// The entries that end in `_by` take how nodes are looked up, and an index for it; those without are by the scan.
 ghost use mathlib.Core.Path.{_≡_};
 ghost use mathlib.Core.Bool.{false, _&&_};
 ghost use Prim.Native.Nat.{_+_, _*_, _^_, _≤_, _<_};
@@ -11,18 +12,21 @@ ghost use Rattle.exact.specs.Places.{read, held};
 ghost use Rattle.synthesis_arena.specs.Limits.{toldLimits};
 ghost use Rattle.width_answer.specs.Answers.{AskedPlaces, toldFind, ListFound};
 ghost use Rattle.walk.specs.Answers.{outcome as replied};
-ghost use Rattle.tables.specs.Checks.{firstRow, queryRows, arrays, roomRow};
-ghost use Rattle.tables.specs.Tables.{left, buildOf, query, recordRow, countAt, foundIn, writtenIn, synthesized};
+ghost use Rattle.tables.specs.Checks.{firstRow, queryRows, arrays, arraysBy, roomRow};
+ghost use Rattle.tables.specs.Tables.{left, buildOf, fillLeft, fillOf, query, recordRow, countAt, foundIn, writtenIn, synthesized};
+ghost use Rattle.walk.specs.Index.{indexed};
+ghost use Rattle.index.specs.Told.{toldBy};
 ghost use Rattle.tables.proofs.Asked.{partFound};
 ghost use Rattle.refusal.specs.Told.{toldCheck};
 ghost use Rattle.murm_config.specs.Told.{toldConfig, toldMurm};
 ghost use Rattle.tables.specs.Lists.{firstInvalid, outcome, listed};
-ghost use Rattle.murm.specs.Entries.{partFrom, toldListed, fingerprinted, toldFingerprinted, toldBuilding, toldFoundNode, toldWritten, askedOf, toldSynthesized};
+ghost use Rattle.murm.specs.Entries.{partFrom, toldListed, fingerprinted, toldFingerprinted, toldBuilding, toldFilling, toldFoundNode, toldWritten, askedOf, toldSynthesized};
 ghost use Rattle.murm.specs.Work.{PastLimit, InRange, Checked, FindChecked, FoundFor, Writable, nodeWritten};
 use circuit::LibraryGate;
 use cyclotomic::Coefficient;
 use cyclotomic::LIMIT;
 use cyclotomic::Wide;
+use index::LookupBy;
 use lists::Walked;
 use murm_config::Murm;
 use murm_config::MurmConfig;
@@ -170,8 +174,38 @@ pub enum Building {
     Refused(Refusal),
 }
 
-// A table is built (SPECIFICATION, chapter 6): rows 1, 2, 3, 4, 5. A refusal leaves the three arrays as they were; else widths 1 to Q are
-// filled, and all other places keep what they held.
+// A table is built (SPECIFICATION, chapter 6): rows 1, 2, 3, 4, 5, 17. A refusal leaves the three arrays and the index as they were; else widths 1
+// to Q are filled, and all other places keep what they held. By the index, each part is cleared and kept up: it is left as `fill_index` would.
+pub fn build_by(
+    by: LookupBy,
+    config: MurmConfig,
+    fingerprints: &mut [u64],
+    parents: &mut [u32],
+    codes: &mut [u32],
+    index: &mut [u32],
+) -> Building
+    ensures { λ r. ⌜ left (toldBuilding r)
+        (arraysBy (toldBy by) (now (fingerprints .exit)) (now (parents .exit)) (now (codes .exit)) (now (index .exit)))
+        ≡ buildOf (toldConfig config)
+        (arraysBy (toldBy by) (now (fingerprints .entry)) (now (parents .entry)) (now (codes .entry)) (now (index .entry))) ⌝ }
+{
+    match murm_config::check_build(
+        by,
+        config,
+        fingerprints.len(),
+        parents.len(),
+        codes.len(),
+        index.len(),
+    ) {
+        Check::Passed => {
+            let table = murm_widths::build_widths(by, config, fingerprints, parents, codes, index);
+            Building::Table(table)
+        }
+        Check::Refused(r) => Building::Refused(r),
+    }
+}
+
+// The same by the scan.
 pub fn build(
     config: MurmConfig,
     fingerprints: &mut [u64],
@@ -181,64 +215,107 @@ pub fn build(
     ensures { λ r. ⌜ left (toldBuilding r) (arrays (now (fingerprints .exit)) (now (parents .exit)) (now (codes .exit)))
         ≡ buildOf (toldConfig config) (arrays (now (fingerprints .entry)) (now (parents .entry)) (now (codes .entry))) ⌝ }
 {
-    match murm_config::limits(config) {
+    let mut none: [u32; 1] = [0; 1];
+    build_by(
+        LookupBy::Scan,
+        config,
+        fingerprints,
+        parents,
+        codes,
+        &mut none[0..0],
+    )
+}
+
+// What a fill of the index comes to: filled, or why it was refused.
+pub enum Filling {
+    Filled,
+    Refused(Refusal),
+}
+
+// The index is cleared and filled from a table, nodes rising (SPECIFICATION 7.17): 13 of the record, then 5, 17. A refusal leaves it as it was.
+pub fn fill_index(
+    table: Murm,
+    fingerprints: &[u64],
+    parents: &[u32],
+    codes: &[u32],
+    index: &mut [u32],
+) -> Filling
+    ensures { λ r. ⌜ fillLeft (toldFilling r) (now (index .exit)) ≡ fillOf (toldMurm table)
+        (arraysBy indexed (now (fingerprints .entry)) (now (parents .entry)) (now (codes .entry)) (now (index .entry))) ⌝ }
+{
+    match murm_config::check_look(
+        LookupBy::Index,
+        table,
+        fingerprints.len(),
+        parents.len(),
+        codes.len(),
+        index.len(),
+    ) {
         Check::Passed => {
-            if murm_config::too_short(config, fingerprints.len(), parents.len(), codes.len()) {
-                return Building::Refused(Refusal::ArrayTooShort);
-            }
-            Building::Table(murm_widths::build_widths(config, fingerprints, parents, codes))
+            murm_widths::fill_widths(table, fingerprints, index);
+            Filling::Filled
         }
-        Check::Refused(r) => Building::Refused(r),
+        Check::Refused(r) => Filling::Refused(r),
     }
 }
 
-// Whether a table with arrays of these lengths may be asked for a matrix; else which row of a find is the first to refuse (SPECIFICATION 9.2).
+// Whether a table with arrays and an index of these lengths may be asked for a matrix; else which row of a find is the first to refuse
+// (SPECIFICATION 9.2).
 fn check_find(
+    by: LookupBy,
     table: Murm,
     prints: usize,
     parents: usize,
     codes: usize,
+    places: usize,
     width: u32,
     exponent: u16,
     matrix: &[Coefficient],
 ) -> Check
-    ensures { λ r. ⌜ FindChecked (toldMurm table) prints parents codes width exponent (now (matrix .entry)) (toldCheck r) ⌝ }
+    requires { ⌜ places < 2305843009213693952 ⌝ }
+    ensures { λ r. ⌜ FindChecked (toldMurm table) (toldBy by) prints parents codes places width exponent (now (matrix .entry)) (toldCheck r) ⌝ }
 {
-    match murm_config::check_table(table, prints, parents, codes) {
+    match murm_config::check_look(by, table, prints, parents, codes, places) {
         Check::Passed => check_query(width, exponent, matrix),
         Check::Refused(r) => Check::Refused(r),
     }
 }
 
-// The places from `start` on, as many as a width has, are searched.
+// The places from `start` on, as many as a width has, and the `size` places of the index from `place` on, are searched.
 fn find_from(
+    by: LookupBy,
     limits: WidthLimits,
     start: usize,
+    place: usize,
+    size: usize,
     count: usize,
     exponent: u16,
     fingerprints: &[u64],
     parents: &[u32],
     codes: &[u32],
+    index: &[u32],
     matrix: &[Coefficient],
     list: &mut [u32],
 ) -> Find
     requires { ⌜ (limits .width ≤ 5) × (limits .gates ≤ length (now list)) ⌝ }
     requires { ⌜ (start ≤ 5000000) × (limits .entries ≤ 1000000) × (count ≤ limits .entries) ⌝ }
     requires { ⌜ (start + limits .entries ≤ length (now fingerprints)) × (start + limits .entries ≤ length (now parents))
-        × (start + limits .entries ≤ length (now codes)) ⌝ }
+        × (start + limits .entries ≤ length (now codes)) × (place + size ≤ length (now index)) ⌝ }
     requires { ⌜ AskedPlaces (limits .width) (now matrix) ⌝ }
     ensures { λ r. ⌜ ListFound (toldLimits limits)
-        (partFrom start (limits .entries) count (now (fingerprints .entry)) (now (parents .entry)) (now (codes .entry)))
+        (partFrom (toldBy by) start (limits .entries) count place size (now (fingerprints .entry)) (now (parents .entry)) (now (codes .entry)) (now (index .entry)))
         (held (limits .width) exponent (now (matrix .entry))) (toldFind r) (now (list .exit)) ⌝ }
 {
     let end = start + limits.entries;
     width_answer::find_width(
+        by,
         limits,
         count,
         exponent,
         &fingerprints[start..end],
         &parents[start..end],
         &codes[start..end],
+        &index[place..place + size],
         matrix,
         list,
     )
@@ -246,10 +323,12 @@ fn find_from(
 
 // The part of a width that has entries is searched.
 fn find_part(
+    by: LookupBy,
     table: Murm,
     fingerprints: &[u64],
     parents: &[u32],
     codes: &[u32],
+    index: &[u32],
     width: u32,
     count: usize,
     exponent: u16,
@@ -259,11 +338,13 @@ fn find_part(
     requires { ⌜ (recordRow (toldMurm table) .holds ≡ false) × (count ≡ countAt (toldMurm table) width) × (0 < count) ⌝ }
     requires { ⌜ roomRow (toldConfig (table .config)) (arrays (now fingerprints) (now parents) (now codes)) .holds ≡ false ⌝ }
     requires { ⌜ (firstRow (queryRows width exponent (now matrix)) ≡ 0) × AllSmall width (read width (now matrix)) × (64 ≤ length (now list)) ⌝ }
-    ensures { λ r. ⌜ FoundFor (toldMurm table) (arrays (now (fingerprints .entry)) (now (parents .entry)) (now (codes .entry)))
+    ensures { λ r. ⌜ FoundFor (toldMurm table)
+        (arraysBy (toldBy by) (now (fingerprints .entry)) (now (parents .entry)) (now (codes .entry)) (now (index .entry)))
         (query width exponent (now (matrix .entry))) (toldFind r) (now (list .exit)) ⌝ }
 {
     let e = table.config.max_entries_per_qubit as usize;
-    let start = (width as usize - 1) * e;
+    let size = index.len() / table.config.max_qubits as usize;
+    let before = width as usize - 1;
     let basis = table.config.basis;
     let limits = WidthLimits {
         width,
@@ -272,13 +353,17 @@ fn find_part(
         entries: e,
     };
     find_from(
+        by,
         limits,
-        start,
+        before * e,
+        before * size,
+        size,
         count,
         exponent,
         fingerprints,
         parents,
         codes,
+        index,
         matrix,
         list,
     )
@@ -287,10 +372,12 @@ fn find_part(
 // The node that answers a matrix that no row up to 11 refuses, with its list in the first places of `list`. A width without entries has none
 // (SPECIFICATION 7.3).
 fn find_any(
+    by: LookupBy,
     table: Murm,
     fingerprints: &[u64],
     parents: &[u32],
     codes: &[u32],
+    index: &[u32],
     width: u32,
     exponent: u16,
     matrix: &[Coefficient],
@@ -299,7 +386,8 @@ fn find_any(
     requires { ⌜ recordRow (toldMurm table) .holds ≡ false ⌝ }
     requires { ⌜ roomRow (toldConfig (table .config)) (arrays (now fingerprints) (now parents) (now codes)) .holds ≡ false ⌝ }
     requires { ⌜ (firstRow (queryRows width exponent (now matrix)) ≡ 0) × AllSmall width (read width (now matrix)) × (64 ≤ length (now list)) ⌝ }
-    ensures { λ r. ⌜ FoundFor (toldMurm table) (arrays (now (fingerprints .entry)) (now (parents .entry)) (now (codes .entry)))
+    ensures { λ r. ⌜ FoundFor (toldMurm table)
+        (arraysBy (toldBy by) (now (fingerprints .entry)) (now (parents .entry)) (now (codes .entry)) (now (index .entry)))
         (query width exponent (now (matrix .entry))) (toldFind r) (now (list .exit)) ⌝ }
 {
     let count = murm_config::count_at(table, width);
@@ -307,10 +395,12 @@ fn find_any(
         return Find::Nothing;
     }
     find_part(
+        by,
         table,
         fingerprints,
         parents,
         codes,
+        index,
         width,
         count,
         exponent,
@@ -339,10 +429,12 @@ fn found_node(found: Find) -> FoundNode
 
 // A find that no row refuses. Its list is not kept.
 fn find_passed(
+    by: LookupBy,
     table: Murm,
     fingerprints: &[u64],
     parents: &[u32],
     codes: &[u32],
+    index: &[u32],
     width: u32,
     exponent: u16,
     matrix: &[Coefficient],
@@ -351,14 +443,17 @@ fn find_passed(
     requires { ⌜ roomRow (toldConfig (table .config)) (arrays (now fingerprints) (now parents) (now codes)) .holds ≡ false ⌝ }
     requires { ⌜ (firstRow (queryRows width exponent (now matrix)) ≡ 0) × AllSmall width (read width (now matrix)) ⌝ }
     ensures { λ r. ⌜ toldFoundNode r ≡ partFound (toldMurm table)
-        (arrays (now (fingerprints .entry)) (now (parents .entry)) (now (codes .entry))) (query width exponent (now (matrix .entry))) ⌝ }
+        (arraysBy (toldBy by) (now (fingerprints .entry)) (now (parents .entry)) (now (codes .entry)) (now (index .entry)))
+        (query width exponent (now (matrix .entry))) ⌝ }
 {
     let mut list: [u32; 64] = [0; 64];
     found_node(find_any(
+        by,
         table,
         fingerprints,
         parents,
         codes,
+        index,
         width,
         exponent,
         matrix,
@@ -366,7 +461,49 @@ fn find_passed(
     ))
 }
 
-// The node that answers a matrix is found (SPECIFICATION 7.10): 13 of the record, then 5, 6, 9, 10, 11, then 13 of the chain found.
+// The node that answers a matrix is found (SPECIFICATION 7.10): 13 of the record, then 5, 17, 6, 9, 10, 11, then 13 of the chain found.
+pub fn find_by(
+    by: LookupBy,
+    table: Murm,
+    fingerprints: &[u64],
+    parents: &[u32],
+    codes: &[u32],
+    index: &[u32],
+    width: u32,
+    exponent: u16,
+    matrix: &[Coefficient],
+) -> FoundNode
+    ensures { λ r. ⌜ toldFoundNode r ≡ foundIn (toldMurm table)
+        (arraysBy (toldBy by) (now (fingerprints .entry)) (now (parents .entry)) (now (codes .entry)) (now (index .entry)))
+        (query width exponent (now (matrix .entry))) ⌝ }
+{
+    match check_find(
+        by,
+        table,
+        fingerprints.len(),
+        parents.len(),
+        codes.len(),
+        index.len(),
+        width,
+        exponent,
+        matrix,
+    ) {
+        Check::Passed => find_passed(
+            by,
+            table,
+            fingerprints,
+            parents,
+            codes,
+            index,
+            width,
+            exponent,
+            matrix,
+        ),
+        Check::Refused(r) => FoundNode::Refused(r),
+    }
+}
+
+// The same by the scan.
 pub fn find(
     table: Murm,
     fingerprints: &[u64],
@@ -379,18 +516,18 @@ pub fn find(
     ensures { λ r. ⌜ toldFoundNode r ≡ foundIn (toldMurm table)
         (arrays (now (fingerprints .entry)) (now (parents .entry)) (now (codes .entry))) (query width exponent (now (matrix .entry))) ⌝ }
 {
-    match check_find(
+    let none: [u32; 1] = [0; 1];
+    find_by(
+        LookupBy::Scan,
         table,
-        fingerprints.len(),
-        parents.len(),
-        codes.len(),
+        fingerprints,
+        parents,
+        codes,
+        &none[0..0],
         width,
         exponent,
         matrix,
-    ) {
-        Check::Passed => find_passed(table, fingerprints, parents, codes, width, exponent, matrix),
-        Check::Refused(r) => FoundNode::Refused(r),
-    }
+    )
 }
 
 // What a node's list came to: how many gates it has, or why it was refused.
@@ -465,10 +602,12 @@ pub enum Synthesized {
 
 // Row 12, after which the list of the node found is copied to the lent list.
 fn ask(
+    by: LookupBy,
     table: Murm,
     fingerprints: &[u64],
     parents: &[u32],
     codes: &[u32],
+    index: &[u32],
     width: u32,
     exponent: u16,
     matrix: &[Coefficient],
@@ -477,18 +616,21 @@ fn ask(
     requires { ⌜ recordRow (toldMurm table) .holds ≡ false ⌝ }
     requires { ⌜ roomRow (toldConfig (table .config)) (arrays (now fingerprints) (now parents) (now codes)) .holds ≡ false ⌝ }
     requires { ⌜ (firstRow (queryRows width exponent (now matrix)) ≡ 0) × AllSmall width (read width (now matrix)) ⌝ }
-    ensures { λ r. ⌜ replied (toldSynthesized r) (now (out .exit))
-        ≡ askedOf (toldMurm table) (arrays (now (fingerprints .entry)) (now (parents .entry)) (now (codes .entry))) (query width exponent (now (matrix .entry))) (now (out .entry)) ⌝ }
+    ensures { λ r. ⌜ replied (toldSynthesized r) (now (out .exit)) ≡ askedOf (toldMurm table)
+        (arraysBy (toldBy by) (now (fingerprints .entry)) (now (parents .entry)) (now (codes .entry)) (now (index .entry)))
+        (query width exponent (now (matrix .entry))) (now (out .entry)) ⌝ }
 {
     if out.len() < table.config.max_gates as usize {
         return Synthesized::Refused(Refusal::ListTooShort);
     }
     let mut list: [u32; 64] = [0; 64];
     match find_any(
+        by,
         table,
         fingerprints,
         parents,
         codes,
+        index,
         width,
         exponent,
         matrix,
@@ -503,8 +645,52 @@ fn ask(
     }
 }
 
-// A matrix is answered (SPECIFICATION, chapter 7): 13 of the record, then 5, 6, 9, 10, 11, 12; then it is the find, followed by the write of the
+// A matrix is answered (SPECIFICATION, chapter 7): 13 of the record, then 5, 17, 6, 9, 10, 11, 12; then it is the find, followed by the write of the
 // node found. The lent list keeps what it held unless a list is answered, which fills its first places.
+pub fn synthesize_by(
+    by: LookupBy,
+    table: Murm,
+    fingerprints: &[u64],
+    parents: &[u32],
+    codes: &[u32],
+    index: &[u32],
+    width: u32,
+    exponent: u16,
+    matrix: &[Coefficient],
+    out: &mut [u32],
+) -> Synthesized
+    ensures { λ r. ⌜ replied (toldSynthesized r) (now (out .exit)) ≡ synthesized (toldMurm table)
+        (arraysBy (toldBy by) (now (fingerprints .entry)) (now (parents .entry)) (now (codes .entry)) (now (index .entry)))
+        (query width exponent (now (matrix .entry))) (now (out .entry)) ⌝ }
+{
+    match check_find(
+        by,
+        table,
+        fingerprints.len(),
+        parents.len(),
+        codes.len(),
+        index.len(),
+        width,
+        exponent,
+        matrix,
+    ) {
+        Check::Passed => ask(
+            by,
+            table,
+            fingerprints,
+            parents,
+            codes,
+            index,
+            width,
+            exponent,
+            matrix,
+            out,
+        ),
+        Check::Refused(r) => Synthesized::Refused(r),
+    }
+}
+
+// The same by the scan.
 pub fn synthesize(
     table: Murm,
     fingerprints: &[u64],
@@ -518,25 +704,17 @@ pub fn synthesize(
     ensures { λ r. ⌜ replied (toldSynthesized r) (now (out .exit))
         ≡ synthesized (toldMurm table) (arrays (now (fingerprints .entry)) (now (parents .entry)) (now (codes .entry))) (query width exponent (now (matrix .entry))) (now (out .entry)) ⌝ }
 {
-    match check_find(
+    let none: [u32; 1] = [0; 1];
+    synthesize_by(
+        LookupBy::Scan,
         table,
-        fingerprints.len(),
-        parents.len(),
-        codes.len(),
+        fingerprints,
+        parents,
+        codes,
+        &none[0..0],
         width,
         exponent,
         matrix,
-    ) {
-        Check::Passed => ask(
-            table,
-            fingerprints,
-            parents,
-            codes,
-            width,
-            exponent,
-            matrix,
-            out,
-        ),
-        Check::Refused(r) => Synthesized::Refused(r),
-    }
+        out,
+    )
 }

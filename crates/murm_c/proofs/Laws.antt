@@ -2,7 +2,7 @@
 use mathlib.Core.Path.{_≡_, refl, sym, ap, _∙_}
 use mathlib.Core.Logic.{_⊎_, inl, inr}
 use mathlib.Core.Bool.{Bool, true, false}
-use mathlib.Core.List.{List, [], _∷_}
+use mathlib.Core.List.{List, [], _∷_, _++_}
 use Prim.Native.Nat.{ℕ, zero, suc, _+_, _*_, _/_, _%_, _≤_, _<_}
 use native.Mathlib.Omega.{arith}
 use native.Mathlib.Nat.{mod-eq-of-lt, div-eq-of-lt, mul-add-div-right, mul-add-mod-self-right}
@@ -17,6 +17,7 @@ use Rattle.exact.specs.Answers.{Answer, given, refused, bySteps, listAnswer}
 use Rattle.exact.proofs.Answered.{isGiven, number}
 use Rattle.exact.proofs.Unitaries.{unitary-product}
 use Rattle.exact.proofs.Bounds.{k-never, product-small}
+use Rattle.walk.specs.Index.{scan}
 use Rattle.walk.specs.Answers.{Reply, Outcome}
 use Rattle.walk.specs.Answers as answers
 use Rattle.walk.proofs.Meaning.{kind, size}
@@ -26,9 +27,9 @@ use Rattle.tables.specs.Lists.{ListOutcome, outcome, formed, listed}
 use Rattle.tables.specs.Tables.{Table, widthAt, Query, synthesized}
 use Rattle.tables.proofs.Asked.{partAsked}
 use Rattle.tables.specs.Demand3.{Decided, a-list, no-list, a-refusal}
-use Rattle.tables.specs.Exactly.{Cause, First, listCauses, answerCauses, bad-limits}
+use Rattle.tables.specs.Exactly.{Cause, cause, First, listCauses, queryCauses, BadChain, answerCauses, bad-limits}
 use Rattle.tables.proofs.Causes.{first-to, none-to}
-use Rattle.tables.proofs.InWords.{limits-in-words, answer-in-words}
+use Rattle.tables.proofs.InWords.{not-both, limits-in-words, answer-in-words}
 use Rattle.tables.proofs.Accepted.{accepted}
 use Rattle.tables.proofs.Lists.{list-6}
 use Rattle.tables.proofs.Demand2.{accepted-formed}
@@ -181,47 +182,46 @@ module _ (t : Table) (a : Arrays) (q : Query) (out : List ℕ) where
       by (no-list g) = absurd (omega (arith, ap kind (ap (λ (o : Outcome). o .reply) (sym g) ∙ e)))
       by (a-refusal r g) = absurd (omega (arith, ap kind (ap (λ (o : Outcome). o .reply) (sym g) ∙ e)))
 
-  reply-refusals : (r p : ℕ) → synthesized t a q out .reply ≡ answers.refused r p → (5 ≤ r) × (r ≤ 13) × (p ≡ 0)
-  reply-refusals r p e =
-      let f = exactly .answer t a q out (synthesized t a q out .list) r p .0 (replied (answers.refused r p) e) .0 in
-      let b = first-between 5 13 (answerCauses t a q out) r p numbers f in
-      (b .0, b .1, no-position (decided t a q out))
-    where
-      numbers : Between 5 13 (answerCauses t a q out)
-      numbers = (
-        (omega arith, omega arith),
-        (
+  module _ (by-scan : a .by ≡ scan) where
+    reply-refusals : (r p : ℕ) → synthesized t a q out .reply ≡ answers.refused r p → (5 ≤ r) × (r ≤ 13) × (p ≡ 0)
+    reply-refusals r p e =
+        let b = between (exactly .answer t a q out (synthesized t a q out .list) r p .0 (replied (answers.refused r p) e) .0) in
+        (b .0, b .1, no-position (decided t a q out))
+      where
+        numbers : Between 5 13 (queryCauses q ++ (cause 12 (length out < t .limits .gates) ∷ cause 13 (BadChain t a q) ∷ []))
+        numbers = (
           (omega arith, omega arith),
-          (
-            (omega arith, omega arith),
-            (
-              (omega arith, omega arith),
-              ((omega arith, omega arith), ((omega arith, omega arith), ((omega arith, omega arith), ((omega arith, omega arith), tt)))),
-            ),
-          ),
-        ),
-      )
+          ((omega arith, omega arith), ((omega arith, omega arith), ((omega arith, omega arith), ((omega arith, omega arith), ((omega arith, omega arith), tt))))),
+        )
 
-      no-position : Decided t a q out → p ≡ 0
-      no-position (a-list l g) = absurd (omega (arith, ap kind (ap (λ (o : Outcome). o .reply) (sym g) ∙ e)))
-      no-position (no-list g) = absurd (omega (arith, ap kind (ap (λ (o : Outcome). o .reply) (sym g) ∙ e)))
-      no-position (a-refusal s g) = sym (ap position (ap (λ (o : Outcome). o .reply) (sym g) ∙ e))
+        -- row 17 is not one of the scan
+        between : First r p (answerCauses t a q out) → (5 ≤ r) × (r ≤ 13)
+        between (inl (z, h)) = (omega (arith, z), omega (arith, z))
+        between (inr (n, inl (z, h))) = (omega (arith, z), omega (arith, z))
+        between (inr (n, inr (m, inl (z, (h, y))))) = not-both by-scan (h .0)
+        between (inr (n, inr (m, inr (l, g)))) =
+            first-between 5 13 (queryCauses q ++ (cause 12 (length out < t .limits .gates) ∷ cause 13 (BadChain t a q) ∷ [])) r p numbers g
 
-  reply-read : reading (replyNumber (synthesized t a q out .reply)) ≡ replySays (synthesized t a q out .reply)
-  reply-read = by (synthesized t a q out .reply) refl
-    where
-      by : (x : Reply) → synthesized t a q out .reply ≡ x → reading (replyNumber x) ≡ replySays x
-      by (answers.given m) e = let (h, g) = count-most m e in read-value m (omega arith)
-      by answers.none e = refl
-      by (answers.refused r p) e = let h = reply-refusals r p e .0 in read-refusal r (capped p) (omega arith) (capped-most p)
+        no-position : Decided t a q out → p ≡ 0
+        no-position (a-list l g) = absurd (omega (arith, ap kind (ap (λ (o : Outcome). o .reply) (sym g) ∙ e)))
+        no-position (no-list g) = absurd (omega (arith, ap kind (ap (λ (o : Outcome). o .reply) (sym g) ∙ e)))
+        no-position (a-refusal s g) = sym (ap position (ap (λ (o : Outcome). o .reply) (sym g) ∙ e))
 
-  reply-fits : replyNumber (synthesized t a q out .reply) < 14 * 4294967296
-  reply-fits = by (synthesized t a q out .reply) refl
-    where
-      by : (x : Reply) → synthesized t a q out .reply ≡ x → replyNumber x < 14 * 4294967296
-      by (answers.given m) e = let (h, g) = count-most m e in omega arith
-      by answers.none e = omega arith
-      by (answers.refused r p) e = let h = reply-refusals r p e .1 in let c = capped-most p in omega arith
+    reply-read : reading (replyNumber (synthesized t a q out .reply)) ≡ replySays (synthesized t a q out .reply)
+    reply-read = by (synthesized t a q out .reply) refl
+      where
+        by : (x : Reply) → synthesized t a q out .reply ≡ x → reading (replyNumber x) ≡ replySays x
+        by (answers.given m) e = let (h, g) = count-most m e in read-value m (omega arith)
+        by answers.none e = refl
+        by (answers.refused r p) e = let h = reply-refusals r p e .0 in read-refusal r (capped p) (omega arith) (capped-most p)
+
+    reply-fits : replyNumber (synthesized t a q out .reply) < 14 * 4294967296
+    reply-fits = by (synthesized t a q out .reply) refl
+      where
+        by : (x : Reply) → synthesized t a q out .reply ≡ x → replyNumber x < 14 * 4294967296
+        by (answers.given m) e = let (h, g) = count-most m e in omega arith
+        by answers.none e = omega arith
+        by (answers.refused r p) e = let h = reply-refusals r p e .1 in let c = capped-most p in omega arith
 
 -- ---- the record
 
@@ -244,7 +244,7 @@ record-kept t a q out = by (cases t a q out)
       where
         part : partAsked t a q out ≡ partAsked (countsOf t) a q out
         part =
-            let wide : 5 < q .width → ⊥ = λ z. none-to (answer-in-words t a q out) e .1 .1 .0 0 (z, refl) in
+            let wide : 5 < q .width → ⊥ = λ z. none-to (answer-in-words t a q out) e .1 .1 .1 .0 0 (z, refl) in
             rw (count-kept t (q .width) (omega (arith, wide)))
     by (by-row r h e n) = n ∙ sym (row-refuses (countsOf t) a q out r h e)
 
@@ -272,7 +272,7 @@ laws = record {
   exponent-most = exponent-most;
   count-most = count-most;
   list-refusals = list-refusals;
-  reply-refusals = reply-refusals;
+  reply-refusals = λ t a q out r p h. reply-refusals t a q out h r p;
   list-fits = list-fits;
   reply-fits = reply-fits;
   record-kept = record-kept;

@@ -9,6 +9,7 @@ use lib.Dec.{eqb, ltb}
 use lib.ListN.{length}
 use Rattle.ints.specs.Lists.{pick}
 use Rattle.exact.specs.Answers.{Answer, given, refused}
+use Rattle.walk.specs.Index.{scan}
 use Rattle.walk.specs.Answers.{Reply}
 use Rattle.walk.specs.Answers as answers
 use Rattle.tables.specs.Checks.{limitsOf, Arrays}
@@ -64,7 +65,7 @@ sampleWith d s = record {
 pub record Laws : Type 0 where
   -- the number tells the cases apart: what is read off it is what the entry answers
   pub list-read : (n : ℕ) (codes : List ℕ) (bytes : List ℤ) → reading (listNumber (listed n codes bytes .answer)) ≡ listSays (listed n codes bytes .answer)
-  pub reply-read : (t : Table) (a : Arrays) (q : Query) (out : List ℕ)
+  pub reply-read : (t : Table) (a : Arrays) (q : Query) (out : List ℕ) → a .by ≡ scan
       → reading (replyNumber (synthesized t a q out .reply)) ≡ replySays (synthesized t a q out .reply)
   -- a position up to 4294967295 is told as it is, a larger one as 4294967295; so of a list of up to 2^32 codes every position is told as it is
   pub position-kept : (p : ℕ) → p ≤ 4294967295 → capped p ≡ p
@@ -75,13 +76,13 @@ pub record Laws : Type 0 where
   pub exponent-most : (n : ℕ) (codes : List ℕ) (bytes : List ℤ) (k : ℕ) → listed n codes bytes .answer ≡ given k → k < 65535
   pub count-most : (t : Table) (a : Arrays) (q : Query) (out : List ℕ) (m : ℕ) → synthesized t a q out .reply ≡ answers.given m
       → (m ≤ t .limits .gates) × (t .limits .gates ≤ 64)
-  -- the refusals that are told: of a list from 6 to 9, of a matrix from 5 to 13 and at position 0
+  -- the refusals that are told: of a list from 6 to 9, of a matrix by the scan from 5 to 13 and at position 0
   pub list-refusals : (n : ℕ) (codes : List ℕ) (bytes : List ℤ) (r p : ℕ) → listed n codes bytes .answer ≡ refused r p → (6 ≤ r) × (r ≤ 9)
-  pub reply-refusals : (t : Table) (a : Arrays) (q : Query) (out : List ℕ) (r p : ℕ) → synthesized t a q out .reply ≡ answers.refused r p
+  pub reply-refusals : (t : Table) (a : Arrays) (q : Query) (out : List ℕ) (r p : ℕ) → a .by ≡ scan → synthesized t a q out .reply ≡ answers.refused r p
       → (5 ≤ r) × (r ≤ 13) × (p ≡ 0)
   -- so that every number returned is below 14 × 2^32, far below 2^64
   pub list-fits : (n : ℕ) (codes : List ℕ) (bytes : List ℤ) → listNumber (listed n codes bytes .answer) < 14 * 4294967296
-  pub reply-fits : (t : Table) (a : Arrays) (q : Query) (out : List ℕ) → replyNumber (synthesized t a q out .reply) < 14 * 4294967296
+  pub reply-fits : (t : Table) (a : Arrays) (q : Query) (out : List ℕ) → a .by ≡ scan → replyNumber (synthesized t a q out .reply) < 14 * 4294967296
   -- the record as numbers loses nothing: what is answered, and what the lent list then holds, depend on the limits and the counts alone
   pub record-kept : (t : Table) (a : Arrays) (q : Query) (out : List ℕ) → synthesized t a q out ≡ synthesized (countsOf t) a q out
   pub counts-alone : (t u : Table) → SameCounts t u → (a : Arrays) (q : Query) (out : List ℕ) → synthesized t a q out ≡ synthesized u a q out

@@ -51,7 +51,7 @@ fn list_number(told: Listed) -> u64
 }
 
 // What a table answers: the gate count, 4294967295 for none, or why it was refused.
-fn reply_number(told: Synthesized) -> u64
+pub fn reply_number(told: Synthesized) -> u64
     ensures { λ r. ⌜ r ≡ replyNumber (toldSynthesized told) ⌝ }
 {
     match told {

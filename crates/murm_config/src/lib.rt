@@ -1,13 +1,15 @@
 // The limits of a table, config.rs of the original, `MurmConfig`; and its record, murm.rs, `Murm`, whose nodes are in three lent arrays.
 ghost use mathlib.Core.Path.{_≡_};
-ghost use mathlib.Core.List.{_++_};
+ghost use mathlib.Core.List.{[], _∷_, _++_};
 ghost use Prim.Native.Nat.{_<_, _≤_};
-ghost use Rattle.tables.specs.Checks.{firstRow, limitRows, tooShort};
-ghost use Rattle.tables.specs.Tables.{allWidths, widthAt, badCountOf, badCount, recordRow, tableRows, countAt, nodeRows};
+ghost use Rattle.tables.specs.Checks.{firstRow, limitRows, tooShort, shortRow, inParts, indexRow};
+ghost use Rattle.tables.specs.Tables.{allWidths, widthAt, badCountOf, badCount, recordRow, tableRows, lookRows, countAt, nodeRows};
 ghost use Rattle.walk.specs.Walk.{any};
 ghost use Rattle.refusal.specs.Told.{byRow, toldCheck};
+ghost use Rattle.index.specs.Told.{toldBy};
 ghost use Rattle.murm_config.specs.Told.{toldConfig, toldWidth, toldMurm, withWidth, emptyOf};
 use circuit::GateSet;
+use index::LookupBy;
 use refusal::Check;
 use refusal::Refusal;
 use width_table::WidthTable;
@@ -73,6 +75,63 @@ pub fn too_short(config: MurmConfig, prints: usize, parents: usize, codes: usize
         return true;
     }
     codes < size
+}
+
+// Whether an index of so many places is one part for each width up to Q, all of one size, a power of two and at least twice E (SPECIFICATION
+// 7.16). Nothing is divided. The bound is that of any slice of 32-bit places.
+fn in_parts(config: MurmConfig, places: usize) -> bool
+    requires { ⌜ (0 < config .«max_qubits») × (config .«max_qubits» ≤ 5) × (config .«max_entries_per_qubit» ≤ 1000000) × (places < 2305843009213693952) ⌝ }
+    ensures { λ r. ⌜ r ≡ inParts (toldConfig config) places ⌝ }
+{
+    let q = config.max_qubits as usize;
+    let e = config.max_entries_per_qubit as usize;
+    let mut size = 1;
+    while q * size < places {
+        size *= 2;
+    }
+    if q * size != places {
+        return false;
+    }
+    size >= 2 * e
+}
+
+// Row 17: whether the look-up is by an index of so many places that is not such parts; the scan asks for none (SPECIFICATION 9.1).
+pub fn bad_index(by: LookupBy, config: MurmConfig, places: usize) -> bool
+    requires { ⌜ (0 < config .«max_qubits») × (config .«max_qubits» ≤ 5) × (config .«max_entries_per_qubit» ≤ 1000000) × (places < 2305843009213693952) ⌝ }
+    ensures { λ r. ⌜ r ≡ indexRow (toldConfig config) (toldBy by) places .holds ⌝ }
+{
+    match by {
+        LookupBy::Scan => false,
+        LookupBy::Index => !in_parts(config, places),
+    }
+}
+
+// Whether a table may be built in arrays and an index of these lengths; else which of the rows 1 to 5 and 17 is the first to refuse
+// (SPECIFICATION 9.2).
+pub fn check_build(
+    by: LookupBy,
+    config: MurmConfig,
+    prints: usize,
+    parents: usize,
+    codes: usize,
+    places: usize,
+) -> Check
+    requires { ⌜ places < 2305843009213693952 ⌝ }
+    ensures { λ r. ⌜ toldCheck r ≡ byRow (firstRow (limitRows (toldConfig config)
+        ++ (shortRow (toldConfig config) prints parents codes ∷ indexRow (toldConfig config) (toldBy by) places ∷ []))) ⌝ }
+{
+    match limits(config) {
+        Check::Passed => {
+            if too_short(config, prints, parents, codes) {
+                return Check::Refused(Refusal::ArrayTooShort);
+            }
+            if bad_index(by, config, places) {
+                return Check::Refused(Refusal::BadIndex);
+            }
+            Check::Passed
+        }
+        Check::Refused(r) => Check::Refused(r),
+    }
 }
 
 // A width's row of the record; for another number that of a width that was not built.
@@ -148,6 +207,29 @@ pub fn check_table(table: Murm, prints: usize, parents: usize, codes: usize) -> 
         return Check::Refused(Refusal::ArrayTooShort);
     }
     Check::Passed
+}
+
+// Whether nodes of a table with arrays and an index of these lengths may be looked up; else 13 of the record, 5 or 17 (SPECIFICATION 9.2).
+pub fn check_look(
+    by: LookupBy,
+    table: Murm,
+    prints: usize,
+    parents: usize,
+    codes: usize,
+    places: usize,
+) -> Check
+    requires { ⌜ places < 2305843009213693952 ⌝ }
+    ensures { λ r. ⌜ toldCheck r ≡ byRow (firstRow (lookRows (toldMurm table) (toldBy by) prints parents codes places)) ⌝ }
+{
+    match check_table(table, prints, parents, codes) {
+        Check::Passed => {
+            if bad_index(by, table.config, places) {
+                return Check::Refused(Refusal::BadIndex);
+            }
+            Check::Passed
+        }
+        Check::Refused(r) => Check::Refused(r),
+    }
 }
 
 // How many entries a width has: none where the table does not have the width, whatever the record says (SPECIFICATION 7.3).

@@ -1,17 +1,20 @@
--- What one width's build leaves in the parts of the three arrays, said of the whole arrays; and its row of the record. Assumes nothing.
+-- What one width's build leaves in the parts of the three arrays and of the index, said of the whole; and its row of the record. Assumes nothing.
 use mathlib.Core.Path.{_≡_, sym, ap, _∙_}
 use mathlib.Core.List.{List, _++_, map}
-use Prim.Native.Nat.{ℕ, _+_, _-_}
+use Prim.Native.Nat.{ℕ, _+_, _-_, _≤_}
 use native.Mathlib.Omega.{arith}
-use lib.ListN.{length, drop, length-map}
+use lib.ListN.{length, getD, take, drop, length-map, List·getD-append}
 use borrow.Rule.Slice.PartMut.{midOf, putMid}
 use Rattle.ints.specs.Lists.{over}
+use Rattle.walk.specs.Index.{By, kept}
+use Rattle.walk.proofs.Indexed.{kept-cong}
 use Rattle.walk.specs.Walk.{Node, Build, gate}
 use Rattle.width_table.specs.declared.WidthTable.{WidthTable}
 use Rattle.next_node.specs.Arrays.{Column}
 use Rattle.walk.specs.AtWidth.{printOf, parentOf}
 use Rattle.tables.specs.Checks.{Limits}
 use Rattle.tables.specs.Tables.{walkOf, widthOf, printsOf, parentsOf, codesOf, within}
+use Rattle.tables.proofs.Filled.{part-length}
 use Rattle.murm_config.specs.Told.{toldWidth}
 
 -- an array that holds what p says of the nodes is that list over what the array held
@@ -19,10 +22,14 @@ column-over : (p : Node → ℕ) (ns : List Node) (n : ℕ) (old new : List ℕ)
 column-over p ns n old new e c = c .is ∙ ap (λ (k : ℕ). map p ns ++ drop k old) (e ∙ sym (length-map ns p))
 
 -- a part that was lent, `&mut xs[a..a + n]`, is back, and holds g of what it held
-part-back : (a n : ℕ) (g : List ℕ → List ℕ) (xs ys : List ℕ) → ys ≡ g (midOf a (a + n - a) xs) → putMid a (a + n - a) xs ys ≡ within a n g xs
+pub part-back : (a n : ℕ) (g : List ℕ → List ℕ) (xs ys : List ℕ) → ys ≡ g (midOf a (a + n - a) xs) → putMid a (a + n - a) xs ys ≡ within a n g xs
 part-back a n g xs ys h =
     let e : a + n - a ≡ n = omega arith in
     ap (putMid a (a + n - a) xs) h ∙ ap (λ (k : ℕ). putMid a k xs (g (midOf a k xs))) e
+
+-- and has n places
+pub lent-length : (a n : ℕ) (xs : List ℕ) → a + n ≤ length xs → length (take (a + n - a) (drop a xs)) ≡ n
+lent-length a n xs h = let e : a + n - a ≡ n = omega arith in rw e (part-length a n xs h)
 
 -- the row of a width
 pub row-is : (r : WidthTable) (b : Build) → r .count ≡ length (b .nodes) → r .depth ≡ b .depth → r .saturated ≡ b .saturated → toldWidth r ≡ widthOf b
@@ -45,3 +52,14 @@ module _ (l : Limits) (w a n count : ℕ) (same : count ≡ length (walkOf l w .
       → putMid a (a + n - a) xs ys ≡ within a n (over (codesOf l w)) xs
   unfolding codesOf
   codes-back c = part-back a n (over (codesOf l w)) xs ys (column-over _ _ _ _ _ same c)
+
+  -- the part of the index, where those of the fingerprints hold the width's column
+  pub index-back : (by : By) (f0 f : List ℕ) → Column (printOf w) f0 (walkOf l w .nodes) f count → ys ≡ kept by f count (midOf a (a + n - a) xs)
+      → putMid a (a + n - a) xs ys ≡ within a n (kept by (printsOf l w) (length (walkOf l w .nodes))) xs
+  unfolding printsOf
+  index-back by f0 f c e =
+      let ns = walkOf l w .nodes in
+      part-back a n (kept by (printsOf l w) (length ns)) xs ys
+      (e ∙ kept-cong by f (map (printOf w) ns) (midOf a (a + n - a) xs) count
+      (λ v h. ap (λ (z : List ℕ). getD z v 0) (c .is) ∙ List·getD-append (map (printOf w) ns) (drop count f0) 0 v (omega (arith, same, length-map ns (printOf w))))
+      ∙ ap (λ (k : ℕ). kept by (map (printOf w) ns) k (midOf a (a + n - a) xs)) same)

@@ -1,4 +1,4 @@
--- What the loop over the widths keeps: the record and the three arrays after widths 1 to v. Assumes nothing.
+-- What the loops over the widths keep: the record, the three arrays and the index after widths 1 to v. Assumes nothing.
 use mathlib.Core.Path.{_≡_, refl, ap, _∙_}
 use mathlib.Core.List.{List, map}
 use Prim.Native.Nat.{ℕ, zero, suc, _+_, _*_, _<_}
@@ -6,9 +6,9 @@ use native.Mathlib.Numerals.{add-one}
 use native.Mathlib.Omega.{arith}
 use lib.Dec.{ltb}
 use lib.ListN.{length}
-use Rattle.ints.specs.Lists.{pick, over}
+use Rattle.ints.specs.Lists.{pick}
 use Rattle.tables.specs.Checks.{Limits, limitsOf}
-use Rattle.tables.specs.Tables.{Width, Table, notBuilt, allWidths, walkOf, widthOf, recordOf, printsOf, parentsOf, codesOf, within, filledTo}
+use Rattle.tables.specs.Tables.{Width, Table, notBuilt, allWidths, walkOf, widthOf, recordOf, printsOf, parentsOf, codesOf, within, partsTo}
 use Rattle.murm_config.specs.Told.{emptyOf, withWidth}
 
 -- ---- the record
@@ -40,27 +40,27 @@ pub record-all : (l m : Limits) (v : ℕ) (t : Table) → l ≡ m → v ≡ m .q
 unfolding recordTo recordOf
 record-all l m v t e f h = h ∙ (ap (λ (z : Limits). recordTo z v) e ∙ ap (recordTo m) f)
 
--- ---- an array
+-- ---- an array, or the index, whose parts of n places are worked by the g of their width
 
--- filled up to width v
-abbrev pub Done : (ℕ → List ℕ) → ℕ → ℕ → List ℕ → List ℕ → Type 0
-Done column E v old xs = (length xs ≡ length old) × (xs ≡ filledTo column E v old)
+-- worked up to width v
+abbrev pub Done : (ℕ → List ℕ → List ℕ) → ℕ → ℕ → List ℕ → List ℕ → Type 0
+Done g n v old xs = (length xs ≡ length old) × (xs ≡ partsTo g n v old)
 
-pub done-none : (column : ℕ → List ℕ) (E : ℕ) (old : List ℕ) → Done column E 0 old old
-unfolding filledTo
-done-none column E old = (refl, refl)
+pub done-none : (g : ℕ → List ℕ → List ℕ) (n : ℕ) (old : List ℕ) → Done g n 0 old old
+unfolding partsTo
+done-none g n old = (refl, refl)
 
--- one width more: its column is new
-pub done-more : (column : ℕ → List ℕ) (E v : ℕ) (new old xs ys : List ℕ) → new ≡ column (v + 1) → length ys ≡ length xs
-    → ys ≡ within (v * E) E (over new) xs → Done column E v old xs → Done column E (v + 1) old ys
-unfolding filledTo
-done-more column E v new old xs ys s l h p =
-    (l ∙ p .0, h ∙ (ap (λ (z : List ℕ). within (v * E) E (over z) xs) s ∙ (ap (within (v * E) E (over (column (v + 1)))) (p .1) ∙ rw add-one)))
+-- one width more
+pub done-more : (g : ℕ → List ℕ → List ℕ) (n v : ℕ) {h : List ℕ → List ℕ} (old xs ys : List ℕ) → h ≡ g (v + 1) → length ys ≡ length xs
+    → ys ≡ within (v * n) n h xs → Done g n v old xs → Done g n (v + 1) old ys
+unfolding partsTo
+done-more g n v old xs ys s l e p =
+    (l ∙ p .0, e ∙ (ap (λ (f : List ℕ → List ℕ). within (v * n) n f xs) s ∙ (ap (within (v * n) n (g (v + 1))) (p .1) ∙ rw add-one)))
 
--- all widths, by columns of equal limits
-pub done-all : (column column′ : ℕ → List ℕ) (E v q : ℕ) (old xs : List ℕ) → column ≡ column′ → v ≡ q → Done column E v old xs
-    → xs ≡ filledTo column′ E q old
-done-all column column′ E v q old xs e f p = p .1 ∙ (ap (λ (z : ℕ → List ℕ). filledTo z E v old) e ∙ ap (λ (k : ℕ). filledTo column′ E k old) f)
+-- all widths, by equal limits
+pub done-all : (g g′ : ℕ → List ℕ → List ℕ) (n v q : ℕ) (old xs : List ℕ) → g ≡ g′ → v ≡ q → Done g n v old xs → xs ≡ partsTo g′ n q old
+done-all g g′ n v q old xs e f p =
+    p .1 ∙ (ap (λ (z : ℕ → List ℕ → List ℕ). partsTo z n v old) e ∙ ap (λ (k : ℕ). partsTo g′ n k old) f)
 
 -- ---- the width limit plays no part in a width's column
 

@@ -12,7 +12,9 @@ use Rattle.exact.specs.Fingerprint.{fingerprint}
 use Rattle.exact.proofs.Listed.{product-nil}
 use Rattle.walk.specs.Walk.{Node, root, gate}
 use Rattle.walk.specs.AtWidth.{printOf, parentOf}
+use Rattle.walk.specs.Index.{By, keptUp, kept}
 use Rattle.walk.proofs.Held.{map-at}
+use Rattle.walk.proofs.Indexed.{kept-cong, kept-more}
 use Rattle.synthesis_arena.specs.declared.WidthLimits.{WidthLimits}
 use Rattle.next_node.specs.Arrays.{Column, Columns}
 
@@ -42,12 +44,13 @@ module _ {p : Node → ℕ} {ns : List Node} {xs old : List ℕ} {n : ℕ} (w : 
 pub column-root : (p : Node → ℕ) (xs : List ℕ) → 0 < length xs → Column p xs (root ∷ []) (set xs 0 (p root)) 1
 column-root p xs l = column-snoc {p = p} {ns = []} {xs = xs} {old = xs} {n = 0} (record { is = refl }) refl l root
 
-pub root-columns : (lim : WidthLimits) (f u c : List ℕ) (y : ℕ) → y ≡ fingerprint (lim .width) identity → 0 < length f → 0 < length u → 0 < length c
-    → Columns lim f u c (root ∷ []) (set f 0 y) (set u 0 mark) (set c 0 mark) 1
-root-columns lim f u c y q a b d = record {
+pub root-columns : (by : By) (lim : WidthLimits) (f u c i : List ℕ) (y : ℕ) {i′ : List ℕ} → y ≡ fingerprint (lim .width) identity → 0 < length f → 0 < length u → 0 < length c
+    → i′ ≡ keptUp by (kept by [] 0 i) y 0 → Columns by lim f u c i (root ∷ []) (set f 0 y) (set u 0 mark) (set c 0 mark) i′ 1
+root-columns by lim f u c i y q a b d e = record {
   count-is = refl;
   prints = subst (λ (v : ℕ). Column (printOf (lim .width)) f (root ∷ []) (set f 0 v) 1) (ap (fingerprint (lim .width)) (product-nil (lim .width)) ∙ sym q)
       (column-root (printOf (lim .width)) f a);
   parents = column-root parentOf u b;
   gates = column-root gate c d;
+  index = e ∙ ap (λ (x : List ℕ). keptUp by x y 0) (kept-cong by [] f i 0 (λ v l. absurd (omega arith))) ∙ kept-more by f i 0 y a;
 }

@@ -4,6 +4,7 @@ use mathlib.Core.Logic.{⊎-elim}
 use mathlib.Core.Bool.{Bool, true, false, _||_, _&&_}
 use mathlib.Core.List.{List, [], _∷_, _++_}
 use Prim.Native.Nat.{ℕ, zero, suc, _+_, _≤_, _<_}
+use native.Mathlib.Numerals.{add-one}
 use native.Mathlib.Omega.{arith}
 use borrow.Author.Tests.{lt-ltb, le-ltb, eq-eqb, eqb-true}
 use lib.Dec.{ltb}
@@ -11,6 +12,8 @@ use lib.ListN.{length, getD, set}
 use Rattle.circuit.specs.Codes.{mark}
 use Rattle.circuit.specs.Pairs.{inverse, disjoint}
 use Rattle.exact.specs.Fingerprint.{fingerprint}
+use Rattle.walk.specs.Lookup.{lowestFrom}
+use Rattle.walk.specs.Index.{By, lookedUp, keptUp, kept}
 use Rattle.walk.specs.Meaning.{LowestNode, Nowhere}
 use Rattle.walk.specs.Walk.{Node, State, any, root, gate, listAt, prod, pruned, knows, candidate, skipped, child, try}
 use Rattle.walk.proofs.Grown.{parentAt}
@@ -20,27 +23,35 @@ use Rattle.walk.proofs.Grown.{Link}
 use Rattle.walk.proofs.Nodes.{first, link}
 use Rattle.walk.proofs.Candidates.{filled, grownBy}
 use Rattle.walk.proofs.Exactly.{print-is}
+use Rattle.walk.proofs.Indexed.{kept-looks-up, kept-more, kept-length}
 use Rattle.walk.proofs.Sequences.{bool, any-true, any-at, length-snoc}
 use Rattle.synthesis_arena.specs.declared.WidthLimits.{WidthLimits}
 use Rattle.next_node.specs.Arrays.{rules, unsaturated, Column, Long, Room, Live, After}
 use Rattle.next_node.specs.Append.{prunedAt}
 use Rattle.next_node.proofs.Columns.{column-at, column-length, column-snoc}
 
-module _ {lim : WidthLimits} {f u c : List ℕ} {count k top : ℕ} (h : Live lim f u c count k top) where
+module _ {by : By} {lim : WidthLimits} {f u c i : List ℕ} {count k top : ℕ} (h : Live by lim f u c i count k top) where
   pub live-count : count ≤ lim .entries
   live-count = omega (arith, h .few, h .columns .count-is)
 
-  pub live-long : Long lim f u c
+  pub live-long : Long by lim f u c i
   live-long =
       let b : count ≤ lim .entries = live-count in
       let q : count ≡ length (h .ns) = h .columns .count-is in record {
         in-f = omega (arith, column-length (h .columns .prints) q (omega (arith, h .long .in-f)), h .long .in-f);
         in-u = omega (arith, column-length (h .columns .parents) q (omega (arith, h .long .in-u)), h .long .in-u);
         in-c = omega (arith, column-length (h .columns .gates) q (omega (arith, h .long .in-c)), h .long .in-c);
+        in-i = λ e. omega (arith, ap length (h .columns .index), kept-length by f (h .i0) count, h .long .in-i e);
       }
 
-  pub live-room : k < count → lim .entries ≤ 1000000 → Room lim count k f u c
+  pub live-room : k < count → lim .entries ≤ 1000000 → Room by lim count k f u c i
   live-room l b = record { few = live-count; there = l; most = b; long = live-long }
+
+  -- either look-up finds the lowest node with the fingerprint
+  pub live-looks : lim .entries ≤ 1000000 → (y : ℕ) → lookedUp by i f count 0 y ≡ lowestFrom f count 0 y
+  live-looks b y =
+      ap (λ (x : List ℕ). lookedUp by x f count 0 y) (h .columns .index)
+      ∙ kept-looks-up by f (h .i0) count 0 y (λ e. (omega (arith, live-count, h .long .in-i e), omega (arith, live-count)))
 
   -- a node's gate and parent, by the arrays
   pub gate-at : (j : ℕ) → j < count → getD c j 0 ≡ gate (getD (h .ns) j root)
@@ -104,32 +115,34 @@ module _ {lim : WidthLimits} {f u c : List ℕ} {count k top : ℕ} (h : Live li
               let l : r .0 < count = omega (arith, r .1, h .columns .count-is) in
               absurd (w .none-has (r .0) (omega arith) l (at-known (r .0) l (r .2)))
 
-      pub grow : skipped (rules lim) (h .ns) k g ≡ false → count < lim .entries
-          → After lim (h .f0) (h .u0) (h .c0) (try (rules lim) (lim .entries) (unsaturated (h .ns)) k g) (set f count y) (set u count k) (set c count g) (count + 1) false
+      pub grow : {i′ : List ℕ} → skipped (rules lim) (h .ns) k g ≡ false → count < lim .entries → i′ ≡ keptUp by i y count
+          → After by lim (h .f0) (h .u0) (h .c0) (h .i0) (try (rules lim) (lim .entries) (unsaturated (h .ns)) k g) (set f count y) (set u count k) (set c count g) i′ (count + 1) false
       unfolding try
-      grow s l =
+      grow {i′} s l kept-up =
           let q : count ≡ length (h .ns) = h .columns .count-is in
           let m : Node = child (rules lim) (h .ns) k g in
           let e : try (rules lim) (lim .entries) (unsaturated (h .ns)) k g ≡ grownBy (rules lim) (unsaturated (h .ns)) k g = rw (s, lt-ltb (length (h .ns)) (lim .entries) (omega arith)) in
-          subst (λ (z : State). After lim (h .f0) (h .u0) (h .c0) z (set f count y) (set u count k) (set c count g) (count + 1) false) (sym e)
+          subst (λ (z : State). After by lim (h .f0) (h .u0) (h .c0) (h .i0) z (set f count y) (set u count k) (set c count g) i′ (count + 1) false) (sym e)
           (record {
             columns = record {
               count-is = omega (arith, length-snoc (h .ns) m);
               prints = subst (λ (v : ℕ). Column (printOf (lim .width)) (h .f0) (h .ns ++ (m ∷ [])) (set f count v) (count + 1)) (print-is (lim .width) (lim .basis) m ∙ sym ey) (column-snoc (h .columns .prints) q (omega (arith, h .long .in-f)) m);
               parents = column-snoc (h .columns .parents) q (omega (arith, h .long .in-u)) m;
               gates = column-snoc (h .columns .gates) q (omega (arith, h .long .in-c)) m;
+              index = kept-up ∙ ap (λ (x : List ℕ). keptUp by x y count) (h .columns .index) ∙ kept-more by f (h .i0) count y (omega (arith, live-long .in-f))
+                  ∙ ap (λ (n : ℕ). kept by (set f count y) n (h .i0)) (sym (add-one count));
             };
             full-is = refl;
           })
 
-    pub keep : skipped (rules lim) (h .ns) k g ≡ true → After lim (h .f0) (h .u0) (h .c0) (try (rules lim) (lim .entries) (unsaturated (h .ns)) k g) f u c count false
+    pub keep : skipped (rules lim) (h .ns) k g ≡ true → After by lim (h .f0) (h .u0) (h .c0) (h .i0) (try (rules lim) (lim .entries) (unsaturated (h .ns)) k g) f u c i count false
     unfolding try
     keep s =
         let e : try (rules lim) (lim .entries) (unsaturated (h .ns)) k g ≡ unsaturated (h .ns) = rw s in
-        subst (λ (z : State). After lim (h .f0) (h .u0) (h .c0) z f u c count false) (sym e) (record { columns = h .columns; full-is = refl })
+        subst (λ (z : State). After by lim (h .f0) (h .u0) (h .c0) (h .i0) z f u c i count false) (sym e) (record { columns = h .columns; full-is = refl })
 
-    pub fill : skipped (rules lim) (h .ns) k g ≡ false → lim .entries ≤ count → After lim (h .f0) (h .u0) (h .c0) (try (rules lim) (lim .entries) (unsaturated (h .ns)) k g) f u c count true
+    pub fill : skipped (rules lim) (h .ns) k g ≡ false → lim .entries ≤ count → After by lim (h .f0) (h .u0) (h .c0) (h .i0) (try (rules lim) (lim .entries) (unsaturated (h .ns)) k g) f u c i count true
     unfolding try
     fill s l =
         let e : try (rules lim) (lim .entries) (unsaturated (h .ns)) k g ≡ filled (unsaturated (h .ns)) = rw (s, le-ltb (length (h .ns)) (lim .entries) (omega (arith, h .columns .count-is))) in
-        subst (λ (z : State). After lim (h .f0) (h .u0) (h .c0) z f u c count true) (sym e) (record { columns = h .columns; full-is = refl })
+        subst (λ (z : State). After by lim (h .f0) (h .u0) (h .c0) (h .i0) z f u c i count true) (sym e) (record { columns = h .columns; full-is = refl })

@@ -1,5 +1,5 @@
 -- What one node more leaves in the arrays: the contracts of `put_root`, `is_pruned` and `append`. f, u, c are the arrays of fingerprints, parents and
--- codes before a call, f′, u′, c′ after it. Assumes nothing.
+-- codes and i the part of the index before a call, f′, u′, c′, i′ after it. Assumes nothing.
 use mathlib.Core.Path.{_≡_}
 use mathlib.Core.Bool.{Bool, true, false, _||_, _&&_}
 use mathlib.Core.List.{List, [], _∷_}
@@ -10,14 +10,15 @@ use Rattle.circuit.specs.Pairs.{inverse, disjoint}
 use Rattle.exact.specs.Matrix.{identity}
 use Rattle.exact.specs.Fingerprint.{fingerprint}
 use Rattle.walk.specs.Walk.{root, listAt, prod, pruned, candidate, try}
+use Rattle.walk.specs.Index.{By}
 use Rattle.walk.proofs.Laws.{fitsBy}
 use Rattle.synthesis_arena.specs.declared.WidthLimits.{WidthLimits}
 use Rattle.next_node.specs.Arrays.{rules, Columns, unsaturated, Live, After}
 use Rattle.next_node.specs.declared.Tried.{Tried}
 
 -- node 0 alone is in the arrays, at whatever limits whose width gives the identity the fingerprint y (SPECIFICATION 6.3)
-abbrev pub RootPut : ℕ → List ℕ → List ℕ → List ℕ → List ℕ → List ℕ → List ℕ → Type 0
-RootPut y f u c f′ u′ c′ = (lim : WidthLimits) → y ≡ fingerprint (lim .width) identity → Columns lim f u c (root ∷ []) f′ u′ c′ 1
+abbrev pub RootPut : By → ℕ → List ℕ → List ℕ → List ℕ → List ℕ → List ℕ → List ℕ → List ℕ → List ℕ → Type 0
+RootPut by y f u c i f′ u′ c′ i′ = (lim : WidthLimits) → y ≡ fingerprint (lim .width) identity → Columns by lim f u c i (root ∷ []) f′ u′ c′ i′ 1
 
 -- the two skip rules (SPECIFICATION 6.5) by the code that the array has for the node; node 0 has no gate
 abbrev pub prunedAt : List ℕ → ℕ → ℕ → Bool
@@ -28,10 +29,10 @@ prunedAt codes (suc node) g =
 -- The gate g after the node is neither skipped by its last two gates nor too large, and its product has the fingerprint y. Then from whatever
 -- nodes the arrays held, they hold those that the walk's `try` leaves (SPECIFICATION 6.7, 6.8), and the answer is their count and whether the
 -- width is saturated
-abbrev pub Appended : WidthLimits → ℕ → ℕ → ℕ → ℕ → List ℕ → List ℕ → List ℕ → List ℕ → List ℕ → List ℕ → Tried → Type 0
-Appended lim count node g y f u c f′ u′ c′ r =
-    (h : Live lim f u c count node (suc node))
+abbrev pub Appended : By → WidthLimits → ℕ → ℕ → ℕ → ℕ → List ℕ → List ℕ → List ℕ → List ℕ → List ℕ → List ℕ → List ℕ → List ℕ → Tried → Type 0
+Appended by lim count node g y f u c i f′ u′ c′ i′ r =
+    (h : Live by lim f u c i count node (suc node))
     → pruned (rules lim) g (listAt (h .ns) node) ≡ false
     → fitsBy (lim .width) g (prod (rules lim) (listAt (h .ns) node)) ≡ true
     → y ≡ fingerprint (lim .width) (candidate (rules lim) (h .ns) node g)
-    → After lim (h .f0) (h .u0) (h .c0) (try (rules lim) (lim .entries) (unsaturated (h .ns)) node g) f′ u′ c′ (r .count) (r .saturated)
+    → After by lim (h .f0) (h .u0) (h .c0) (h .i0) (try (rules lim) (lim .entries) (unsaturated (h .ns)) node g) f′ u′ c′ i′ (r .count) (r .saturated)

@@ -4,9 +4,11 @@
 ghost use mathlib.Core.Path.{_≡_};
 ghost use Prim.Native.Nat.{_<_};
 ghost use lib.ListN.{length};
+ghost use Rattle.index.specs.Told.{toldBy};
 ghost use Rattle.next_node.specs.Arrays.{Room};
 ghost use Rattle.next_node.specs.Append.{RootPut, prunedAt, Appended};
 use circuit::LibraryGate;
+use index::LookupBy;
 use synthesis_arena::Found;
 use synthesis_arena::MARK;
 use synthesis_arena::WidthLimits;
@@ -17,16 +19,25 @@ pub struct Tried {
     pub saturated: bool,
 }
 
-// Node 0: the fingerprint of the identity, and the mark as its parent and code.
-pub fn put_root(print: u64, fingerprints: &mut [u64], parents: &mut [u32], codes: &mut [u32])
+// Node 0: the fingerprint of the identity, and the mark as its parent and code. It is the first to be put into the part of the index.
+pub fn put_root(
+    by: LookupBy,
+    print: u64,
+    fingerprints: &mut [u64],
+    parents: &mut [u32],
+    codes: &mut [u32],
+    index: &mut [u32],
+)
     requires room { ⌜ (0 < length (now fingerprints)) × (0 < length (now parents)) × (0 < length (now codes)) ⌝ }
-    ensures put { λ _. ⌜ RootPut print
-        (now (fingerprints .entry)) (now (parents .entry)) (now (codes .entry))
-        (now (fingerprints .exit)) (now (parents .exit)) (now (codes .exit)) ⌝ }
+    ensures put { λ _. ⌜ RootPut (toldBy by) print
+        (now (fingerprints .entry)) (now (parents .entry)) (now (codes .entry)) (now (index .entry))
+        (now (fingerprints .exit)) (now (parents .exit)) (now (codes .exit)) (now (index .exit)) ⌝ }
 {
     fingerprints[0] = print;
     parents[0] = MARK;
     codes[0] = MARK;
+    index::start(by, index);
+    index::keep_up(by, index, print, 0);
 }
 
 // Whether the gate is skipped after the node by the node's own gate: it inverts that gate, or the two are disjoint and its code is the lower one
@@ -50,6 +61,7 @@ pub fn is_pruned(node: usize, gate: u32, codes: &[u32]) -> bool
 
 // A candidate that fits, by its fingerprint: a known one is skipped, an unknown one is appended, or saturates a width that is full.
 pub fn append(
+    by: LookupBy,
     limits: WidthLimits,
     count: usize,
     node: usize,
@@ -58,14 +70,15 @@ pub fn append(
     fingerprints: &mut [u64],
     parents: &mut [u32],
     codes: &mut [u32],
+    index: &mut [u32],
 ) -> Tried
-    requires room { ⌜ Room limits count node (now fingerprints) (now parents) (now codes) ⌝ }
-    ensures appended { λ r. ⌜ Appended limits count node gate print
-        (now (fingerprints .entry)) (now (parents .entry)) (now (codes .entry))
-        (now (fingerprints .exit)) (now (parents .exit)) (now (codes .exit)) r ⌝ }
+    requires room { ⌜ Room (toldBy by) limits count node (now fingerprints) (now parents) (now codes) (now index) ⌝ }
+    ensures appended { λ r. ⌜ Appended (toldBy by) limits count node gate print
+        (now (fingerprints .entry)) (now (parents .entry)) (now (codes .entry)) (now (index .entry))
+        (now (fingerprints .exit)) (now (parents .exit)) (now (codes .exit)) (now (index .exit)) r ⌝ }
 {
     let entries = limits.entries;
-    let Found::NotFound = synthesis_arena::node_for(fingerprints, count, 0, print) else {
+    let Found::NotFound = index::look_up(by, index, fingerprints, count, 0, print) else {
         return Tried {
             count,
             saturated: false, // known, also at count E
@@ -80,6 +93,7 @@ pub fn append(
     fingerprints[count] = print;
     parents[count] = node as u32;
     codes[count] = gate;
+    index::keep_up(by, index, print, count as u32);
     Tried {
         count: count + 1,
         saturated: false,

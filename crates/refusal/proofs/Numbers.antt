@@ -29,6 +29,7 @@ some r.BadTable = omega arith
 some r.BrokenLine = omega arith
 some r.LongInput = omega arith
 some r.NoSuchNode = omega arith
+some r.BadIndex = omega arith
 
 -- ---- a check, by the first row that holds
 

@@ -30,6 +30,7 @@ toldRefusal r.BadTable = reason 13 0
 toldRefusal r.BrokenLine = reason 14 0
 toldRefusal r.LongInput = reason 15 0
 toldRefusal r.NoSuchNode = reason 16 0
+toldRefusal r.BadIndex = reason 17 0
 
 -- the first row that holds is told by its number alone; 0 where none does
 abbrev pub byRow : ℕ → Reason

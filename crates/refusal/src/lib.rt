@@ -21,6 +21,7 @@ pub enum Refusal {
     BrokenLine,
     LongInput,
     NoSuchNode,
+    BadIndex,
 }
 
 // What a check comes to.
@@ -35,7 +36,7 @@ pub struct Numbered(pub u64, pub u64);
 pub fn number_of(refusal: Refusal) -> Numbered
     ensures number { λ r. ⌜ r .0 ≡ numberOf refusal ⌝ }
     ensures position { λ r. ⌜ r .1 ≡ positionOf refusal ⌝ }
-    ensures most { λ r. ⌜ r .0 ≤ 16 ⌝ }
+    ensures most { λ r. ⌜ r .0 ≤ 17 ⌝ }
 {
     match refusal {
         Refusal::WidthLimit => Numbered(1, 0),
@@ -54,5 +55,6 @@ pub fn number_of(refusal: Refusal) -> Numbered
         Refusal::BrokenLine => Numbered(14, 0),
         Refusal::LongInput => Numbered(15, 0),
         Refusal::NoSuchNode => Numbered(16, 0),
+        Refusal::BadIndex => Numbered(17, 0),
     }
 }

@@ -1,25 +1,32 @@
--- A find, a write and an answer of a lent table, by its rows: where no row holds they are what the part of the width gives, and an answer is
--- refused by the rows of its find and by 12. Assumes nothing.
+-- A fill, a find, a write and an answer of a lent table, by its rows: where no row holds the index is filled, and the others are what the part of
+-- the width gives; an answer is refused by the rows of its find and by 12. Assumes nothing.
 use mathlib.Core.Path.{_≡_, refl, sym, ap, _∙_}
 use mathlib.Core.Bool.{Bool, true, false}
 use mathlib.Core.List.{List, [], _∷_, _++_}
 use Prim.Native.Nat.{ℕ, zero, suc, _<_}
 use native.Mathlib.Omega.{arith}
 use borrow.Author.Tests.{ne-eqb, lt-ltb}
+use lib.ListN.{length}
 use Rattle.ints.specs.Lists.{pick}
+use Rattle.walk.specs.Index.{By, indexed}
 use Rattle.walk.specs.Finds.{Finding, node, findOf}
 use Rattle.walk.specs.Finds as f
 use Rattle.walk.specs.Answers.{refused, Outcome, outcome, writeOf, thenWrite, answerOf}
 use Rattle.walk.proofs.Meaning.{no-nodes, found-below}
-use Rattle.tables.specs.Checks.{Row, firstRow, Arrays, roomRow}
-use Rattle.tables.specs.Tables.{Table, Query, matrixOf, recordRow, tableRowsOf, listRow, notAWidth, countAt, limitsAt, partAt, findRows, foundBy, foundIn, nodeRow, writeRows}
-use Rattle.tables.specs.Tables.{writtenBy, writtenIn, answerRows, repliedBy, synthesized}
-use Rattle.tables.proofs.Rows.{Numbered, numbered-query, first-here, first-past, first-last, first-none, first-some, firstRow-append, append-none}
+use Rattle.tables.specs.Checks.{Row, firstRow, Arrays, roomRow, indexRow}
+use Rattle.tables.specs.Tables.{Table, Query, matrixOf, recordRow, tableRowsOf, listRow, notAWidth, countAt, limitsAt, partAt, lookRows, lookRowsOf, findRows, foundBy, foundIn}
+use Rattle.tables.specs.Tables.{filledIndex, filled, not-filled, fillLeft, filledBy, fillOf}
+use Rattle.tables.specs.Tables.{nodeRow, writeRows, writtenBy, writtenIn, answerRows, repliedBy, synthesized}
+use Rattle.tables.proofs.Rows.{Numbered, numbered-query, index-number, first-here, first-past, first-last, first-none, first-some, firstRow-append, append-none}
 
 -- ---- rows
 
+pub numbered-look : (t : Table) (by : By) (f u c places : ℕ) → Numbered (lookRows t by f u c places)
+numbered-look t by f u c places = (omega arith, (omega arith, (omega (arith, index-number (t .limits) by places), tt)))
+
 pub numbered-find : (t : Table) (a : Arrays) (q : Query) → Numbered (findRows t a q)
-numbered-find t a q = (omega arith, (omega arith, numbered-query (q .width) (q .exponent) (q .bytes)))
+numbered-find t a q =
+    (omega arith, (omega arith, (omega (arith, index-number (t .limits) (a .by) (length (a .index))), numbered-query (q .width) (q .exponent) (q .bytes))))
 
 -- where no row of an answer holds, none of the find's does, and the lent list is long enough
 pub passed : (t : Table) (a : Arrays) (q : Query) (out : List ℕ) → firstRow (answerRows t a q out) ≡ 0
@@ -36,12 +43,36 @@ good-table t a rs e =
     let (i, j) = first-none (roomRow (t .limits) a) _ (omega arith) h in
     (g, i, j)
 
+-- and where 17 is tried too, neither is the index
+pub good-look : (t : Table) (by : By) (a : Arrays) (rs : List Row) → firstRow (lookRowsOf t by a ++ rs) ≡ 0
+    → (recordRow t .holds ≡ false) × (roomRow (t .limits) a .holds ≡ false) × (indexRow (t .limits) by (length (a .index)) .holds ≡ false) × (firstRow rs ≡ 0)
+good-look t by a rs e =
+    let (g, h, i) = good-table t a _ e in
+    let (j, k) = first-none (indexRow (t .limits) by (length (a .index))) rs (omega (arith, index-number (t .limits) by (length (a .index)))) i in
+    (g, h, j, k)
+
+-- back: where none of these refuses, the rows that follow decide
+pub look-passed : (t : Table) (by : By) (a : Arrays) (rs : List Row) → recordRow t .holds ≡ false → roomRow (t .limits) a .holds ≡ false
+    → indexRow (t .limits) by (length (a .index)) .holds ≡ false → firstRow (lookRowsOf t by a ++ rs) ≡ firstRow rs
+look-passed t by a rs r m p = first-past (recordRow t) _ r ∙ first-past (roomRow (t .limits) a) _ m ∙ first-past (indexRow (t .limits) by (length (a .index))) rs p
+
 -- of a node that the width has, no row of a write holds
 pub rows-passed : (t : Table) (a : Arrays) (w k : ℕ) (out : List ℕ) → recordRow t .holds ≡ false → roomRow (t .limits) a .holds ≡ false → k < countAt t w
     → listRow t out .holds ≡ false → firstRow (writeRows t a w k out) ≡ 0
 rows-passed t a w k out r m h l =
     first-past (recordRow t) _ r ∙ first-past (roomRow (t .limits) a) _ m ∙ first-past (nodeRow t w k) _ (rw (lt-ltb k (countAt t w) h))
     ∙ first-last (listRow t out) l
+
+-- ---- a fill
+
+module _ (t : Table) (a : Arrays) where
+  pub fill-passed : firstRow (lookRowsOf t indexed a) ≡ 0 → fillOf t a ≡ fillLeft filled (filledIndex t a)
+  unfolding fillOf
+  fill-passed e = ap (filledBy t a) e
+
+  pub fill-refused : (r : ℕ) → 0 < r → firstRow (lookRowsOf t indexed a) ≡ r → fillOf t a ≡ fillLeft (not-filled r 0) (a .index)
+  unfolding fillOf
+  fill-refused r h e = ap (filledBy t a) e ∙ rw (ne-eqb r 0 (omega arith))
 
 -- ---- a find
 

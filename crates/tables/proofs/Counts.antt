@@ -1,22 +1,66 @@
--- What the record of a built table says of each width, and that row 13 does not refuse it. Assumes nothing.
+-- How many nodes a width's walk and a width of a record have, what the record of a built table says of each width, and that row 13 does not refuse
+-- it. Assumes nothing.
 use mathlib.Core.Path.{_≡_, refl, ap, _∙_}
+use mathlib.Core.Logic.{inr}
 use mathlib.Core.Bool.{Bool, true, false, not, _&&_, _||_}
 use mathlib.Core.List.{List, [], _∷_, map}
 use Prim.Native.Nat.{ℕ, zero, suc, _+_, _≤_, _<_}
 use native.Mathlib.Omega.{arith}
 use borrow.Author.Tests.{ltb-true, ltb-false, le-ltb, eq-eqb, ne-eqb}
 use lib.Dec.{eqb, ltb}
-use lib.ListN.{getD}
+use lib.ListN.{length, getD}
 use Rattle.ints.specs.Lists.{range, all}
-use Rattle.ints.proofs.Bools.{and-left, and-right}
+use Rattle.ints.proofs.Bools.{neither, clash, and-left, and-right}
 use Rattle.walk.specs.Walk.{any}
+use Rattle.walk.specs.AtWidth.{atWidth}
+use Rattle.walk.proofs.Nodes.{first}
+use Rattle.walk.proofs.Layers.{walk-shape}
 use Rattle.tables.specs.Checks.{firstRow, Limits, limitRows, Arrays}
-use Rattle.tables.specs.Tables.{Table, notBuilt, widthAt, allWidths, walkOf, widthOf, rowOf, recordOf, badCount, recordRow}
+use Rattle.tables.specs.Tables.{Table, Width, notBuilt, widthAt, allWidths, walkOf, widthOf, rowOf, recordOf, badCount, recordRow, notAWidth, countAt}
 use Rattle.tables.specs.Built.{Built}
-use Rattle.tables.proofs.Accepted.{accepted}
-use Rattle.tables.proofs.FromBuild.{walk-count}
+use Rattle.tables.specs.Exactly.{bad-count}
+use Rattle.tables.proofs.InWords.{is-record}
+use Rattle.tables.proofs.Accepted.{above, accepted}
 
--- ---- a width of the record
+-- ---- a width of a record
+
+-- a width that a table has, and back
+pub has-width : (t : Table) (w : ℕ) → 0 < w → w ≤ t .limits .qubits → notAWidth t w ≡ false
+has-width t w p h = rw (ne-eqb w 0 (omega arith), le-ltb (t .limits .qubits) w h)
+
+pub a-width : (t : Table) (w : ℕ) → notAWidth t w ≡ false → (0 < w) × (w ≤ t .limits .qubits)
+a-width t w e =
+    let p = neither (eqb w 0) (ltb (t .limits .qubits) w) e in
+    (above w (p .0), ltb-false (t .limits .qubits) w (p .1))
+
+-- a width with entries is one that the table has
+pub counted : (t : Table) (w : ℕ) {k : ℕ} → k < countAt t w → (0 < w) × (w ≤ t .limits .qubits) × (countAt t w ≡ widthAt t w .count)
+counted t w h = by (notAWidth t w) refl
+  where
+    by : (b : Bool) → notAWidth t w ≡ b → (0 < w) × (w ≤ t .limits .qubits) × (countAt t w ≡ widthAt t w .count)
+    by true e = let z : countAt t w ≡ 0 = rw e in absurd (omega (arith, h, z))
+    by false e = let (p, q) = a-width t w e in (p, q, rw e)
+
+-- no width of a record that is not refused has more than E
+pub record-count : (t : Table) (w : ℕ) → recordRow t .holds ≡ false → countAt t w ≤ t .limits .entries
+record-count t w r = by (notAWidth t w) refl
+  where
+    by : (b : Bool) → notAWidth t w ≡ b → countAt t w ≤ t .limits .entries
+    by true e = rw e (omega arith)
+    by false e =
+        let (p, q) = a-width t w e in
+        let few : t .limits .entries < widthAt t w .count → ⊥ = λ z. clash (is-record t .from (bad-count w p q (inr z))) r in
+        rw e (omega (arith, few))
+
+-- ---- a width's walk
+
+-- it has a node, and at most E
+pub walk-count : (l : Limits) (w : ℕ) → 0 < l .entries → (0 < length (walkOf l w .nodes)) × (length (walkOf l w .nodes) ≤ l .entries)
+walk-count l w h =
+    let s = walk-shape (atWidth w (l .basis)) (l .gates) (l .entries) in
+    (first (atWidth w (l .basis)) (s .layered .grown) .0, s .count h)
+
+-- ---- a width of the record that a build returns
 
 -- the rows of m widths from i on, by their places
 rows-at : (l : Limits) (m i v : ℕ) → v < m → getD (map (rowOf l) (range i m)) v notBuilt ≡ rowOf l (i + v)
@@ -43,6 +87,10 @@ module _ (t : Table) (a : Arrays) (b : Built t a) where
   width-is w p q =
       let e : w ≤ 5 = omega (arith, accepted (t .limits) (b .accepted) .widths) in
       ap (λ (z : Table). widthAt z w) (b .returned) ∙ record-at (t .limits) w p e ∙ row-is (t .limits) w q
+
+  -- so it has as many entries as its walk has nodes
+  pub count-at : (w : ℕ) → 0 < w → w ≤ t .limits .qubits → countAt t w ≡ length (walkOf (t .limits) w .nodes)
+  count-at w p q = rw (has-width t w p q) (ap (λ (v : Width). v .count) (width-is w p q))
 
   -- no count is 0, and none is above E
   pub counts : (w : ℕ) → 0 < w → w ≤ t .limits .qubits → (0 < widthAt t w .count) × (widthAt t w .count ≤ t .limits .entries)

@@ -4,7 +4,7 @@ use mathlib.Core.Logic.{_⊎_, inl, inr}
 use mathlib.Core.Bool.{Bool, true, false}
 use mathlib.Core.List.{List, [], _∷_}
 use mathlib.Core.Option.{Option, some}
-use Prim.Native.Nat.{ℕ, _≤_, _<_}
+use Prim.Native.Nat.{ℕ, _≤_}
 use native.Mathlib.Omega.{arith}
 use Rattle.exact.specs.Matrix.{Lowest}
 use Rattle.exact.specs.Unitary.{Unitary}
@@ -18,17 +18,16 @@ use Rattle.walk.proofs.Demand3 as at-width
 use Rattle.walk.proofs.Meaning.{kind-of}
 use Rattle.tables.specs.Checks.{firstRow, Limits, Arrays, queryRows}
 use Rattle.tables.specs.Tables.{Table, Width, Query, matrixOf, listRow, notAWidth}
-use Rattle.tables.specs.Built.{Built}
+use Rattle.tables.specs.Built.{Built, FilledFrom}
 use Rattle.tables.specs.Beside.{Beside, Ordered}
 use Rattle.tables.specs.Demand3.{Gives, GivesNone, Refuses, NotRefused, Decided, a-list, no-list, a-refusal, NoSmaller, Complete, Demand3}
 use Rattle.tables.proofs.Rows.{numbered-query, first-here, first-past, firstRow-append}
 use Rattle.tables.proofs.FromBuild.{build-built, build-refused, built-again}
-use Rattle.tables.proofs.Counts.{width-is, counts}
+use Rattle.tables.proofs.Counts.{width-is, counts, good-record}
 use Rattle.tables.proofs.Joined.{toldOption}
 use Rattle.tables.proofs.Replies.{number-of, rowOfAnswer, ReplyCase, not-a-width, part-asked, by-row, row-refuses, cases}
-use Rattle.tables.proofs.Replies.{gives-asked, no-row, decided, gives-right}
-use Rattle.tables.proofs.OfBuilt.{asked-lowest, has-width, a-width, told-none, not-refusal, rows-are, rows-up-to, query-passed}
-use Rattle.tables.proofs.OfBuilt.{widths-small, told-walk, gives-walk}
+use Rattle.tables.proofs.Replies.{gives-asked, no-row, asked-means, decided, gives-right}
+use Rattle.tables.proofs.OfBuilt.{asked-lowest, has-width, a-width, told-none, only-record, query-passed, rows-are, widths-small, no-fault, told-walk, gives-walk}
 
 -- ---- (a) and (d), whatever the memory holds
 
@@ -42,7 +41,8 @@ not-unitary t a q out h u = by (decided t a q out)
 
 -- ---- a larger built table
 
-module _ (t t′ : Table) (a a′ : Arrays) (b : Built t a) (b′ : Built t′ a′) (s : NoSmaller (t .limits) (t′ .limits)) (q : Query) where
+module _ (t t′ : Table) (a a′ : Arrays) (b : Built t a) (b′ : Built t′ a′) (x : FilledFrom t a) (x′ : FilledFrom t′ a′) (s : NoSmaller (t .limits) (t′ .limits))
+    (q : Query) where
   -- it has the widths of the other, and gives the same lists there
   same-list : (out′ l : List ℕ) → notAWidth t (q .width) ≡ false → rowOfAnswer t′ a′ q out′ ≡ 0
       → answered (q .width) (t .limits .basis) (t .limits .gates) (t .limits .entries) (matrixOf q) ≡ some l → Gives t′ a′ q out′ l
@@ -52,7 +52,7 @@ module _ (t t′ : Table) (a a′ : Arrays) (b : Built t a) (b′ : Built t′ a
       let more =
       at-width.demand (q .width) (t .limits .basis) (widths-small t a b (q .width) (w .1)) .larger (t .limits .gates) (t′ .limits .gates)
       (t .limits .entries) (t′ .limits .entries) (s .gates) (s .entries) (matrixOf q) l g in
-      told-walk t′ a′ b′ q out′ e (has-width t′ (q .width) (w .0) h)
+      told-walk t′ a′ b′ q out′ x′ e (has-width t′ (q .width) (w .0) h)
       ∙ ap (λ (z : ℕ). toldOption (answered (q .width) z (t′ .limits .gates) (t′ .limits .entries) (matrixOf q)) out′) (s .basis)
       ∙ ap (λ (o : Option (List ℕ)). toldOption o out′) more
 
@@ -63,30 +63,31 @@ module _ (t t′ : Table) (a a′ : Arrays) (b : Built t a) (b′ : Built t′ a
       -- the query's rows are the same for both
       only-12 : rowOfAnswer t′ a′ q out′ ≡ firstRow (listRow t′ out′ ∷ [])
       only-12 =
-          rows-are t′ a′ b′ q out′
+          rows-are t′ a′ b′ (x′ .parts) q out′
           ∙ firstRow-append (queryRows (q .width) (q .exponent) (q .bytes)) (listRow t′ out′ ∷ []) (numbered-query (q .width) (q .exponent) (q .bytes))
-          (query-passed t a b q out (gives-asked t a q out l g .0))
+          (query-passed t a q out (gives-asked t a q out l g .0))
 
       by : (h : Bool) → listRow t′ out′ .holds ≡ h → Gives t′ a′ q out′ l ⊎ Refuses t′ a′ q out′ 12
       by true e = inr (row-refuses t′ a′ q out′ 12 (omega arith) (only-12 ∙ first-here (listRow t′ out′) [] e))
       by false e =
-          inl (same-list out′ l (gives-asked t a q out l g .1) (only-12 ∙ first-past (listRow t′ out′) [] e) (gives-walk t a b q out l g))
+          inl (same-list out′ l (gives-asked t a q out l g .1) (only-12 ∙ first-past (listRow t′ out′) [] e) (gives-walk t a b q out x l g))
 
 -- ---- a built table
 
 module _ (t : Table) (a : Arrays) (b : Built t a) where
   -- (c), from the walk's answers
-  answers-complete : (q : Query) → (q .width ≤ 5 → WidthComplete (q .width) (t .limits .basis) (t .limits .gates) (t .limits .entries)) → Complete t a q
-  answers-complete q w = record {
+  answers-complete : FilledFrom t a → (q : Query) → (q .width ≤ 5 → WidthComplete (q .width) (t .limits .basis) (t .limits .gates) (t .limits .entries))
+      → Complete t a q
+  answers-complete x q w = record {
     shortest = λ out l g m r.
         w (small (a-width t (q .width) (gives-asked t a q out l g .1) .1)) .shortest (matrixOf q) (low out (gives-asked t a q out l g .0)) l
-        (gives-walk t a b q out l g) m (r .of-basis) (r .power);
+        (gives-walk t a b q out x l g) m (r .of-basis) (r .power);
     none-exactly = λ p h s out n. let e = no-row t a q out n in
-        let k = told-walk t a b q out e (has-width t (q .width) p h) in
+        let k = told-walk t a b q out x e (has-width t (q .width) p h) in
         let f = ap (λ (v : Width). v .saturated) (sym (width-is t a b (q .width) p h)) ∙ s in
-        let x = w (small h) .none-exactly f (matrixOf q) (low out e) in (
-          (λ g m r c. x .0 (told-none _ out (sym k ∙ g)) m (r .of-basis) c (r .power)),
-          (λ f. k ∙ ap (λ (o : Option (List ℕ)). toldOption o out) (x .1 (λ m o c s. f m (record { of-basis = o; power = s }) c))),
+        let y = w (small h) .none-exactly f (matrixOf q) (low out e) in (
+          (λ g m r c. y .0 (told-none _ out (sym k ∙ g)) m (r .of-basis) c (r .power)),
+          (λ f. k ∙ ap (λ (o : Option (List ℕ)). toldOption o out) (y .1 (λ m o c s. f m (record { of-basis = o; power = s }) c))),
         );
   }
     where
@@ -94,18 +95,16 @@ module _ (t : Table) (a : Arrays) (b : Built t a) where
       small h = widths-small t a b (q .width) h
 
       low : (out : List ℕ) → rowOfAnswer t a q out ≡ 0 → Lowest (q .width) (matrixOf q)
-      low out e = asked-lowest (q .width) (q .exponent) (q .bytes) (query-passed t a b q out e)
+      low out e = asked-lowest (q .width) (q .exponent) (q .bytes) (query-passed t a q out e)
 
-  -- row 13 refuses no record, and no chain
+  -- row 13 refuses no record, and no chain: whatever the index holds, the node to which it leads is one of the width's
   never-13 : (q : Query) (out : List ℕ) → Refuses t a q out 13 → ⊥
   never-13 q out n = by (cases t a q out)
     where
       by : ReplyCase t a q out → ⊥
       by (not-a-width e f m) = absurd (omega (arith, kind-of (sym m ∙ n)))
-      by (part-asked e f p) =
-          not-refusal (answered (q .width) (t .limits .basis) (t .limits .gates) (t .limits .entries) (matrixOf q)) 13 out
-          (sym (told-walk t a b q out e f) ∙ n)
-      by (by-row r h e m) = absurd (omega (arith, number-of (sym m ∙ n), rows-up-to t a b q out))
+      by (part-asked e f p) = no-fault t a b (q .width) (matrixOf q) (asked-means t a q out .is-refused 13 0 out .0 (sym p ∙ n) .0)
+      by (by-row r h e m) = only-record t a q out (good-record t a b) (e ∙ number-of (sym m ∙ n))
 
 -- ---- the nodes of a width
 
@@ -131,8 +130,8 @@ demand = record {
   build-refused = build-refused;
   right = λ t a q out l g. let r = gives-right t a q out l g in (r .power, r .valid, r .short);
   build-built = build-built;
-  larger = λ t t′ a a′ b b′ s q out out′ l g. larger t t′ a a′ b b′ s q out out′ l g;
-  complete = λ t a b le q nc. answers-complete t a b q
+  larger = λ t t′ a a′ b b′ x x′ s q out out′ l g. larger t t′ a a′ b b′ x x′ s q out out′ l g;
+  complete = λ t a b x le q nc. answers-complete t a b x q
       (λ small. at-width.demand (q .width) (t .limits .basis) small .complete (t .limits .gates) (t .limits .entries) le nc);
   unitary = λ t a q out l g. gives-right t a q out l g .unitary;
   not-unitary = not-unitary;
@@ -143,9 +142,9 @@ demand = record {
 
 pub beside : Beside
 beside = record {
-  complete-rightly = λ t a b le q K. answers-complete t a b q
+  complete-rightly = λ t a b x le q K. answers-complete t a b x q
       (λ small. at-width.demand (q .width) (t .limits .basis) small .complete-rightly (t .limits .gates) (t .limits .entries) le K);
   counts = λ t a b w p q. counts t a b w p q;
   ordered = λ t a b w p q. in-order (t .limits) w (widths-small t a b w q);
-  built-again = λ t a. (built-again t a, λ e. build-built (t .limits) a a t e .0);
+  built-again = λ t a. (λ w. built-again t a (w .0) (w .1), λ e. let (b, z, x) = build-built (t .limits) a a t e in (b, x));
 }

@@ -4,19 +4,23 @@ use mathlib.Core.Logic.{_↔_, _⊎_, inl, inr}
 use mathlib.Core.List.{List, [], _∷_}
 use Prim.Native.Nat.{ℕ, zero, suc}
 use native.Mathlib.Omega.{arith}
+use Rattle.exact.specs.Fingerprint.{fingerprint}
+use Rattle.walk.specs.Index.{indexed}
 use Rattle.walk.specs.Finds as f
 use Rattle.walk.specs.Answers.{refused, Outcome, outcome}
+use Rattle.walk.proofs.Indexed.{leads-below}
 use Rattle.walk.proofs.Meaning.{first, second, kind-of, found-first, found-second, find-means, write-means}
 use Rattle.tables.specs.Checks.{firstRow, Limits, Arrays}
-use Rattle.tables.specs.Tables.{Table, BuildReply, table, refusal, Left, left, recordOf, builtTo, buildRows, buildOf, Query, matrixOf, limitsAt, partAt, findRows, foundIn, writeRows, writtenIn, synthesized}
-use Rattle.tables.specs.Exactly.{Cause, cause, First, NoCause, buildCauses, BadChain, answerCauses, findCauses, BadNode, writeCauses, Exactly}
+use Rattle.tables.specs.Tables.{Table, BuildReply, table, refusal, Left, left, recordOf, builtTo, buildRows, buildOf, Query, matrixOf}
+use Rattle.tables.specs.Tables.{limitsAt, partAt, lookRowsOf, filledIndex, FillReply, filled, not-filled, FillLeft, fillLeft, fillOf, findRows, foundIn, writeRows, writtenIn, synthesized}
+use Rattle.tables.specs.Exactly.{Cause, cause, First, NoCause, buildCauses, BadChain, lookCauses, answerCauses, findCauses, BadNode, writeCauses, Exactly}
 use Rattle.tables.proofs.FromBuild.{build-refusal, build-fills}
 use Rattle.tables.proofs.Replies.{ReplyCase, not-a-width, part-asked, by-row, row-refuses, width-asked, cases, asked-means}
 use Rattle.tables.proofs.OfBuilt.{has-width, a-width, counted}
-use Rattle.tables.proofs.Asked.{find-passed, find-refused, write-passed, write-refused}
+use Rattle.tables.proofs.Asked.{fill-passed, fill-refused, find-passed, find-refused, write-passed, write-refused}
 use Rattle.tables.proofs.Causes.{first-to, first-from, none-to, none-from, first-more, first-later, first-split}
 use Rattle.tables.proofs.ListExactly.{list, formed}
-use Rattle.tables.proofs.InWords.{build-in-words, findRowCauses, find-in-words, rowCauses, answer-in-words, writeRowCauses, write-in-words}
+use Rattle.tables.proofs.InWords.{build-in-words, look-in-words, findRowCauses, find-in-words, rowCauses, answer-in-words, writeRowCauses, write-in-words}
 
 -- ---- a build
 
@@ -54,6 +58,43 @@ module _ (l : Limits) (a : Arrays) where
       to : buildOf l a ≡ left (table (recordOf l)) (builtTo l (l .qubits) a) → (s : ℕ) → firstRow (buildRows l a) ≡ s → NoCause (buildCauses l a)
       to n zero f = none-to (build-in-words l a) f
       to n (suc s) f = absurd (omega (arith, ap (λ (z : Left). buildNumber (z .reply)) (sym (build-refusal l a (suc s) (omega arith) f) ∙ n)))
+
+-- ---- a fill
+
+abbrev fillNumber : FillReply → ℕ
+fillNumber filled = 0
+fillNumber (not-filled r p) = suc r
+
+abbrev fillPosition : FillReply → ℕ
+fillPosition filled = 0
+fillPosition (not-filled r p) = p
+
+module _ (t : Table) (a : Arrays) where
+  fill : (i : List ℕ) (r p : ℕ) → (fillOf t a ≡ fillLeft (not-filled r p) i) ↔ (First r p (lookCauses t indexed a) × (i ≡ a .index))
+  fill i r p = (λ n. to n (firstRow (lookRowsOf t indexed a)) refl, from)
+    where
+      to : fillOf t a ≡ fillLeft (not-filled r p) i → (s : ℕ) → firstRow (lookRowsOf t indexed a) ≡ s → First r p (lookCauses t indexed a) × (i ≡ a .index)
+      to n zero e = absurd (omega (arith, ap (λ (z : FillLeft). fillNumber (z .reply)) (sym (fill-passed t a e) ∙ n)))
+      to n (suc s) e =
+          let z = sym (fill-refused t a (suc s) (omega arith) e) ∙ n in
+          let x : suc s ≡ r = omega (arith, ap (λ (y : FillLeft). fillNumber (y .reply)) z) in
+          let y : 0 ≡ p = ap (λ (y : FillLeft). fillPosition (y .reply)) z in (
+            subst (λ (j : ℕ). First r j (lookCauses t indexed a)) y
+                (subst (λ (j : ℕ). First j 0 (lookCauses t indexed a)) x (first-to (look-in-words t indexed a) (suc s) (omega arith) e)),
+            sym (ap (λ (y : FillLeft). y .index) z),
+          )
+
+      from : First r p (lookCauses t indexed a) × (i ≡ a .index) → fillOf t a ≡ fillLeft (not-filled r p) i
+      from (g, z) =
+          let (x, h, y) = first-from (look-in-words t indexed a) r p g in
+          fill-refused t a r h x ∙ (λ k. fillLeft (not-filled r (sym y k)) (sym z k))
+
+  fills : (fillOf t a ≡ fillLeft filled (filledIndex t a)) ↔ NoCause (lookCauses t indexed a)
+  fills = (λ n. to n (firstRow (lookRowsOf t indexed a)) refl, λ n. fill-passed t a (none-from (look-in-words t indexed a) n))
+    where
+      to : fillOf t a ≡ fillLeft filled (filledIndex t a) → (s : ℕ) → firstRow (lookRowsOf t indexed a) ≡ s → NoCause (lookCauses t indexed a)
+      to n zero e = none-to (look-in-words t indexed a) e
+      to n (suc s) e = absurd (omega (arith, ap (λ (z : FillLeft). fillNumber (z .reply)) (sym (fill-refused t a (suc s) (omega arith) e) ∙ n)))
 
 -- ---- an answer
 
@@ -110,7 +151,9 @@ module _ (t : Table) (a : Arrays) (q : Query) where
       to : foundIn t a q ≡ f.refused r p → (s : ℕ) → firstRow (findRows t a q) ≡ s → First r p (findCauses t a q)
       to n zero e =
           let (x, y, z) = find-means (limitsAt (t .limits) (q .width)) (partAt t a (q .width)) (matrixOf q) .is-refused r p .0 (sym (find-passed t a q e) ∙ n) in
-          let v = counted t (q .width) (x .lowest .below) in
+          let part = partAt t a (q .width) in
+          let v = counted t (q .width)
+          (leads-below (a .by) (part .index) (part .fingerprints) (part .count) 0 (fingerprint (q .width) (matrixOf q)) (x .node) (x .leads)) in
           told 13 (first-later (findRowCauses t a q) (last-cause ∷ []) 13 0 (none-to (find-in-words t a q) e)
           (inl (refl, (record { some = v .0; has = v .1; fault = x }, refl)))) (sym y) (sym z)
       to n (suc s) e =
@@ -165,6 +208,8 @@ pub exactly : Exactly
 exactly = record {
   build = build;
   built = built;
+  fill = fill;
+  fills = fills;
   answer = answer;
   find = find;
   write = write;

@@ -20,11 +20,11 @@ use Rattle.walk.proofs.Meaning.{kind, kind-of, found-kind, found-first, find-me
 use Rattle.tables.specs.Checks.{firstRow, Arrays, roomRow}
 use Rattle.tables.specs.Tables.{Table, widthAt, countAt, walkOf, Query, matrixOf, recordRow, listRow, nodeRow, limitsAt, partAt, findRows, foundIn, writeRows, writtenIn}
 use Rattle.tables.specs.Tables.{answerRows, synthesized}
-use Rattle.tables.specs.Built.{Built}
+use Rattle.tables.specs.Built.{Built, FilledFrom}
 use Rattle.tables.specs.Demand3.{Gives, GivesNone, Refuses, NoSmaller, Complete}
 use Rattle.tables.specs.FindWrite.{Finds, FindsNone, FindRefuses, FindDecided, a-node, no-node, a-refusal, FindComplete}
 use Rattle.tables.specs.FindWrite.{Writes, WriteRefuses, WriteDecided, a-list, not-written, FindWrite}
-use Rattle.tables.proofs.Rows.{Numbers, first-number, first-here, first-past, first-none, firstRow-append}
+use Rattle.tables.proofs.Rows.{Numbers, index-number, first-number, first-here, first-past, first-none, firstRow-append}
 use Rattle.tables.proofs.Counts.{good-record}
 use Rattle.tables.proofs.Asked.{numbered-find, passed, good-table, rows-passed, partFound, find-passed, find-refused, write-passed, write-refused, answer-refused, followed}
 use Rattle.tables.proofs.Replies.{rowOfAnswer, number-of, not-given, one-list, gives-asked}
@@ -88,12 +88,15 @@ module _ (t : Table) (a : Arrays) (q : Query) where
         (
           (λ e. absurd (omega (arith, e))),
           (
-            (λ e. absurd (omega (arith, e))),
+            (λ e. absurd (omega (arith, e, index-number (t .limits) (a .by) (length (a .index))))),
             (
               (λ e. absurd (omega (arith, e))),
               (
                 (λ e. absurd (omega (arith, e))),
-                ((λ e. absurd (omega (arith, e))), tt),
+                (
+                  (λ e. absurd (omega (arith, e))),
+                  ((λ e. absurd (omega (arith, e))), tt),
+                ),
               ),
             ),
           ),
@@ -221,12 +224,13 @@ module _ (t : Table) (a : Arrays) (q : Query) where
 
 -- ---- a larger built table
 
-module _ (t t′ : Table) (a a′ : Arrays) (b : Built t a) (b′ : Built t′ a′) (s : NoSmaller (t .limits) (t′ .limits)) (q : Query) (k m : ℕ) (h : Finds t a q k m) where
+module _ (t t′ : Table) (a a′ : Arrays) (b : Built t a) (b′ : Built t′ a′) (x : FilledFrom t a) (x′ : FilledFrom t′ a′) (s : NoSmaller (t .limits) (t′ .limits))
+    (q : Query) (k m : ℕ) (h : Finds t a q k m) where
   -- its answer with a list that is long enough
   larger-node : (l : List ℕ) × (length l ≡ m) × Gives t a q (longList t) l × ((k′ : ℕ) × Finds t′ a′ q k′ (length l) × Writes t′ a′ (q .width) k′ (longList t′) l)
   larger-node =
       let (l, z, w, g) = found-written t a q (longList t) (long-enough t) k m h in
-      (l, z, g, by l (demand .larger t t′ a a′ b b′ s q (longList t) (longList t′) l g))
+      (l, z, g, by l (demand .larger t t′ a a′ b b′ x x′ s q (longList t) (longList t′) l g))
     where
       by : (l : List ℕ) → Gives t′ a′ q (longList t′) l ⊎ Refuses t′ a′ q (longList t′) 12 → (k′ : ℕ) × Finds t′ a′ q k′ (length l) × Writes t′ a′ (q .width) k′ (longList t′) l
       by l (inl g) = given-found t′ a′ q (longList t′) (long-enough t′) l g
@@ -248,7 +252,7 @@ module _ (t t′ : Table) (a a′ : Arrays) (b : Built t a) (b′ : Built t′ a
           by (inl c) = inr (found-short t′ a′ q k′ m h′ out′ c .0)
           by (inr c) =
               let (l′, z, v, g′) = found-written t′ a′ q out′ c k′ m h′ in
-              inl (subst (Writes t′ a′ (q .width) k′ out′) (one l′ g′ (demand .larger t t′ a a′ b b′ s q out out′ l (answered t a q k m h out l w .1))) v)
+              inl (subst (Writes t′ a′ (q .width) k′ out′) (one l′ g′ (demand .larger t t′ a a′ b b′ x x′ s q out out′ l (answered t a q k m h out l w .1))) v)
             where
               one : (l′ : List ℕ) → Gives t′ a′ q out′ l′ → Gives t′ a′ q out′ l ⊎ Refuses t′ a′ q out′ 12 → l′ ≡ l
               one l′ g′ (inl e) = one-list l′ l out′ (sym g′ ∙ e)

@@ -1,36 +1,28 @@
--- What a build leaves: a built table of its limits where no row refuses, and otherwise what it found. Assumes nothing.
+-- What a build leaves: a built table of its limits, and an index that is filled from it, where no row refuses, and otherwise what it found. Assumes
+-- nothing.
 use mathlib.Core.Path.{_≡_, refl, sym, ap, _∙_, subst}
 use mathlib.Core.Bool.{Bool, true, false}
-use mathlib.Core.List.{List, [], _∷_, _++_, map}
+use mathlib.Core.List.{List, [], _∷_, map}
 use Prim.Native.Nat.{ℕ, zero, suc, _+_, _-_, _*_, _≤_, _<_}
 use native.Mathlib.Omega.{arith}
 use borrow.Author.Tests.{eqb-true, ne-eqb}
 use lib.Dec.{eqb}
-use lib.ListN.{length, getD, take, drop, length-map, take-append-drop}
-use lib.Seq.{getD-take, getD-drop, length-take-le, ext-getD}
-use Rattle.ints.specs.Lists.{over}
+use lib.ListN.{length, getD, length-map}
 use Rattle.ints.proofs.Bools.{clash}
 use Rattle.exact.proofs.Values.{pick-ind}
 use Rattle.walk.specs.Walk.{Node, root, gate}
-use Rattle.walk.specs.AtWidth.{atWidth, printOf, parentOf}
-use Rattle.walk.proofs.Nodes.{first}
-use Rattle.walk.proofs.Layers.{walk-shape}
+use Rattle.walk.specs.AtWidth.{printOf, parentOf}
+use Rattle.walk.specs.Index.{By, scan, indexed}
 use Rattle.walk.proofs.Held.{map-at}
-use Rattle.tables.specs.Checks.{firstRow, Limits, limitRows, Arrays, placesOf, roomRow}
-use Rattle.tables.specs.Tables.{Table, walkOf, recordOf, printsOf, parentsOf, codesOf, within, filledTo, builtTo}
+use Rattle.tables.specs.Checks.{firstRow, Limits, limitRows, Arrays, arraysBy, placesOf, roomRow, indexRow, partsRow}
+use Rattle.tables.specs.Tables.{Table, walkOf, recordOf, printsOf, parentsOf, codesOf, filledTo, indexTo, builtTo}
 use Rattle.tables.specs.Tables.{BuildReply, table, refusal, Left, left, buildRows, leftBy, buildOf}
-use Rattle.tables.specs.Built.{Built}
-use Rattle.tables.proofs.Rows.{numbered-limits, first-none, first-past, firstRow-append, append-none}
+use Rattle.tables.specs.Built.{Built, FilledFrom}
+use Rattle.tables.proofs.Rows.{numbered-limits, index-number, first-none, first-past, first-last, firstRow-append, append-none}
 use Rattle.tables.proofs.Accepted.{accepted, roomy, room-is}
-use Rattle.tables.proofs.Filled.{part-length, room-at, filled-length, filled-at}
-
--- ---- a width's walk
-
--- it has a node, and at most E
-pub walk-count : (l : Limits) (w : ℕ) → 0 < l .entries → (0 < length (walkOf l w .nodes)) × (length (walkOf l w .nodes) ≤ l .entries)
-walk-count l w h =
-    let s = walk-shape (atWidth w (l .basis)) (l .gates) (l .entries) in
-    (first (atWidth w (l .basis)) (s .layered .grown) .0, s .count h)
+pub use Rattle.tables.proofs.Counts.{walk-count}
+use Rattle.tables.proofs.Filled.{filled-length, filled-at, filled-same}
+use Rattle.tables.proofs.Indexes.{all-again, scan-leaves, index-to-length, fill-is-build}
 
 -- ---- an array filled by what p says of the nodes of each width
 
@@ -57,14 +49,22 @@ module _ (l : Limits) (some : 0 < l .entries) (p : ℕ → Node → ℕ) (column
 
 -- ---- limits and arrays that no row refuses: the record, and the arrays filled up to Q, are a built table
 
+-- none of the limits, of the arrays and of the index is refused
+pub build-passed : (l : Limits) (a : Arrays) → firstRow (buildRows l a) ≡ 0
+    → (firstRow (limitRows l) ≡ 0) × (roomRow l a .holds ≡ false) × (partsRow l a .holds ≡ false)
+build-passed l a e =
+    let (g, h) = append-none (limitRows l) (roomRow l a ∷ partsRow l a ∷ []) (numbered-limits l) e in
+    let (i, j) = first-none (roomRow l a) (partsRow l a ∷ []) (omega arith) h in
+    (g, i, first-none (partsRow l a) [] (omega (arith, index-number l (a .by) (length (a .index)))) j .0)
+
 built-record : (l : Limits) (a : Arrays) → firstRow (buildRows l a) ≡ 0 → Built (recordOf l) (builtTo l (l .qubits) a)
 unfolding recordOf printsOf parentsOf codesOf
 built-record l a e =
-    let rs = append-none (limitRows l) (roomRow l a ∷ []) (numbered-limits l) e in
-    let r = roomy l a (first-none (roomRow l a) [] (omega arith) (rs .1) .0) in
-    let h = accepted l (rs .0) .some in
+    let (g, i, j) = build-passed l a e in
+    let r = roomy l a i in
+    let h = accepted l g .some in
     record {
-      accepted = rs .0;
+      accepted = g;
       returned = refl;
       room = room-is l (builtTo l (l .qubits) a)
           (omega (arith, r .0, column-length l h printOf (printsOf l) (λ w. refl) (a .prints) (r .0)))
@@ -76,6 +76,23 @@ built-record l a e =
         code = column-at l h (λ w. gate) (codesOf l) (λ w. refl) (a .codes) (r .2) w p q j b;
       };
     }
+
+-- and back
+pub rows-none : (l : Limits) (a : Arrays) → firstRow (limitRows l) ≡ 0 → roomRow l a .holds ≡ false → partsRow l a .holds ≡ false → firstRow (buildRows l a) ≡ 0
+rows-none l a e r p =
+    firstRow-append (limitRows l) (roomRow l a ∷ partsRow l a ∷ []) (numbered-limits l) e ∙ first-past (roomRow l a) _ r ∙ first-last (partsRow l a) p
+
+-- a second build does not change an index
+index-again : (l : Limits) (by : By) (index : List ℕ) → indexTo l by (l .qubits) (indexTo l by (l .qubits) index) ≡ indexTo l by (l .qubits) index
+index-again l by index = all-again l by (printsOf l) (λ v. length (walkOf l v .nodes)) index
+
+filled-record : (l : Limits) (a : Arrays) → firstRow (buildRows l a) ≡ 0 → FilledFrom (recordOf l) (builtTo l (l .qubits) a)
+unfolding recordOf
+filled-record l a e = record {
+  parts = ap (λ (m : ℕ). indexRow l (a .by) m .holds) (index-to-length l (a .by) (l .qubits) (a .index) (omega arith)) ∙ build-passed l a e .2;
+  is = λ f. sym (index-again l (a .by) (a .index)) ∙ ap (λ (z : By). indexTo l z (l .qubits) (indexTo l (a .by) (l .qubits) (a .index))) f
+      ∙ sym (fill-is-build (recordOf l) (builtTo l (l .qubits) a) (built-record l a e));
+}
 
 -- ---- a build, by the first row that holds
 
@@ -101,18 +118,25 @@ abbrev tableOr : Table → BuildReply → Table
 tableOr u (table t) = t
 tableOr u (refusal r p) = u
 
--- one that returned a record left a built table of its limits
-pub build-built : (l : Limits) (a b : Arrays) (t : Table) → buildOf l a ≡ left (table t) b → Built t b × (t .limits ≡ l)
-unfolding buildOf recordOf
-build-built l a b t =
-    pick-ind (λ (z : Left). z ≡ left (table t) b → Built t b × (t .limits ≡ l)) (eqb (firstRow (buildRows l a)) 0)
-    (λ e f. let u : recordOf l ≡ t = ap (λ (z : Left). tableOr t (z .reply)) f in
-    let x : builtTo l (l .qubits) a ≡ b = ap (λ (z : Left). z .arrays) f in (
-      subst (λ (z : Arrays). Built t z) x (subst (λ (z : Table). Built z (builtTo l (l .qubits) a)) u
-          (built-record l a (eqb-true (firstRow (buildRows l a)) 0 e))),
-      sym (ap (λ (z : Table). z .limits) u),
-    ))
+-- one that returned a record met no row, and returned and left what the definition says
+pub build-returned : (l : Limits) (a b : Arrays) (t : Table) → buildOf l a ≡ left (table t) b
+    → (firstRow (buildRows l a) ≡ 0) × (recordOf l ≡ t) × (builtTo l (l .qubits) a ≡ b)
+unfolding buildOf
+build-returned l a b t =
+    pick-ind (λ (z : Left). z ≡ left (table t) b → (firstRow (buildRows l a) ≡ 0) × (recordOf l ≡ t) × (builtTo l (l .qubits) a ≡ b))
+    (eqb (firstRow (buildRows l a)) 0)
+    (λ e f. (eqb-true (firstRow (buildRows l a)) 0 e, ap (λ (z : Left). tableOr t (z .reply)) f, ap (λ (z : Left). z .arrays) f))
     (λ e f. clash (ap (λ (z : Left). isTable (z .reply)) f) refl)
+
+-- so it left a built table of its limits, and an index that is filled from it
+pub build-built : (l : Limits) (a b : Arrays) (t : Table) → buildOf l a ≡ left (table t) b → Built t b × (t .limits ≡ l) × FilledFrom t b
+unfolding recordOf
+build-built l a b t n =
+    let (e, u, x) = build-returned l a b t n in (
+      subst (λ (z : Arrays). Built t z) x (subst (λ (z : Table). Built z (builtTo l (l .qubits) a)) u (built-record l a e)),
+      sym (ap (λ (z : Table). z .limits) u),
+      subst (λ (z : Arrays). FilledFrom t z) x (subst (λ (z : Table). FilledFrom z (builtTo l (l .qubits) a)) u (filled-record l a e)),
+    )
 
 -- a refused one left the arrays as they were
 pub build-refused : (l : Limits) (a b : Arrays) (r p : ℕ) → buildOf l a ≡ left (refusal r p) b → b ≡ a
@@ -122,31 +146,6 @@ build-refused l a b r p =
     (λ e f. clash refl (ap (λ (z : Left). isTable (z .reply)) f)) (λ e f. sym (ap (λ (z : Left). z .arrays) f))
 
 -- ---- a build in arrays that hold its nodes
-
-over-same : (new old : List ℕ) → length new ≤ length old → ((j : ℕ) → j < length new → getD old j 0 ≡ getD new j 0) → over new old ≡ old
-over-same new old h f =
-    let l = length-take-le (length new) old h in
-    let e : take (length new) old ≡ new = ext-getD 0 (take (length new) old) new l
-    (λ i p. getD-take (length new) old i 0 (omega (arith, l)) ∙ f i (omega (arith, l))) in
-    ap (λ (z : List ℕ). z ++ drop (length new) old) (sym e) ∙ take-append-drop (length new) old
-
-within-same : (a n : ℕ) (g : List ℕ → List ℕ) (xs : List ℕ) → g (take n (drop a xs)) ≡ take n (drop a xs) → within a n g xs ≡ xs
-within-same a n g xs e =
-    ap (λ (z : List ℕ). take a xs ++ (z ++ drop n (drop a xs))) e ∙ ap (λ (z : List ℕ). take a xs ++ z) (take-append-drop n (drop a xs))
-    ∙ take-append-drop a xs
-
-module _ (column : ℕ → List ℕ) (E : ℕ) (short : (w : ℕ) → length (column w) ≤ E) where
-  filled-same : (Q : ℕ) (old : List ℕ) → Q * E ≤ length old
-      → ((v j : ℕ) → v < Q → j < length (column (suc v)) → getD old (v * E + j) 0 ≡ getD (column (suc v)) j 0) → filledTo column E Q old ≡ old
-  unfolding filledTo
-  filled-same zero old h f = refl
-  filled-same (suc q) old h f =
-      let r = room-at q (suc q) E (omega arith) in
-      let p = part-length (q * E) E old (omega (arith, r)) in
-      ap (within (q * E) E (over (column (suc q)))) (filled-same q old (omega (arith, r)) (λ v j lt. f v j (omega arith)))
-      ∙ within-same (q * E) E (over (column (suc q))) old
-      (over-same (column (suc q)) (take E (drop (q * E) old)) (omega (arith, p, short (suc q)))
-      (λ j d. getD-take E (drop (q * E) old) j 0 (omega (arith, short (suc q))) ∙ getD-drop (q * E) old j 0 ∙ f q j (omega arith) d))
 
 module _ (l : Limits) (some : 0 < l .entries) (p : ℕ → Node → ℕ) (column : ℕ → List ℕ) (is : (w : ℕ) → column w ≡ map (p w) (walkOf l w .nodes)) where
   column-same : (old : List ℕ) → placesOf l ≤ length old
@@ -159,17 +158,24 @@ module _ (l : Limits) (some : 0 < l .entries) (p : ℕ → Node → ℕ) (column
       ap (λ (z : ℕ). getD old (z * l .entries + j) 0) (sym e) ∙ f (suc v) (omega arith) (omega arith) j b
       ∙ sym (ap (λ (xs : List ℕ). getD xs j 0) (is (suc v)) ∙ map-at (p (suc v)) (walkOf l (suc v) .nodes) j b))
 
-pub built-again : (t : Table) (a : Arrays) → Built t a → buildOf (t .limits) a ≡ left (table t) a
-unfolding firstRow printsOf parentsOf codesOf
-built-again t a b =
+-- the index: by the scan it is left, and otherwise the fill is the build
+index-same : (t : Table) (a : Arrays) → Built t a → FilledFrom t a → indexTo (t .limits) (a .by) (t .limits .qubits) (a .index) ≡ a .index
+index-same t a b f = by (a .by) refl
+  where
+    by : (z : By) → a .by ≡ z → indexTo (t .limits) (a .by) (t .limits .qubits) (a .index) ≡ a .index
+    by scan e =
+        ap (λ (z : By). indexTo (t .limits) z (t .limits .qubits) (a .index)) e
+        ∙ scan-leaves (t .limits) (printsOf (t .limits)) (λ v. length (walkOf (t .limits) v .nodes)) (a .index)
+    by indexed e = ap (λ (z : By). indexTo (t .limits) z (t .limits .qubits) (a .index)) e ∙ sym (fill-is-build t a b) ∙ sym (f .is e)
+
+pub built-again : (t : Table) (a : Arrays) → Built t a → FilledFrom t a → buildOf (t .limits) a ≡ left (table t) a
+unfolding printsOf parentsOf codesOf
+built-again t a b x =
     let l = t .limits in
     let h = accepted l (b .accepted) .some in
     let r = roomy l a (b .room) in
     let f = column-same l h printOf (printsOf l) (λ w. refl) (a .prints) (r .0) (λ w p q j d. b .nodes w p q j d .print) in
     let u = column-same l h (λ w. parentOf) (parentsOf l) (λ w. refl) (a .parents) (r .1) (λ w p q j d. b .nodes w p q j d .parent) in
     let c = column-same l h (λ w. gate) (codesOf l) (λ w. refl) (a .codes) (r .2) (λ w p q j d. b .nodes w p q j d .code) in
-    build-fills l a (firstRow-append (limitRows l) (roomRow l a ∷ []) (numbered-limits l) (b .accepted) ∙ first-past (roomRow l a) [] (b .room))
-    ∙ ap (λ (z : Table). left (table z) (builtTo l (l .qubits) a)) (sym (b .returned))
-    ∙ ap (λ (z : List ℕ). left (table t) (record { prints = z; parents = builtTo l (l .qubits) a .parents; codes = builtTo l (l .qubits) a .codes })) f
-    ∙ ap (λ (z : List ℕ). left (table t) (record { prints = a .prints; parents = z; codes = builtTo l (l .qubits) a .codes })) u
-    ∙ ap (λ (z : List ℕ). left (table t) (record { prints = a .prints; parents = a .parents; codes = z })) c
+    build-fills l a (rows-none l a (b .accepted) (b .room) (x .parts))
+    ∙ (λ k. left (table (sym (b .returned) k)) (arraysBy (a .by) (f k) (u k) (c k) (index-same t a b x k)))

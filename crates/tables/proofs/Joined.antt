@@ -1,4 +1,4 @@
--- Arrays that hold the nodes of a width answer as the width of the build does. Assumes nothing.
+-- Arrays that hold the nodes of a width, looked up as by the scan, answer as the width of the build does. Assumes nothing.
 use mathlib.Core.Path.{_≡_, refl, sym, ap, _∙_}
 use mathlib.Core.Bool.{Bool, true, false}
 use mathlib.Core.List.{List, [], _∷_, _++_, reverse, reverse-reverse}
@@ -14,6 +14,7 @@ use Rattle.exact.specs.Matrix.{Exact}
 use Rattle.exact.specs.Fingerprint.{fingerprint}
 use Rattle.walk.specs.Lookup.{Lookup, found, lowestOf, lowestFrom}
 use Rattle.walk.specs.Lookup as lookup
+use Rattle.walk.specs.Index.{By, lookedUp}
 use Rattle.walk.specs.Chains.{Chain, good, chainOf}
 use Rattle.walk.specs.Walk.{Node, root, gate, listAt}
 use Rattle.walk.proofs.Nodewise.{lowest, recheck, answerBy, answersTo, oldestFirst, answered}
@@ -123,10 +124,10 @@ module _ (n basis : ℕ) (small : n ≤ 5) where
             let z : 0 + j ≡ j = omega arith in
             ap (λ (i : ℕ). eqb (getD f i 0) (fingerprint n x)) z ∙ ap (λ (p : ℕ). eqb p (fingerprint n x)) (h .prints j l ∙ print-is n basis (getD ns j root))
 
-    abbrev part : Part
-    part = partWith f u c (length ns)
+    module _ (by : By) (index : List ℕ) (looks : (y : ℕ) → lookedUp by index f (length ns) 0 y ≡ lowestFrom f (length ns) 0 y) (x : Exact) (out : List ℕ) where
+      abbrev part : Part
+      part = partWith by f u c (length ns) index
 
-    module _ (x : Exact) (out : List ℕ) where
       -- a find, followed by the write of the node found
       abbrev after : Finding → Outcome
       after g = thenWrite (λ k. writeOf at part k out) out g
@@ -145,21 +146,23 @@ module _ (n basis : ℕ) (small : n ≤ 5) where
 
       told : answerOf at part x out ≡ toldOption (answered n basis G E x) out
       unfolding answerOf findOf answerBy
-      told = ap (λ (g : Lookup). after (byLookup at part x finds.none g)) (looked-up x) ∙ by (ltb k (length ns)) refl
+      told = ap (λ (g : Lookup). after (byLookup at part x finds.none g)) (looks (fingerprint n x) ∙ looked-up x) ∙ test (ltb k (length ns)) refl
         where
           k : ℕ
           k = lowest (answersTo (atWidth n basis) x) ns
 
-          by : (t : Bool) → ltb k (length ns) ≡ t
+          test : (t : Bool) → ltb k (length ns) ≡ t
               → after (byLookup at part x finds.none (pick t (found k) lookup.none))
               ≡ toldOption (oldestFirst (pick t (pick (recheck (atWidth n basis) (listAt ns k) x) (some (listAt ns k)) none) none)) out
-          by true e = at-node k (ltb-true k (length ns) e)
-          by false e = refl
+          test true e = at-node k (ltb-true k (length ns) e)
+          test false e = refl
 
 -- whatever the other places hold, the arrays answer what the width of the build answers
-pub joined : (n basis G E : ℕ) → n ≤ 5 → (f u c : List ℕ) → Holding n basis (built n basis G E .nodes) f u c → (x : Exact) (out : List ℕ)
-    → answerOf (record { width = n; basis = basis; gates = G; entries = E }) (partWith f u c (length (built n basis G E .nodes))) x out ≡ toldOption (answered n basis G E x) out
-joined n basis G E small f u c h x out = told n basis small G E h x out
+pub joined : (n basis G E : ℕ) → n ≤ 5 → (by : By) (f u c index : List ℕ) → Holding n basis (built n basis G E .nodes) f u c
+    → ((y : ℕ) → lookedUp by index f (length (built n basis G E .nodes)) 0 y ≡ lowestFrom f (length (built n basis G E .nodes)) 0 y) → (x : Exact) (out : List ℕ)
+    → answerOf (record { width = n; basis = basis; gates = G; entries = E }) (partWith by f u c (length (built n basis G E .nodes)) index) x out
+    ≡ toldOption (answered n basis G E x) out
+joined n basis G E small by f u c index h looks x out = told n basis small G E h by index looks x out
 
 pub chain-held : (n basis : ℕ) → n ≤ 5 → (G E : ℕ) {f u c : List ℕ} → Holding n basis (built n basis G E .nodes) f u c → (j : ℕ) → j < length (built n basis G E .nodes)
     → chainOf n basis u c G j ≡ good (reverse (listAt (built n basis G E .nodes) j))

@@ -1,36 +1,41 @@
--- What a built table answers: rows 13 and 5 do not refuse it, and a width that it has answers as the walk does. Assumes nothing.
+-- What a built table answers: rows 13 and 5 do not refuse it, and a width that it has answers as the walk does, where its index was filled from it.
+-- Assumes nothing.
 use mathlib.Core.Path.{_≡_, refl, sym, ap, _∙_}
-use mathlib.Core.Bool.{Bool, true, false}
+use mathlib.Core.Bool.{false}
 use mathlib.Core.List.{List, [], _∷_, _++_, reverse}
 use mathlib.Core.Option.{Option, none, some}
 use Prim.Native.Nat.{ℕ, _+_, _-_, _*_, _≤_, _<_}
 use native.Mathlib.Omega.{arith}
-use borrow.Author.Tests.{ltb-false, le-ltb, ne-eqb}
-use lib.Dec.{eqb, ltb}
 use lib.IntN.{ℤ}
 use lib.ListN.{length, getD, drop}
 use lib.Seq.{getD-take, getD-drop}
-use Rattle.ints.proofs.Bools.{neither}
 use Rattle.exact.specs.Matrix.{Exact, Lowest, allDivisible}
 use Rattle.exact.specs.Places.{read, held}
+use Rattle.exact.specs.Fingerprint.{fingerprint}
 use Rattle.walk.proofs.Nodewise.{answered}
 use Rattle.walk.specs.Walk.{listAt}
-use Rattle.walk.specs.Chains.{good}
-use Rattle.walk.specs.Finds.{partWith, chainAt}
+use Rattle.walk.specs.Chains.{Chain, good, bad}
+use Rattle.walk.specs.Meaning.{BadFound}
+use Rattle.walk.proofs.Indexed.{leads-below}
+use Rattle.walk.proofs.Chaining.{bad-by}
+use Rattle.walk.specs.Lookup.{lowestFrom}
+use Rattle.walk.specs.Finds.{Part, partWith, chainAt, lookedIn}
 use Rattle.walk.specs.Answers.{given, refused, outcome, answerOf}
 use Rattle.walk.specs.Answers as a
 use Rattle.walk.proofs.Meaning.{kind-of}
-use Rattle.tables.specs.Checks.{firstRow, Arrays, placesOf, roomRow, queryRows}
-use Rattle.tables.specs.Tables.{Table, Width, widthAt, walkOf, Query, query, matrixOf, recordRow, listRow, partOf, notAWidth, countAt, synthesized, limitsAt, partAt}
-use Rattle.tables.specs.Built.{Built}
+use Rattle.tables.specs.Checks.{firstRow, Arrays, placesOf, roomRow, partsRow, queryRows}
+use Rattle.tables.specs.Tables.{Table, Width, widthAt, walkOf, Query, query, matrixOf, recordRow, listRow, partSize, partOf, notAWidth, synthesized, limitsAt, partAt}
+use Rattle.tables.specs.Built.{Built, FilledFrom}
 use Rattle.tables.specs.Demand3.{Gives}
-use Rattle.tables.proofs.Rows.{first-number, numbered-query, first-past, append-none}
+use Rattle.tables.proofs.Rows.{index-number, first-number, first-past}
 use Rattle.tables.proofs.Causes.{is-true, fails, none-to}
 use Rattle.tables.proofs.InWords.{query-in-words}
-use Rattle.tables.proofs.Accepted.{above, accepted, roomy}
+use Rattle.tables.proofs.Accepted.{accepted, roomy}
 use Rattle.tables.proofs.Filled.{part-length, room-at}
-use Rattle.tables.proofs.FromBuild.{walk-count}
-use Rattle.tables.proofs.Counts.{width-is, good-record}
+pub use Rattle.tables.proofs.Counts.{has-width, a-width, counted}
+use Rattle.tables.proofs.Counts.{walk-count, count-at, width-is, good-record}
+use Rattle.tables.proofs.Indexes.{looks-scan}
+use Rattle.tables.proofs.Asked.{passed, good-look, look-passed}
 use Rattle.tables.proofs.Joined.{toldOption, Holding, chain-held, joined}
 use Rattle.tables.proofs.Replies.{not-given, one-list, rowOfAnswer, width-asked, gives-asked}
 
@@ -40,22 +45,27 @@ use Rattle.tables.proofs.Replies.{not-given, one-list, rowOfAnswer, wid
 pub asked-lowest : (n k : ℕ) (bytes : List ℤ) → firstRow (queryRows n k bytes) ≡ 0 → Lowest n (held n k bytes)
 asked-lowest n k bytes e = record { lowest = λ h. fails (is-true (allDivisible n (read n bytes))) (λ d. none-to (query-in-words (query n k bytes)) e .1 .1 .1 .0 0 ((h, d), refl)) }
 
--- a width that a table has, and back
-pub has-width : (t : Table) (w : ℕ) → 0 < w → w ≤ t .limits .qubits → notAWidth t w ≡ false
-has-width t w p h = rw (ne-eqb w 0 (omega arith), le-ltb (t .limits .qubits) w h)
+-- ---- the rows of an answer
 
-pub a-width : (t : Table) (w : ℕ) → notAWidth t w ≡ false → (0 < w) × (w ≤ t .limits .qubits)
-a-width t w e =
-    let p = neither (eqb w 0) (ltb (t .limits .qubits) w) e in
-    (above w (p .0), ltb-false (t .limits .qubits) w (p .1))
-
--- a width with entries is one that the table has
-pub counted : (t : Table) (w : ℕ) {k : ℕ} → k < countAt t w → (0 < w) × (w ≤ t .limits .qubits) × (countAt t w ≡ widthAt t w .count)
-counted t w h = by (notAWidth t w) refl
+-- none but that of the record is 13
+pub only-record : (t : Table) (a : Arrays) (q : Query) (out : List ℕ) → recordRow t .holds ≡ false → rowOfAnswer t a q out ≡ 13 → ⊥
+only-record t a q out r e =
+    first-number (λ (k : ℕ). k ≡ 13 → ⊥)
+    (roomRow (t .limits) a ∷ partsRow (t .limits) a ∷ (queryRows (q .width) (q .exponent) (q .bytes) ++ (listRow t out ∷ []))) (other 0 (omega arith)) (
+      other 5 (omega arith),
+      (
+        λ z. absurd (omega (arith, z, index-number (t .limits) (a .by) (length (a .index)))),
+        (other 6 (omega arith), (other 9 (omega arith), (other 10 (omega arith), (other 11 (omega arith), (other 12 (omega arith), tt))))),
+      ),
+    )
+    (sym (first-past (recordRow t) _ r) ∙ e)
   where
-    by : (b : Bool) → notAWidth t w ≡ b → (0 < w) × (w ≤ t .limits .qubits) × (countAt t w ≡ widthAt t w .count)
-    by true e = let z : countAt t w ≡ 0 = rw e in absurd (omega (arith, h, z))
-    by false e = let (p, q) = a-width t w e in (p, q, rw e)
+    other : (k : ℕ) → k < 13 → k ≡ 13 → ⊥
+    other k h z = absurd (omega (arith, h, z))
+
+-- where no row holds, none of the query's does
+pub query-passed : (t : Table) (a : Arrays) (q : Query) (out : List ℕ) → rowOfAnswer t a q out ≡ 0 → firstRow (queryRows (q .width) (q .exponent) (q .bytes)) ≡ 0
+query-passed t a q out e = good-look t (a .by) a _ (passed t a q out e .0) .3
 
 -- ---- an answer of the walk, told
 
@@ -73,6 +83,11 @@ not-refusal (some l) r out e = absurd (omega (arith, kind-of e))
 
 -- ---- a built table
 
+-- a chain is good or bad
+abbrev isBad : Chain → ℕ
+isBad (good l) = 0
+isBad bad = 1
+
 module _ (t : Table) (a : Arrays) (b : Built t a) where
   -- its basis and its limits
   abbrev B : ℕ
@@ -87,23 +102,10 @@ module _ (t : Table) (a : Arrays) (b : Built t a) where
   abbrev E : ℕ
   E = t .limits .entries
 
-  -- the query's rows and the list's decide
-  pub rows-are : (q : Query) (out : List ℕ)
+  -- the query's rows and the list's decide, where 17 does not refuse
+  pub rows-are : partsRow (t .limits) a .holds ≡ false → (q : Query) (out : List ℕ)
       → rowOfAnswer t a q out ≡ firstRow (queryRows (q .width) (q .exponent) (q .bytes) ++ (listRow t out ∷ []))
-  rows-are q out = first-past (recordRow t) _ (good-record t a b) ∙ first-past (roomRow (t .limits) a) _ (b .room)
-
-  -- so row 13 does not
-  pub rows-up-to : (q : Query) (out : List ℕ) → rowOfAnswer t a q out ≤ 12
-  rows-up-to q out =
-      let u = first-number (λ (k : ℕ). k ≤ 12) (queryRows (q .width) (q .exponent) (q .bytes) ++ (listRow t out ∷ [])) (omega arith)
-      (omega arith, (omega arith, (omega arith, (omega arith, (omega arith, tt))))) in
-      omega (arith, rows-are q out, u)
-
-  -- where no row holds, none of the query's does
-  pub query-passed : (q : Query) (out : List ℕ) → rowOfAnswer t a q out ≡ 0 → firstRow (queryRows (q .width) (q .exponent) (q .bytes)) ≡ 0
-  query-passed q out e =
-      append-none (queryRows (q .width) (q .exponent) (q .bytes)) (listRow t out ∷ []) (numbered-query (q .width) (q .exponent) (q .bytes))
-      (sym (rows-are q out) ∙ e) .0
+  rows-are p q out = look-passed t (a .by) a _ (good-record t a b) (b .room) p
 
   pub widths-small : (w : ℕ) → w ≤ Q → w ≤ 5
   widths-small w h = omega (arith, accepted (t .limits) (b .accepted) .widths)
@@ -138,25 +140,39 @@ module _ (t : Table) (a : Arrays) (b : Built t a) where
     pub chain-at : (k : ℕ) → k < widthAt t w .count → chainAt (limitsAt (t .limits) w) (partAt t a w) k ≡ good (reverse (listAt (walkOf (t .limits) w .nodes) k))
     chain-at k l = chain-held w B (widths-small w h) G E holding k (omega (arith, l, ap (λ (v : Width). v .count) (width-is t a b w p h)))
 
-    -- it answers as the walk does
-    pub part-answers : (x : Exact) (out : List ℕ)
+    -- it answers as the walk does, where the index was filled from it
+    pub part-answers : FilledFrom t a → (x : Exact) (out : List ℕ)
         → answerOf (limitsAt (t .limits) w) (partAt t a w) x out
         ≡ toldOption (answered w B G E x) out
-    part-answers x out =
-        ap (λ (j : ℕ). answerOf (limitsAt (t .limits) w) (partWith (partOf w E (a .prints)) (partOf w E (a .parents)) (partOf w E (a .codes)) j) x out)
-        (rw (has-width t w p h) (ap (λ (v : Width). v .count) (width-is t a b w p h)))
-        ∙ joined w B G E (widths-small w h) (partOf w E (a .prints)) (partOf w E (a .parents))
-        (partOf w E (a .codes)) holding x out
+    part-answers f x out =
+        let c = count-at t a b w p h in
+        ap (λ (j : ℕ). answerOf (limitsAt (t .limits) w) (part j) x out) c
+        ∙ joined w B G E (widths-small w h) (a .by) (part 0 .fingerprints) (part 0 .parents) (part 0 .codes) (part 0 .index) holding
+        (λ y. ap (λ (j : ℕ). lookedIn (part j) y) (sym c) ∙ looks-scan t a f (good-record t a b) w p h y
+        ∙ ap (λ (j : ℕ). lowestFrom (part 0 .fingerprints) j 0 y) c) x out
+      where
+        -- the part, with another count
+        part : ℕ → Part
+        part j =
+            partWith (a .by) (partOf w E (a .prints)) (partOf w E (a .parents)) (partOf w E (a .codes)) j
+            (partOf w (partSize (t .limits) (length (a .index))) (a .index))
+
+  -- whatever the index holds, what is found has no fault: it is one of the width's nodes
+  pub no-fault : (w : ℕ) (x : Exact) → BadFound (limitsAt (t .limits) w) (partAt t a w) x → ⊥
+  no-fault w x f =
+      let below = leads-below (a .by) (partAt t a w .index) (partAt t a w .fingerprints) (partAt t a w .count) 0 (fingerprint w x) (f .node) (f .leads) in
+      let (p, h, z) = counted t w below in
+      absurd (omega (arith, ap isBad (sym (chain-at w p h (f .node) (omega (arith, below, z))) ∙ bad-by _ _ _ _ _ (f .node) (f .fault))))
 
   -- ---- a query
 
   module _ (q : Query) (out : List ℕ) where
     -- that no row refuses, of a width that the table has
-    pub told-walk : rowOfAnswer t a q out ≡ 0 → notAWidth t (q .width) ≡ false → synthesized t a q out ≡ toldOption (answered (q .width) B G E (matrixOf q)) out
-    told-walk e f = let w = a-width t (q .width) f in width-asked t a q out e f ∙ part-answers (q .width) (w .0) (w .1) (matrixOf q) out
+    pub told-walk : FilledFrom t a → rowOfAnswer t a q out ≡ 0 → notAWidth t (q .width) ≡ false → synthesized t a q out ≡ toldOption (answered (q .width) B G E (matrixOf q)) out
+    told-walk x e f = let w = a-width t (q .width) f in width-asked t a q out e f ∙ part-answers (q .width) (w .0) (w .1) x (matrixOf q) out
 
     -- a list is the walk's
-    pub gives-walk : (l : List ℕ) → Gives t a q out l → answered (q .width) B G E (matrixOf q) ≡ some l
-    gives-walk l g =
+    pub gives-walk : FilledFrom t a → (l : List ℕ) → Gives t a q out l → answered (q .width) B G E (matrixOf q) ≡ some l
+    gives-walk x l g =
         let (e, f, p) = gives-asked t a q out l g in
-        told-some (answered (q .width) B G E (matrixOf q)) out l (sym (told-walk e f) ∙ g)
+        told-some (answered (q .width) B G E (matrixOf q)) out l (sym (told-walk x e f) ∙ g)

@@ -9,7 +9,7 @@ use lib.ListN.{length, drop}
 use Rattle.walk.specs.Answers.{refused, outcome}
 use Rattle.walk.specs.Meaning.{AnsweredBy, NoList, BadFound}
 use Rattle.walk.proofs.Meaning.{kind-of}
-use Rattle.tables.specs.Checks.{firstRow, Arrays, queryRows}
+use Rattle.tables.specs.Checks.{firstRow, Arrays, partsRow, queryRows}
 use Rattle.tables.specs.Tables.{Table, widthAt, Query, matrixOf, listRow, partOf, notAWidth, limitsAt, partAt}
 use Rattle.tables.specs.Built.{Built}
 use Rattle.tables.specs.Demand3.{Gives, GivesNone, Refuses, NotRefused}
@@ -69,12 +69,12 @@ module _ (t : Table) (a : Arrays) (q : Query) (out : List ℕ) where
     (λ x. width-asked t a q out (x .0) (x .1) ∙ asked-means t a q out .is-list (length l) (l ++ drop (length l) out) .1 (l, x .2, refl, refl)),
   )
 
-  -- ---- a built table: the query's rows and the list's are all
+  -- ---- a built table whose index 17 does not refuse: the query's rows and the list's are all
 
-  pub refused-built : Built t a → (r : ℕ) → Refuses t a q out r ↔ First r 0 (queryCauses q ++ (cause 12 (length out < t .limits .gates) ∷ []))
-  refused-built b r = (
-    (λ n. let (h, e) = to n (refused-by r n) in first-to words r h (sym (rows-are t a b q out) ∙ e)),
-    (λ w. let (e, h, z) = first-from words r 0 w in row-refuses t a q out r h (rows-are t a b q out ∙ e)),
+  pub refused-built : Built t a → partsRow (t .limits) a .holds ≡ false → (r : ℕ) → Refuses t a q out r ↔ First r 0 (queryCauses q ++ (cause 12 (length out < t .limits .gates) ∷ []))
+  refused-built b i r = (
+    (λ n. let (h, e) = to n (refused-by r n) in first-to words r h (sym (rows-are t a b i q out) ∙ e)),
+    (λ w. let (e, h, z) = first-from words r 0 w in row-refuses t a q out r h (rows-are t a b i q out ∙ e)),
   )
     where
       words : InWords (queryRows (q .width) (q .exponent) (q .bytes) ++ (listRow t out ∷ [])) (queryCauses q ++ (cause 12 (length out < t .limits .gates) ∷ []))
@@ -85,9 +85,9 @@ module _ (t : Table) (a : Arrays) (q : Query) (out : List ℕ) where
       to n (chain-bad z e w x) = absurd (demand .never-13 t a b q out (n ∙ ap (λ (s : ℕ). outcome (refused s 0) out) z))
 
   -- a query that none of these rows refuses is not refused
-  pub never-refused : Built t a → firstRow (queryRows (q .width) (q .exponent) (q .bytes) ++ (listRow t out ∷ [])) ≡ 0 → NotRefused t a q out
-  never-refused b e r n = by (refused-by r n)
+  pub never-refused : Built t a → partsRow (t .limits) a .holds ≡ false → firstRow (queryRows (q .width) (q .exponent) (q .bytes) ++ (listRow t out ∷ [])) ≡ 0 → NotRefused t a q out
+  never-refused b i e r n = by (refused-by r n)
     where
       by : Refusal r → ⊥
-      by (row-holds h z) = absurd (omega (arith, h, sym z ∙ (rows-are t a b q out ∙ e)))
+      by (row-holds h z) = absurd (omega (arith, h, sym z ∙ (rows-are t a b i q out ∙ e)))
       by (chain-bad z x w y) = demand .never-13 t a b q out (n ∙ ap (λ (s : ℕ). outcome (refused s 0) out) z)

@@ -6,7 +6,8 @@ use Prim.Native.Nat.{ℕ, _<_}
 use native.Mathlib.Omega.{arith}
 use lib.IntN.{ℤ}
 use Rattle.exact.proofs.Values.{pick-ind}
-use Rattle.tables.specs.Checks.{Row, firstRow, Limits, limitRows, queryRows}
+use Rattle.walk.specs.Index.{By, scan, indexed}
+use Rattle.tables.specs.Checks.{Row, firstRow, Limits, limitRows, indexRow, queryRows}
 
 -- ---- numbers of rows
 
@@ -30,6 +31,11 @@ numbered-limits l = (omega arith, (omega arith, (omega arith, (omega arith, tt))
 
 pub numbered-query : (n k : ℕ) (bytes : List ℤ) → Numbered (queryRows n k bytes)
 numbered-query n k bytes = (omega arith, (omega arith, (omega arith, (omega arith, tt))))
+
+-- by either look-up
+pub index-number : (l : Limits) (by : By) (places : ℕ) → indexRow l by places .number ≡ 17
+index-number l scan places = refl
+index-number l indexed places = refl
 
 -- ---- one row and the rest
 

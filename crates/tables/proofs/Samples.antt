@@ -1,7 +1,7 @@
 -- What the samples state: computed, or from demand 3. Assumes nothing.
 use mathlib.Core.Path.{_≡_, refl, sym, ap, _∙_, subst}
 use mathlib.Core.Logic.{_⊎_, inl, inr}
-use mathlib.Core.Bool.{true, false}
+use mathlib.Core.Bool.{true, false, not}
 use mathlib.Core.List.{List, [], _∷_}
 use mathlib.Core.Option.{Option, none, some}
 use Prim.Native.Nat.{ℕ, zero, suc, _^_, _≤_, _<_}
@@ -18,7 +18,7 @@ use Rattle.words.specs.Words
 use Rattle.words.specs.Words.{rotated, word}
 use Rattle.circuit.specs.Sets.{subset}
 use Rattle.circuit.specs.Kinds.{kindAt, number, arity, sorted, isKind, dual, ofTables}
-use Rattle.circuit.specs.Codes.{placed, rises, valid, validFor}
+use Rattle.circuit.specs.Codes.{mark, placed, rises, valid, validFor}
 use Rattle.circuit.specs.Pairs.{inverse, qubits, disjoint}
 use Rattle.generators.specs.Generators.{kept, generators}
 use Rattle.exact.specs.Matrix.{Exact, identity, lower, PowerOf}
@@ -31,6 +31,8 @@ use Rattle.exact.specs.Phase.{pivot, phaseOf, upToPhase}
 use Rattle.exact.specs.Fingerprint.{mix, fold, fingerprint}
 use Rattle.exact.specs.Places.{entry}
 use Rattle.walk.specs.Lookup.{lowestFrom}
+use Rattle.walk.specs.Index.{By, scan, probed, probeOf, inserted, freeOf}
+use Rattle.walk.specs.Index as index
 use Rattle.walk.specs.Chains.{marked, chainOf}
 use Rattle.walk.specs.Walk.{skipped, try, tryAll, layer, deeper, depths, walk}
 use Rattle.exact.proofs.Listed.{product-nil}
@@ -43,16 +45,20 @@ use Rattle.walk.proofs.Known.{present-no-clash}
 use Rattle.walk.proofs.Exactly.{no-clash}
 use Rattle.walk.proofs.NotEmpty.{no-shared, unsaturated}
 use Rattle.walk.specs.Finds.{rechecked, findOf}
+use Rattle.walk.specs.Finds as f
 use Rattle.walk.specs.Answers.{writeOf}
 use Rattle.walk.proofs.Meaning.{kind-of}
-use Rattle.tables.specs.Checks.{firstRow, Limits, limitRows, Arrays, placesOf, roomRow, anyBelow, queryRows}
-use Rattle.tables.specs.Tables.{widthAt, recordOf, builtTo, buildRows, Query, matrixOf, listRow, foundIn, writtenIn, synthesized}
-use Rattle.tables.specs.Built.{Built}
+use Rattle.tables.specs.Checks.{firstRow, Limits, limitRows, Arrays, inParts, indexRow, partsRow, anyBelow, queryRows}
+use Rattle.tables.specs.Tables.{Table, widthAt, recordOf, builtTo, refusal, left, buildRows, buildOf, filledIndex, filled, not-filled, fillLeft, fillOf, partsTo, Query, query, matrixOf, listRow, foundIn, writtenIn, synthesized}
+use Rattle.tables.specs.Built.{Built, FilledFrom}
+use Rattle.tables.specs.EitherLookup.{scanned, through}
 use Rattle.tables.specs.Demand3.{Gives, GivesNone, Refuses, NotRefused, NoSmaller, Reaches, Complete}
-use Rattle.tables.specs.Samples.{xLimits, largerLimits, chLimits, Places, askX, askT, askZero, lent, damaged, mistaken, circular, foreign, forgotten, strange, fewer, Samples}
-use Rattle.tables.proofs.Rows.{numbered-limits, numbered-query, first-here, first-past, firstRow-append}
+use Rattle.tables.specs.Samples.{xLimits, largerLimits, chLimits, Places, askX, askT, askZero, lent, damaged, mistaken, circular, foreign, forgotten, emptied, crowded, misled, one-place, no-places, strange, fewer, Samples}
+use Rattle.tables.proofs.Rows.{numbered-query, first-here, first-past, firstRow-append}
+use Rattle.tables.proofs.InWords.{not-both}
 use Rattle.tables.proofs.Accepted.{room-is}
-use Rattle.tables.proofs.FromBuild.{build-fills, build-refusal}
+use Rattle.tables.proofs.FromBuild.{rows-none, build-fills, build-refusal}
+use Rattle.tables.proofs.Asked.{partFound, answer-passed, asked-by}
 use Rattle.tables.proofs.Joined.{toldOption}
 use Rattle.tables.proofs.Replies.{rowOfAnswer, row-refuses}
 use Rattle.tables.proofs.OfBuilt.{has-width, not-refusal, rows-are, told-walk}
@@ -116,12 +122,24 @@ record Computed : Type 0 where
   past-count : FindsNone fewer damaged askX × WriteRefuses fewer damaged 1 1 lent 16
   strange-count : ltb 0 (widthAt strange 2 .count) ≡ true
   no-width : WriteRefuses strange damaged 2 0 lent 16 × WriteRefuses strange damaged 0 0 lent 16 × WriteRefuses strange damaged 4294967295 0 lent 16
+  -- how many places an index may have, what the altered index answers, and that an empty one leads nowhere
+  four-places : (inParts xLimits 4 ≡ true) × (inParts xLimits 3 ≡ false) × (inParts xLimits 2 ≡ false) × (inParts largerLimits 8 ≡ false) × (inParts largerLimits 16 ≡ true)
+  six-places : (inParts xLimits 6 ≡ false) × (inParts largerLimits 12 ≡ false) × (inParts xLimits 8 ≡ true) × (inParts xLimits 0 ≡ false)
+  one-build : (buildOf xLimits one-place ≡ left (refusal 17 0) one-place) × (buildOf xLimits no-places ≡ left (refusal 5 0) no-places)
+  one-fill : (fillOf (recordOf xLimits) one-place ≡ fillLeft (not-filled 17 0) (0 ∷ [])) × (fillOf (recordOf xLimits) no-places ≡ fillLeft (not-filled 5 0) [])
+  one-answer : Refuses (recordOf xLimits) one-place askX lent 17 × Refuses (recordOf xLimits) one-place (query 6 0 []) [] 17
+      × Refuses (recordOf xLimits) no-places askX lent 5
+  damaged-fill : fillOf (recordOf xLimits) (through damaged (0 ∷ 1 ∷ 2 ∷ mark ∷ [])) ≡ fillLeft filled (mark ∷ 1 ∷ mark ∷ 0 ∷ [])
+  damaged-filled : Gives (recordOf xLimits) (through damaged (mark ∷ 1 ∷ mark ∷ 0 ∷ [])) askX lent (4096 ∷ [])
+  crowded-x : Gives (recordOf xLimits) crowded askX lent (4096 ∷ [])
+  misled-t : GivesNone (recordOf xLimits) misled askT lent
+  emptied-found : (a : Arrays) → partFound (recordOf xLimits) (emptied a) askX ≡ f.none
   root-print : eqb 7 (fingerprint 1 identity) ≡ false
   -- X is of the basis
   x-of : ListOf 1 2 (4096 ∷ [])
 
 computed : Computed
-unfolding ofTables synthesized foundIn writtenIn recordOf firstRow subset anyBelow findOf writeOf lowestFrom chainOf marked rechecked steps answerBy recheck upToPhase eqω product walk depths deeper layer tryAll try skipped samePrint fingerprint mix fold Words.product rotated word pivot phaseOf leastUpTo less turn zeroω oneω isZero gateOf column flip lower stepFits fits valid validFor placed rises all elem distinct range each kept generators kindAt arity sorted isKind number dual inverse qubits disjoint bit entry
+unfolding ofTables buildOf fillOf filledIndex partsTo index.filled inserted freeOf synthesized foundIn writtenIn recordOf firstRow inParts subset anyBelow findOf writeOf lowestFrom probed probeOf chainOf marked rechecked steps answerBy recheck upToPhase eqω product walk depths deeper layer tryAll try skipped samePrint fingerprint mix fold Words.product rotated word pivot phaseOf leastUpTo less turn zeroω oneω isZero gateOf column flip lower stepFits fits valid validFor placed rises all elem distinct range each kept generators kindAt arity sorted isKind number dual inverse qubits disjoint bit entry
 computed = record {
   ch-limits = λ a. refl;
   x-limits = refl;
@@ -147,36 +165,49 @@ computed = record {
   past-count = (refl, refl);
   strange-count = refl;
   no-width = (refl, refl, refl);
+  four-places = (refl, refl, refl, refl, refl);
+  six-places = (refl, refl, refl, refl);
+  one-build = (refl, refl);
+  one-fill = (refl, refl);
+  one-answer = (refl, refl, refl);
+  damaged-fill = refl;
+  damaged-filled = refl;
+  crowded-x = refl;
+  misled-t = refl;
+  emptied-found = λ a. refl;
   root-print = refl;
   x-of = refl;
 }
 
 -- ---- tables of these limits
 
--- arrays with room are not refused
-fills : (l : Limits) (a : Arrays) → firstRow (limitRows l) ≡ 0 → Places (placesOf l) a → firstRow (buildRows l a) ≡ 0
-unfolding firstRow
-fills l a e p =
-    firstRow-append (limitRows l) (roomRow l a ∷ []) (numbered-limits l) e
-    ∙ first-past (roomRow l a) [] (room-is l a (p .in-prints) (p .in-parents) (p .in-codes))
+-- arrays with room, and an index in parts, are not refused
+fills : (l : Limits) (a : Arrays) → firstRow (limitRows l) ≡ 0 → Places l a → firstRow (buildRows l a) ≡ 0
+fills l a e p = rows-none l a e (room-is l a (p .in-prints) (p .in-parents) (p .in-codes)) (p .in-index)
 
-filled : (l : Limits) (a : Arrays) → firstRow (limitRows l) ≡ 0 → Places (placesOf l) a → Built (recordOf l) (builtTo l (l .qubits) a)
-filled l a e p = demand .build-built l a (builtTo l (l .qubits) a) (recordOf l) (build-fills l a (fills l a e p)) .0
+-- a build leaves a built table of the limits, and an index that is filled from it
+left-by : (l : Limits) (a : Arrays) → firstRow (limitRows l) ≡ 0 → Places l a
+    → Built (recordOf l) (builtTo l (l .qubits) a) × (recordOf l .limits ≡ l) × FilledFrom (recordOf l) (builtTo l (l .qubits) a)
+left-by l a e p = demand .build-built l a (builtTo l (l .qubits) a) (recordOf l) (build-fills l a (fills l a e p))
+
+-- only 12 may refuse a query that passes
+asked-12 : (t : Table) (a : Arrays) → Built t a → partsRow (t .limits) a .holds ≡ false → (q : Query) (out : List ℕ)
+    → firstRow (queryRows (q .width) (q .exponent) (q .bytes)) ≡ 0 → rowOfAnswer t a q out ≡ firstRow (listRow t out ∷ [])
+asked-12 t a b p q out e =
+    rows-are t a b p q out
+    ∙ firstRow-append (queryRows (q .width) (q .exponent) (q .bytes)) (listRow t out ∷ []) (numbered-query (q .width) (q .exponent) (q .bytes)) e
 
 -- a query that passes is answered as the walk does, where the lent list has G places, and otherwise is refused by 12
-module _ (l : Limits) (a : Arrays) (b : Built (recordOf l) a) (q : Query) (out : List ℕ)
+module _ (l : Limits) (a : Arrays) (b : Built (recordOf l) a) (x : FilledFrom (recordOf l) a) (q : Query) (out : List ℕ)
     (e : firstRow (queryRows (q .width) (q .exponent) (q .bytes)) ≡ 0) where
   only-12 : rowOfAnswer (recordOf l) a q out ≡ firstRow (listRow (recordOf l) out ∷ [])
-  only-12 =
-      rows-are (recordOf l) a b q out
-      ∙ firstRow-append (queryRows (q .width) (q .exponent) (q .bytes)) (listRow (recordOf l) out ∷ [])
-      (numbered-query (q .width) (q .exponent) (q .bytes)) e
+  only-12 = asked-12 (recordOf l) a b (x .parts) q out e
 
   told : l .gates ≤ length out → 0 < q .width → q .width ≤ l .qubits
       → synthesized (recordOf l) a q out ≡ toldOption (answered (q .width) (l .basis) (l .gates) (l .entries) (matrixOf q)) out
   unfolding recordOf firstRow
   told h p w =
-      told-walk (recordOf l) a b q out (only-12 ∙ first-past (listRow (recordOf l) out) [] (le-ltb (length out) (l .gates) h))
+      told-walk (recordOf l) a b q out x (only-12 ∙ first-past (listRow (recordOf l) out) [] (le-ltb (length out) (l .gates) h))
       (has-width (recordOf l) (q .width) p w)
 
   too-short : length out < l .gates → Refuses (recordOf l) a q out 12
@@ -185,24 +216,27 @@ module _ (l : Limits) (a : Arrays) (b : Built (recordOf l) a) (q : Query) (out :
       row-refuses (recordOf l) a q out 12 (omega arith)
       (only-12 ∙ first-here (listRow (recordOf l) out) [] (lt-ltb (length out) (l .gates) h))
 
-module _ (a : Arrays) (p : Places 2 a) where
+module _ (a : Arrays) (p : Places xLimits a) where
   a-table : Built (recordOf xLimits) (builtTo xLimits 1 a)
-  a-table = filled xLimits a (computed .x-limits) p
+  a-table = left-by xLimits a (computed .x-limits) p .0
+
+  a-filled : FilledFrom (recordOf xLimits) (builtTo xLimits 1 a)
+  a-filled = left-by xLimits a (computed .x-limits) p .2
 
   complete : (q : Query) → q .width ≡ 1 → Complete (recordOf xLimits) (builtTo xLimits 1 a) q
   unfolding recordOf
   complete q e =
-      demand .complete (recordOf xLimits) (builtTo xLimits 1 a) a-table (omega arith) q
+      demand .complete (recordOf xLimits) (builtTo xLimits 1 a) a-table a-filled (omega arith) q
       (subst (λ (n : ℕ). NoSharedPrint n 2 8) (sym e) (no-shared 8))
 
   gives-x : (out : List ℕ) → 8 ≤ length out → Gives (recordOf xLimits) (builtTo xLimits 1 a) askX out (4096 ∷ [])
   gives-x out h =
-      told xLimits (builtTo xLimits 1 a) a-table askX out (computed .x-passes) h (omega arith) (omega arith)
+      told xLimits (builtTo xLimits 1 a) a-table a-filled askX out (computed .x-passes) h (omega arith) (omega arith)
       ∙ ap (λ (o : Option (List ℕ)). toldOption o out) (computed .walk-x)
 
   none-t : (out : List ℕ) → 8 ≤ length out → GivesNone (recordOf xLimits) (builtTo xLimits 1 a) askT out
   none-t out h =
-      told xLimits (builtTo xLimits 1 a) a-table askT out (computed .t-passes) h (omega arith) (omega arith)
+      told xLimits (builtTo xLimits 1 a) a-table a-filled askT out (computed .t-passes) h (omega arith) (omega arith)
       ∙ ap (λ (o : Option (List ℕ)). toldOption o out) (computed .walk-t)
 
   finds-none-t : FindsNone (recordOf xLimits) (builtTo xLimits 1 a) askT
@@ -221,7 +255,7 @@ module _ (a : Arrays) (p : Places 2 a) where
   zero-passes : (out : List ℕ) → 8 ≤ length out → NotRefused (recordOf xLimits) (builtTo xLimits 1 a) askZero out
   zero-passes out h r n =
       not-refusal (answered 1 2 8 2 (matrixOf askZero)) r out
-      (sym (told xLimits (builtTo xLimits 1 a) a-table askZero out (computed .zero-passes) h (omega arith) (omega arith)) ∙ n)
+      (sym (told xLimits (builtTo xLimits 1 a) a-table a-filled askZero out (computed .zero-passes) h (omega arith) (omega arith)) ∙ n)
 
 skipped-rightly : SkippedRightly 1 2 8 2
 skipped-rightly =
@@ -234,19 +268,22 @@ skipped-rightly =
 no-smaller : NoSmaller xLimits largerLimits
 no-smaller = record { basis = refl; qubits = omega arith; gates = omega arith; entries = omega arith }
 
-module _ (a : Arrays) (p : Places 6 a) where
+module _ (a : Arrays) (p : Places largerLimits a) where
   larger-table : Built (recordOf largerLimits) (builtTo largerLimits 2 a)
-  larger-table = filled largerLimits a (computed .larger-limits) p
+  larger-table = left-by largerLimits a (computed .larger-limits) p .0
 
-  -- by (b), from a smaller table
+  larger-filled : FilledFrom (recordOf largerLimits) (builtTo largerLimits 2 a)
+  larger-filled = left-by largerLimits a (computed .larger-limits) p .2
+
+  -- by (b), from a smaller table, which is looked up by the scan
   larger-x : (out : List ℕ) → 9 ≤ length out → Gives (recordOf largerLimits) (builtTo largerLimits 2 a) askX out (4096 ∷ [])
   unfolding recordOf
   larger-x out h =
-      by (demand .larger (recordOf xLimits) (recordOf largerLimits) (builtTo xLimits 1 a) (builtTo largerLimits 2 a) (a-table a small) larger-table
-      no-smaller askX lent out (4096 ∷ []) (gives-x a small lent (omega arith)))
+      by (demand .larger (recordOf xLimits) (recordOf largerLimits) (builtTo xLimits 1 (scanned a)) (builtTo largerLimits 2 a) (a-table (scanned a) small) larger-table
+      (a-filled (scanned a) small) larger-filled no-smaller askX lent out (4096 ∷ []) (gives-x (scanned a) small lent (omega arith)))
     where
-      small : Places 2 a
-      small = record { in-prints = omega (arith, p .in-prints); in-parents = omega (arith, p .in-parents); in-codes = omega (arith, p .in-codes) }
+      small : Places xLimits (scanned a)
+      small = record { in-prints = omega (arith, p .in-prints); in-parents = omega (arith, p .in-parents); in-codes = omega (arith, p .in-codes); in-index = refl }
 
       by : Gives (recordOf largerLimits) (builtTo largerLimits 2 a) askX out (4096 ∷ [])
           ⊎ Refuses (recordOf largerLimits) (builtTo largerLimits 2 a) askX out 12
@@ -254,10 +291,10 @@ module _ (a : Arrays) (p : Places 6 a) where
       by (inl g) = g
       by (inr n) =
           absurd (not-refusal (answered 1 2 9 3 (matrixOf askX)) 12 out
-          (sym (told largerLimits (builtTo largerLimits 2 a) larger-table askX out (computed .x-passes) h (omega arith) (omega arith)) ∙ n))
+          (sym (told largerLimits (builtTo largerLimits 2 a) larger-table larger-filled askX out (computed .x-passes) h (omega arith) (omega arith)) ∙ n))
 
   larger-12 : (out : List ℕ) → length out < 9 → Refuses (recordOf largerLimits) (builtTo largerLimits 2 a) askX out 12
-  larger-12 out h = too-short largerLimits (builtTo largerLimits 2 a) larger-table askX out (computed .x-passes) h
+  larger-12 out h = too-short largerLimits (builtTo largerLimits 2 a) larger-table larger-filled askX out (computed .x-passes) h
 
 -- ---- altered memory
 
@@ -274,11 +311,43 @@ damaged-right = (
   demand .unitary (recordOf xLimits) damaged askX lent (4096 ∷ []) (computed .damaged-x),
 )
 
-not-complete : Complete (recordOf xLimits) forgotten askX → ⊥
+-- where X gets none, what (c) states does not hold
+missed : (a : Arrays) → GivesNone (recordOf xLimits) a askX lent → Complete (recordOf xLimits) a askX → ⊥
 unfolding recordOf
-not-complete c =
-    c .none-exactly (omega arith) (omega arith) unsaturated lent (λ r n. absurd (omega (arith, kind-of (sym (computed .forgotten-x) ∙ n)))) .0
-    (computed .forgotten-x) (4096 ∷ []) (record { of-basis = computed .x-of; power = damaged-right .0 }) (omega arith)
+missed a n c =
+    c .none-exactly (omega arith) (omega arith) unsaturated lent (λ r m. absurd (omega (arith, kind-of (sym n ∙ m)))) .0
+    n (4096 ∷ []) (record { of-basis = computed .x-of; power = damaged-right .0 }) (omega arith)
+
+-- ---- an empty index
+
+module _ (a : Arrays) (p : Places xLimits a) where
+  emptied-table : Built (recordOf xLimits) (emptied a)
+  emptied-table =
+      let b = a-table a p in
+      record {
+        accepted = b .accepted;
+        returned = b .returned;
+        room = b .room;
+        nodes = λ w h m j l. let n = b .nodes w h m j l in record { print = n .print; parent = n .parent; code = n .code };
+      }
+
+  emptied-x : GivesNone (recordOf xLimits) (emptied a) askX lent
+  unfolding recordOf firstRow
+  emptied-x =
+      answer-passed (recordOf xLimits) (emptied a) askX lent
+      (asked-12 (recordOf xLimits) (emptied a) emptied-table (ap not (computed .four-places .0)) askX lent (computed .x-passes))
+      ∙ asked-by (recordOf xLimits) (emptied a) askX lent (computed .emptied-found a)
+
+  -- so it was not filled from the table
+  emptied-not-filled : FilledFrom (recordOf xLimits) (emptied a) → ⊥
+  unfolding recordOf
+  emptied-not-filled x = missed (emptied a) emptied-x (demand .complete (recordOf xLimits) (emptied a) emptied-table x (omega arith) askX (no-shared 8))
+
+scan-filled : (t : Table) (a : Arrays) → a .by ≡ scan → FilledFrom t a
+scan-filled t a e = record {
+  parts = ap (λ (y : By). indexRow (t .limits) y (length (a .index)) .holds) e;
+  is = λ h. not-both e h;
+}
 
 pub samples : Samples
 samples = record {
@@ -306,7 +375,7 @@ samples = record {
   foreign-x = computed .foreign-x;
   ch-basis = λ a. build-refusal chLimits a 3 (omega arith) (computed .ch-limits a);
   forgotten-x = computed .forgotten-x;
-  not-complete = not-complete;
+  not-complete = missed forgotten (computed .forgotten-x);
   zero-not-unitary = zero-not-unitary;
   zero-passes = λ a p out h. zero-passes a p out h;
   none-zero = λ a p out h. demand .not-unitary (recordOf xLimits) (builtTo xLimits 1 a) askZero out (zero-passes a p out h) zero-not-unitary;
@@ -321,6 +390,24 @@ samples = record {
   circular-short = computed .circular-short;
   no-node = computed .no-node;
   past-count = computed .past-count;
+  some-places = (
+    record { in-prints = omega arith; in-parents = omega arith; in-codes = omega arith; in-index = refl },
+    record { in-prints = omega arith; in-parents = omega arith; in-codes = omega arith; in-index = rw (computed .four-places .0) },
+  );
+  four-places = computed .four-places;
+  six-places = computed .six-places;
+  one-build = computed .one-build;
+  one-fill = computed .one-fill;
+  one-answer = computed .one-answer;
+  damaged-fill = computed .damaged-fill;
+  damaged-filled = computed .damaged-filled;
+  emptied-table = λ a p. emptied-table a p;
+  emptied-x = λ a p. emptied-x a p;
+  emptied-not-complete = λ a p. missed (emptied a) (emptied-x a p);
+  emptied-not-filled = λ a p. emptied-not-filled a p;
+  scan-filled = scan-filled;
+  crowded-x = computed .crowded-x;
+  misled-t = computed .misled-t;
   strange-count = ltb-true 0 (widthAt strange 2 .count) (computed .strange-count);
   no-width = computed .no-width;
 }

@@ -9,7 +9,7 @@ use Rattle.walk.specs.AtWidth.{printOf, parentOf}
 use Rattle.walk.specs.Known.{SkippedRightly}
 use Rattle.tables.specs.Checks.{Limits, Arrays}
 use Rattle.tables.specs.Tables.{Table, walkOf, table, left, buildOf, widthAt, Query}
-use Rattle.tables.specs.Built.{Built}
+use Rattle.tables.specs.Built.{Built, FilledFrom}
 use Rattle.tables.specs.Demand3.{Complete}
 
 -- ---- the nodes of a width, in their order
@@ -31,12 +31,13 @@ pub record Ordered (l : Limits) (w : ℕ) : Type 0 where
 
 pub record Beside : Type 0 where
   -- demand 3's (c) from hypothesis K: every candidate of the walk that was skipped as known has a node present for it (SPECIFICATION 8.14)
-  pub complete-rightly : (t : Table) (a : Arrays) → Built t a → t .limits .gates ≤ 13
+  pub complete-rightly : (t : Table) (a : Arrays) → Built t a → FilledFrom t a → t .limits .gates ≤ 13
       → (q : Query) → SkippedRightly (q .width) (t .limits .basis) (t .limits .gates) (t .limits .entries) → Complete t a q
   -- counts are at least 1 and at most E (SPECIFICATION 6.14)
   pub counts : (t : Table) (a : Arrays) → Built t a → (w : ℕ) → 0 < w → w ≤ t .limits .qubits
       → (0 < widthAt t w .count) × (widthAt t w .count ≤ t .limits .entries)
   -- the nodes that a built table holds are in order
   pub ordered : (t : Table) (a : Arrays) → Built t a → (w : ℕ) → 0 < w → w ≤ t .limits .qubits → Ordered (t .limits) w
-  -- a table is built exactly where a build of its limits in its arrays returns its record and changes no place (SPECIFICATION 8.11)
-  pub built-again : (t : Table) (a : Arrays) → Built t a ↔ (buildOf (t .limits) a ≡ left (table t) a)
+  -- a table is built, and an index is filled from it, exactly where a build of its limits in its arrays returns its record and changes no place
+  -- (SPECIFICATION 8.11, 8.16)
+  pub built-again : (t : Table) (a : Arrays) → (Built t a × FilledFrom t a) ↔ (buildOf (t .limits) a ≡ left (table t) a)

@@ -1,4 +1,4 @@
--- The table of refusals (SPECIFICATION 9.1): rows 1 to 5, and a query's rows 6, 9, 10, 11; rows 12 and 13 are in Tables.antt. A row is a test
+-- The table of refusals (SPECIFICATION 9.1): rows 1 to 5 and 17, and a query's rows 6, 9, 10, 11; rows 12, 13 and 16 are in Tables.antt. A row is a test
 -- and a number, and rows stand in the order in which they are tried, so that an order is read off a list. Assumes nothing.
 use mathlib.Core.Bool.{Bool, false, not, _&&_, _||_}
 use mathlib.Core.List.{List, [], _∷_}
@@ -6,11 +6,13 @@ use Prim.Native.Nat.{ℕ, _*_, _^_}
 use lib.IntN.{ℤ, negsuc}
 use lib.Dec.{eqb, ltb}
 use lib.ListN.{length}
-use Rattle.ints.specs.Lists.{pick}
+use Rattle.ints.specs.Lists.{pick, range}
 use Rattle.cyclotomic.specs.Zomega.{limit, eqZ}
 use Rattle.circuit.specs.Sets.{supported, subset}
 use Rattle.exact.specs.Matrix.{allDivisible}
 use Rattle.exact.specs.Places.{read}
+use Rattle.walk.specs.Walk.{any}
+use Rattle.walk.specs.Index.{By, scan, indexed}
 
 -- ---- rows: the first that holds is told (SPECIFICATION 9.2)
 
@@ -45,16 +47,23 @@ limitRows l =
     row (eqb (l .qubits) 0 || ltb 5 (l .qubits)) 1 ∷ row (eqb (l .entries) 0) 2 ∷ row (eqb (l .basis) 0 || not (subset (l .basis) supported)) 3
     ∷ row (ltb 64 (l .gates) || ltb 1000000 (l .entries)) 4 ∷ []
 
--- ---- the three arrays
+-- ---- the three arrays and the index
 
--- fingerprints, parents and codes, each as long as the caller has made it (SPECIFICATION 6.2)
+-- fingerprints, parents and codes, each as long as the caller has made it (SPECIFICATION 6.2); how nodes are looked up, and the index for it, at
+-- which the scan does not look (7.13)
 pub record Arrays : Type 0 where
   pub prints : List ℕ
   pub parents : List ℕ
   pub codes : List ℕ
+  pub by : By
+  pub index : List ℕ
 
+abbrev pub arraysBy : By → List ℕ → List ℕ → List ℕ → List ℕ → Arrays
+arraysBy by f u c i = record { prints = f; parents = u; codes = c; by = by; index = i }
+
+-- looked up by the scan, with no index lent
 abbrev pub arrays : List ℕ → List ℕ → List ℕ → Arrays
-arrays f u c = record { prints = f; parents = u; codes = c }
+arrays f u c = arraysBy scan f u c []
 
 -- how many places a table has in each array (SPECIFICATION 6.2)
 abbrev pub placesOf : Limits → ℕ
@@ -70,6 +79,19 @@ shortRow l f u c = row (tooShort l f u c) 5
 
 abbrev pub roomRow : Limits → Arrays → Row
 roomRow l a = shortRow l (length (a .prints)) (length (a .parents)) (length (a .codes))
+
+-- so many places are one part for each width up to Q, all of one size, which is a power of two and at least twice E (SPECIFICATION 7.16). Since
+-- 2^m is above m, the m below the number of places are all that can be meant
+unfoldable pub inParts : Limits → ℕ → Bool
+inParts l places = any (λ m. eqb places (l .qubits * 2 ^ m) && not (ltb (2 ^ m) (2 * l .entries))) (range 0 places)
+
+-- row 17, of an index of so many places; the scan asks for none (SPECIFICATION 9.1)
+abbrev pub indexRow : Limits → By → ℕ → Row
+indexRow l scan places = row false 17
+indexRow l indexed places = row (not (inParts l places)) 17
+
+abbrev pub partsRow : Limits → Arrays → Row
+partsRow l a = indexRow l (a .by) (length (a .index))
 
 -- ---- a query
 

@@ -1,5 +1,5 @@
--- Demand 3, of what the public entries answer: `build` answers `buildOf`, and `synthesize` answers `synthesized`, for every input. Its parts
--- are (a) an answer is right, (b) larger tables agree, (c) shortest, and what none means (SPECIFICATION 8.3 to 8.5), and (d) what follows of
+-- Demand 3, of what the public entries answer: `build_by` answers `buildOf`, and `synthesize_by` answers `synthesized`, for every input and by
+-- either look-up. Its parts are (a) an answer is right, (b) larger tables agree, (c) shortest, and what none means (SPECIFICATION 8.3 to 8.5), and (d) what follows of
 -- matrices that are not unitary and of built tables (7.8). Lists are oldest gate first. Assumes nothing.
 use mathlib.Core.Path.{_≡_}
 use mathlib.Core.Logic.{_↔_, _⊎_}
@@ -13,8 +13,8 @@ use Rattle.exact.specs.Unitary.{Unitary}
 use Rattle.walk.specs.AtWidth.{ListOf, NoSharedPrint}
 use Rattle.walk.specs.Answers.{given, none, refused, outcome}
 use Rattle.tables.specs.Checks.{Limits, Arrays}
-use Rattle.tables.specs.Tables.{Table, walkOf, table, refusal, left, buildOf, widthAt, Query, matrixOf, synthesized}
-use Rattle.tables.specs.Built.{Built}
+use Rattle.tables.specs.Tables.{Table, table, refusal, left, buildOf, widthAt, Query, matrixOf, synthesized}
+use Rattle.tables.specs.Built.{Built, FilledFrom}
 
 -- ---- what a table answers
 
@@ -74,14 +74,14 @@ pub record Demand3 : Type 0 where
   -- one of the basis at the width, of at most G gates (SPECIFICATION 8.3)
   pub right : (t : Table) (a : Arrays) (q : Query) (out l : List ℕ) → Gives t a q out l
       → PowerOf (q .width) (matrixOf q) (product (q .width) l) × ListOf (q .width) (t .limits .basis) l × (length l ≤ t .limits .gates)
-  -- a build that is not refused leaves a built table of its limits (SPECIFICATION 8.11)
-  pub build-built : (l : Limits) (a b : Arrays) (t : Table) → buildOf l a ≡ left (table t) b → Built t b × (t .limits ≡ l)
+  -- a build that is not refused leaves a built table of its limits, and by the index one that is filled from it (SPECIFICATION 8.11, 8.16)
+  pub build-built : (l : Limits) (a b : Arrays) (t : Table) → buildOf l a ≡ left (table t) b → Built t b × (t .limits ≡ l) × FilledFrom t b
   -- (b) the list that a built table gives is given by each larger one too, or that one refuses by 12, since its gate limit wants a longer
   -- lent list (SPECIFICATION 8.4)
-  pub larger : (t t′ : Table) (a a′ : Arrays) → Built t a → Built t′ a′ → NoSmaller (t .limits) (t′ .limits) → (q : Query) (out out′ l : List ℕ)
-      → Gives t a q out l → Gives t′ a′ q out′ l ⊎ Refuses t′ a′ q out′ 12
+  pub larger : (t t′ : Table) (a a′ : Arrays) → Built t a → Built t′ a′ → FilledFrom t a → FilledFrom t′ a′ → NoSmaller (t .limits) (t′ .limits)
+      → (q : Query) (out out′ l : List ℕ) → Gives t a q out l → Gives t′ a′ q out′ l ⊎ Refuses t′ a′ q out′ 12
   -- (c) up to 13 gates, where every step of a list of the basis fits, and with no clash at the query's width (SPECIFICATION 8.5, 8.14)
-  pub complete : (t : Table) (a : Arrays) → Built t a → t .limits .gates ≤ 13
+  pub complete : (t : Table) (a : Arrays) → Built t a → FilledFrom t a → t .limits .gates ≤ 13
       → (q : Query) → NoSharedPrint (q .width) (t .limits .basis) (t .limits .gates) → Complete t a q
   -- (d) a query that gets a list is unitary, and one that is not gets none; a built table is never refused by 13 (SPECIFICATION 7.8)
   pub unitary : (t : Table) (a : Arrays) (q : Query) (out l : List ℕ) → Gives t a q out l → Unitary (q .width) (matrixOf q)

@@ -1,12 +1,12 @@
 -- Which input is refused, by which number and at which position, exactly (SPECIFICATION 9.1 to 9.3): the rows of each public entry in words,
--- in their order; a build, a find, a write, an answer and a list are refused by a row exactly where it holds and none before it does. The rows
+-- in their order; a build, a fill, a find, a write, an answer and a list are refused by a row exactly where it holds and none before it does. The rows
 -- are told again here, as what is so and not as a test, so that the tests of Checks, Tables and Lists are checked against them. Tests of the
 -- lower floors, as `subset`, `valid` and `allDivisible`, are taken as they are. Assumes nothing.
 use mathlib.Core.Path.{_≡_}
 use mathlib.Core.Logic.{_↔_, _⊎_}
 use mathlib.Core.Bool.{true, false}
 use mathlib.Core.List.{List, [], _∷_, _++_}
-use Prim.Native.Nat.{ℕ, _≤_, _<_}
+use Prim.Native.Nat.{ℕ, _*_, _^_, _≤_, _<_}
 use lib.IntN.{ℤ, pos, negsuc}
 use lib.ListN.{length, getD}
 use Rattle.cyclotomic.specs.Zomega.{limit}
@@ -17,11 +17,13 @@ use Rattle.exact.specs.Lists.{product}
 use Rattle.exact.specs.Fits.{FirstPast}
 use Rattle.exact.specs.Answers as e
 use Rattle.exact.specs.Places.{read}
+use Rattle.walk.specs.Index.{By, indexed}
 use Rattle.walk.specs.Finds as f
 use Rattle.walk.specs.Answers.{refused, outcome}
 use Rattle.walk.specs.Meaning.{Fault, BadFound}
 use Rattle.tables.specs.Checks.{Limits, Arrays, placesOf, byteCount}
-use Rattle.tables.specs.Tables.{Table, widthAt, recordOf, builtTo, table, refusal, left, buildOf, Query, matrixOf, limitsAt, partAt, foundIn, writtenIn, synthesized}
+use Rattle.tables.specs.Tables.{Table, widthAt, recordOf, builtTo, table, refusal, left, buildOf, filledIndex, filled, not-filled, fillLeft, fillOf, Query, matrixOf}
+use Rattle.tables.specs.Tables.{limitsAt, partAt, foundIn, writtenIn, synthesized}
 use Rattle.tables.specs.Lists as lists
 use Rattle.tables.specs.Lists.{coefficients, listed}
 
@@ -69,9 +71,20 @@ module _ (l : Limits) where
   abbrev pub Short : Arrays → Type 0
   Short a = (length (a .prints) < placesOf l) ⊎ (length (a .parents) < placesOf l) ⊎ (length (a .codes) < placesOf l)
 
-  -- rows 1 to 5, in the order of a build
+  -- an index of so many places, not none, is Q parts of one size, a power of two, at least twice E
+  pub record InParts (places : ℕ) : Type 0 where
+    pub some : 0 < places
+    pub power : ℕ
+    pub in-all : places ≡ l .qubits * 2 ^ power
+    pub large : 2 * l .entries ≤ 2 ^ power
+
+  -- nodes are looked up through an index that is not such parts
+  abbrev pub NotInParts : By → ℕ → Type 0
+  NotInParts by places = (by ≡ indexed) × (InParts places → ⊥)
+
+  -- rows 1 to 5 and 17, in the order of a build
   abbrev pub buildCauses : Arrays → List Cause
-  buildCauses a = limitCauses ++ (cause 5 (Short a) ∷ [])
+  buildCauses a = limitCauses ++ (cause 5 (Short a) ∷ cause 17 (NotInParts (a .by) (length (a .index))) ∷ [])
 
 -- ---- an answer
 
@@ -104,13 +117,17 @@ pub record BadChain (t : Table) (a : Arrays) (q : Query) : Type 0 where
 abbrev pub tableCauses : Table → Arrays → List Cause
 tableCauses t a = cause 13 (BadRecord t) ∷ cause 5 (Short (t .limits) a) ∷ []
 
+-- then 17, by the look-up: a fill is by the index
+abbrev pub lookCauses : Table → By → Arrays → List Cause
+lookCauses t by a = tableCauses t a ++ (cause 17 (NotInParts (t .limits) by (length (a .index))) ∷ [])
+
 -- then 6, 9, 10, 11, 12, 13 of the chain found: the order of an answer
 abbrev pub answerCauses : Table → Arrays → Query → List ℕ → List Cause
-answerCauses t a q out = tableCauses t a ++ (queryCauses q ++ (cause 12 (length out < t .limits .gates) ∷ cause 13 (BadChain t a q) ∷ []))
+answerCauses t a q out = lookCauses t (a .by) a ++ (queryCauses q ++ (cause 12 (length out < t .limits .gates) ∷ cause 13 (BadChain t a q) ∷ []))
 
 -- the same but for 12: the order of a find
 abbrev pub findCauses : Table → Arrays → Query → List Cause
-findCauses t a q = tableCauses t a ++ (queryCauses q ++ (cause 13 (BadChain t a q) ∷ []))
+findCauses t a q = lookCauses t (a .by) a ++ (queryCauses q ++ (cause 13 (BadChain t a q) ∷ []))
 
 -- the table does not have the width, or the width has k nodes or fewer
 pub data NoNode (t : Table) (w k : ℕ) : Type 0 where
@@ -148,6 +165,8 @@ listCauses n codes bytes =
 pub record Exactly : Type 0 where
   pub build : (l : Limits) (a b : Arrays) (r p : ℕ) → (buildOf l a ≡ left (refusal r p) b) ↔ (First r p (buildCauses l a) × (b ≡ a))
   pub built : (l : Limits) (a : Arrays) → (buildOf l a ≡ left (table (recordOf l)) (builtTo l (l .qubits) a)) ↔ NoCause (buildCauses l a)
+  pub fill : (t : Table) (a : Arrays) (i : List ℕ) (r p : ℕ) → (fillOf t a ≡ fillLeft (not-filled r p) i) ↔ (First r p (lookCauses t indexed a) × (i ≡ a .index))
+  pub fills : (t : Table) (a : Arrays) → (fillOf t a ≡ fillLeft filled (filledIndex t a)) ↔ NoCause (lookCauses t indexed a)
   pub answer : (t : Table) (a : Arrays) (q : Query) (out after : List ℕ) (r p : ℕ)
       → (synthesized t a q out ≡ outcome (refused r p) after) ↔ (First r p (answerCauses t a q out) × (after ≡ out))
   pub find : (t : Table) (a : Arrays) (q : Query) (r p : ℕ) → (foundIn t a q ≡ f.refused r p) ↔ First r p (findCauses t a q)

@@ -15,7 +15,7 @@ use Rattle.walk.specs.Finds as f
 use Rattle.walk.specs.Answers.{given, refused, outcome}
 use Rattle.tables.specs.Checks.{Arrays}
 use Rattle.tables.specs.Tables.{Table, widthAt, countAt, Query, matrixOf, foundIn, writtenIn}
-use Rattle.tables.specs.Built.{Built}
+use Rattle.tables.specs.Built.{Built, FilledFrom}
 use Rattle.tables.specs.Demand3.{Gives, GivesNone, Refuses, NoSmaller, Reaches, Complete}
 
 -- ---- what is found
@@ -80,8 +80,8 @@ pub record FindWrite : Type 0 where
       → (length l ≡ m) × PowerOf (q .width) (matrixOf q) (product (q .width) l) × ListOf (q .width) (t .limits .basis) l × (length l ≤ t .limits .gates)
   pub unitary : (t : Table) (a : Arrays) (q : Query) (k m : ℕ) → Finds t a q k m → Unitary (q .width) (matrixOf q)
   -- of built tables: a larger one finds a node too, of as many gates, and its write gives the same list or is refused by 12
-  pub larger : (t t′ : Table) (a a′ : Arrays) → Built t a → Built t′ a′ → NoSmaller (t .limits) (t′ .limits) → (q : Query) (k m : ℕ) → Finds t a q k m
-      → (k′ : ℕ) × Finds t′ a′ q k′ m
+  pub larger : (t t′ : Table) (a a′ : Arrays) → Built t a → Built t′ a′ → FilledFrom t a → FilledFrom t′ a′ → NoSmaller (t .limits) (t′ .limits)
+      → (q : Query) (k m : ℕ) → Finds t a q k m → (k′ : ℕ) × Finds t′ a′ q k′ m
       × ((out out′ l : List ℕ) → Writes t a (q .width) k out l → Writes t′ a′ (q .width) k′ out′ l ⊎ WriteRefuses t′ a′ (q .width) k′ out′ 12)
   -- wherever an answer is shortest and none means that there is no list, so it is with a find
   pub complete : (t : Table) (a : Arrays) (q : Query) → Complete t a q → FindComplete t a q

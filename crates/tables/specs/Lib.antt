@@ -3,6 +3,7 @@ pub mod Tables
 pub mod Built
 pub mod Demand3
 pub mod FindWrite
+pub mod EitherLookup
 pub mod Lists
 pub mod Demand2
 pub mod Exactly

@@ -1,7 +1,7 @@
 -- Demand 3 is not vacuous: tables of X alone, which meet every condition of it, and memory that no build left, of which it says what it
 -- should (SPECIFICATION 8.14). Assumes nothing.
 use mathlib.Core.Path.{_≡_}
-use mathlib.Core.Bool.{false}
+use mathlib.Core.Bool.{true, false}
 use mathlib.Core.List.{List, [], _∷_}
 use Prim.Native.Nat.{ℕ, _≤_, _<_}
 use lib.IntN.{pos}
@@ -14,10 +14,12 @@ use Rattle.exact.specs.Unitary.{Unitary}
 use Rattle.exact.specs.Fingerprint.{fingerprint}
 use Rattle.walk.specs.AtWidth.{NoSharedPrint}
 use Rattle.walk.specs.Known.{SkippedRightly}
-use Rattle.tables.specs.Checks.{Limits, Arrays, arrays}
-use Rattle.tables.specs.Tables.{Table, widthAt, rowOf, walkOf, recordOf, builtTo, table, refusal, left, buildOf, Query, query, matrixOf}
-use Rattle.tables.specs.Built.{Built}
+use Rattle.walk.specs.Index.{scan, indexed}
+use Rattle.tables.specs.Checks.{Limits, Arrays, arrays, arraysBy, placesOf, inParts, partsRow}
+use Rattle.tables.specs.Tables.{Table, widthAt, rowOf, walkOf, recordOf, builtTo, table, refusal, left, buildOf, filled, not-filled, fillLeft, fillOf, Query, query, matrixOf}
+use Rattle.tables.specs.Built.{Built, FilledFrom}
 use Rattle.tables.specs.Demand3.{Gives, GivesNone, Refuses, NotRefused, NoSmaller, Reaches, Complete}
+use Rattle.tables.specs.EitherLookup.{through}
 use Rattle.tables.specs.FindWrite.{Finds, FindsNone, FindRefuses, Writes, WriteRefuses}
 
 -- ---- limits and arrays
@@ -34,11 +36,12 @@ largerLimits = record { qubits = 2; gates = 9; entries = 3; basis = 2 }
 abbrev pub chLimits : Limits
 chLimits = record { qubits = 1; gates = 8; entries = 2; basis = 33554434 }
 
--- each array has m places or more; they may hold anything
-pub record Places (m : ℕ) (a : Arrays) : Type 0 where
-  pub in-prints : m ≤ length (a .prints)
-  pub in-parents : m ≤ length (a .parents)
-  pub in-codes : m ≤ length (a .codes)
+-- the arrays and, where it is used, the index have the places that the limits want; they may hold anything
+pub record Places (l : Limits) (a : Arrays) : Type 0 where
+  pub in-prints : placesOf l ≤ length (a .prints)
+  pub in-parents : placesOf l ≤ length (a .parents)
+  pub in-codes : placesOf l ≤ length (a .codes)
+  pub in-index : partsRow l a .holds ≡ false
 
 -- ---- queries of width 1 and exponent 0
 
@@ -86,6 +89,27 @@ foreign = arrays (7 ∷ fingerprint 1 (matrixOf askX) ∷ []) (mark ∷ 0 ∷ []
 abbrev pub forgotten : Arrays
 forgotten = arrays (7 ∷ 7 ∷ []) (mark ∷ 0 ∷ []) (mark ∷ 4096 ∷ [])
 
+-- ---- the same through an index of 4 places
+
+-- a built table whose index is empty
+abbrev pub emptied : Arrays → Arrays
+emptied a = through (builtTo xLimits 1 a) (mark ∷ mark ∷ mark ∷ mark ∷ [])
+
+-- no place is empty: three lead past the count, the last to node 1
+abbrev pub crowded : Arrays
+crowded = arraysBy indexed (7 ∷ fingerprint 1 (matrixOf askX) ∷ []) (mark ∷ 0 ∷ []) (mark ∷ 4096 ∷ []) (2 ∷ 2 ∷ 2 ∷ 1 ∷ [])
+
+-- every place leads to node 1, which has the fingerprint of T and is X
+abbrev pub misled : Arrays
+misled = arraysBy indexed (7 ∷ fingerprint 1 (matrixOf askT) ∷ []) (mark ∷ 0 ∷ []) (mark ∷ 4096 ∷ []) (1 ∷ 1 ∷ 1 ∷ 1 ∷ [])
+
+-- the damaged memory with one place, which is no part for two entries; and no places at all
+abbrev pub one-place : Arrays
+one-place = through damaged (0 ∷ [])
+
+abbrev pub no-places : Arrays
+no-places = arraysBy indexed [] [] [] []
+
 -- a record of the same limits with counts at widths that the table does not have
 abbrev pub strange : Table
 strange = record { limits = xLimits; widths = rowOf xLimits 1 ∷ rowOf xLimits 1 ∷ rowOf xLimits 1 ∷ [] }
@@ -99,25 +123,25 @@ pub record Samples : Type 0 where
   pub x-is : Equal 1 (matrixOf askX) (product 1 (4096 ∷ []))
   pub t-is : Equal 1 (matrixOf askT) (product 1 (20480 ∷ []))
   -- with these limits a build is not refused, and leaves a built table
-  pub builds : (a : Arrays) → Places 2 a → buildOf xLimits a ≡ left (table (recordOf xLimits)) (builtTo xLimits 1 a)
-  pub a-table : (a : Arrays) → Places 2 a → Built (recordOf xLimits) (builtTo xLimits 1 a)
+  pub builds : (a : Arrays) → Places xLimits a → buildOf xLimits a ≡ left (table (recordOf xLimits)) (builtTo xLimits 1 a)
+  pub a-table : (a : Arrays) → Places xLimits a → Built (recordOf xLimits) (builtTo xLimits 1 a)
   -- (c): every condition is met, so what (c) states holds of each query of width 1, and width 1 is not saturated
   pub no-shared : NoSharedPrint 1 2 8
   pub skipped-rightly : SkippedRightly 1 2 8 2
-  pub complete : (a : Arrays) → Places 2 a → (q : Query) → q .width ≡ 1 → Complete (recordOf xLimits) (builtTo xLimits 1 a) q
+  pub complete : (a : Arrays) → Places xLimits a → (q : Query) → q .width ≡ 1 → Complete (recordOf xLimits) (builtTo xLimits 1 a) q
   pub unsaturated : walkOf xLimits 1 .saturated ≡ false
   -- X gets the list X; T gets none, and so no list of X within 8 gates has its product
-  pub gives-x : (a : Arrays) → Places 2 a → (out : List ℕ) → 8 ≤ length out → Gives (recordOf xLimits) (builtTo xLimits 1 a) askX out (4096 ∷ [])
-  pub none-t : (a : Arrays) → Places 2 a → (out : List ℕ) → 8 ≤ length out → GivesNone (recordOf xLimits) (builtTo xLimits 1 a) askT out
-  pub no-t : (a : Arrays) → Places 2 a → (m : List ℕ) → Reaches (recordOf xLimits) askT m → length m ≤ 8 → ⊥
+  pub gives-x : (a : Arrays) → Places xLimits a → (out : List ℕ) → 8 ≤ length out → Gives (recordOf xLimits) (builtTo xLimits 1 a) askX out (4096 ∷ [])
+  pub none-t : (a : Arrays) → Places xLimits a → (out : List ℕ) → 8 ≤ length out → GivesNone (recordOf xLimits) (builtTo xLimits 1 a) askT out
+  pub no-t : (a : Arrays) → Places xLimits a → (m : List ℕ) → Reaches (recordOf xLimits) askT m → length m ≤ 8 → ⊥
   -- (b): a larger table gives the same list where the lent list has G places, and refuses by 12 where it has fewer
   pub no-smaller : NoSmaller xLimits largerLimits
   -- and any limits are no smaller than themselves
   pub same-limits : (l : Limits) → NoSmaller l l
-  pub larger-table : (a : Arrays) → Places 6 a → Built (recordOf largerLimits) (builtTo largerLimits 2 a)
-  pub larger-x : (a : Arrays) → Places 6 a → (out : List ℕ) → 9 ≤ length out
+  pub larger-table : (a : Arrays) → Places largerLimits a → Built (recordOf largerLimits) (builtTo largerLimits 2 a)
+  pub larger-x : (a : Arrays) → Places largerLimits a → (out : List ℕ) → 9 ≤ length out
       → Gives (recordOf largerLimits) (builtTo largerLimits 2 a) askX out (4096 ∷ [])
-  pub larger-12 : (a : Arrays) → Places 6 a → (out : List ℕ) → length out < 9
+  pub larger-12 : (a : Arrays) → Places largerLimits a → (out : List ℕ) → length out < 9
       → Refuses (recordOf largerLimits) (builtTo largerLimits 2 a) askX out 12
   -- (a): the damaged memory is no built table; it answers X by a list, whose product is a power of omega times X, and X is unitary
   pub not-a-table : Built (recordOf xLimits) damaged → ⊥
@@ -134,11 +158,11 @@ pub record Samples : Type 0 where
   pub not-complete : Complete (recordOf xLimits) forgotten askX → ⊥
   -- (d): the zero matrix is not unitary, is not refused, and gets none
   pub zero-not-unitary : Unitary 1 (matrixOf askZero) → ⊥
-  pub zero-passes : (a : Arrays) → Places 2 a → (out : List ℕ) → 8 ≤ length out → NotRefused (recordOf xLimits) (builtTo xLimits 1 a) askZero out
-  pub none-zero : (a : Arrays) → Places 2 a → (out : List ℕ) → 8 ≤ length out → GivesNone (recordOf xLimits) (builtTo xLimits 1 a) askZero out
+  pub zero-passes : (a : Arrays) → Places xLimits a → (out : List ℕ) → 8 ≤ length out → NotRefused (recordOf xLimits) (builtTo xLimits 1 a) askZero out
+  pub none-zero : (a : Arrays) → Places xLimits a → (out : List ℕ) → 8 ≤ length out → GivesNone (recordOf xLimits) (builtTo xLimits 1 a) askZero out
   -- the same of a find and a write: a built table finds X, and writes its list
-  pub finds-x : (a : Arrays) → Places 2 a → (k : ℕ) × Finds (recordOf xLimits) (builtTo xLimits 1 a) askX k 1 × Writes (recordOf xLimits) (builtTo xLimits 1 a) 1 k lent (4096 ∷ [])
-  pub finds-none-t : (a : Arrays) → Places 2 a → FindsNone (recordOf xLimits) (builtTo xLimits 1 a) askT
+  pub finds-x : (a : Arrays) → Places xLimits a → (k : ℕ) × Finds (recordOf xLimits) (builtTo xLimits 1 a) askX k 1 × Writes (recordOf xLimits) (builtTo xLimits 1 a) 1 k lent (4096 ∷ [])
+  pub finds-none-t : (a : Arrays) → Places xLimits a → FindsNone (recordOf xLimits) (builtTo xLimits 1 a) askT
   -- whatever the memory holds, a node found has the product asked; a write looks at no product
   pub damaged-find : Finds (recordOf xLimits) damaged askX 1 1
   pub damaged-write : Writes (recordOf xLimits) damaged 1 1 lent (4096 ∷ [])
@@ -151,6 +175,29 @@ pub record Samples : Type 0 where
   pub no-node : WriteRefuses (recordOf xLimits) circular 1 2 [] 16
   -- what lies past the count is neither found nor written
   pub past-count : FindsNone fewer damaged askX × WriteRefuses fewer damaged 1 1 lent 16
+  -- there are such arrays, looked up either way
+  pub some-places : Places xLimits (arrays (0 ∷ 0 ∷ []) (0 ∷ 0 ∷ []) (0 ∷ 0 ∷ [])) × Places xLimits (arraysBy indexed (0 ∷ 0 ∷ []) (0 ∷ 0 ∷ []) (0 ∷ 0 ∷ []) (0 ∷ 0 ∷ 0 ∷ 0 ∷ []))
+  -- an index of 4 places is one part of them, and so is one of 8; 3, 2, 6, and 8 or 12 in two parts for 3 entries are not what the limits want
+  pub four-places : (inParts xLimits 4 ≡ true) × (inParts xLimits 3 ≡ false) × (inParts xLimits 2 ≡ false) × (inParts largerLimits 8 ≡ false) × (inParts largerLimits 16 ≡ true)
+  pub six-places : (inParts xLimits 6 ≡ false) × (inParts largerLimits 12 ≡ false) × (inParts xLimits 8 ≡ true) × (inParts xLimits 0 ≡ false)
+  -- what is not in parts is refused by 17: after 5, before the query is looked at; the scan does not look at it
+  pub one-build : (buildOf xLimits one-place ≡ left (refusal 17 0) one-place) × (buildOf xLimits no-places ≡ left (refusal 5 0) no-places)
+  pub one-fill : (fillOf (recordOf xLimits) one-place ≡ fillLeft (not-filled 17 0) (0 ∷ [])) × (fillOf (recordOf xLimits) no-places ≡ fillLeft (not-filled 5 0) [])
+  pub one-answer : Refuses (recordOf xLimits) one-place askX lent 17 × Refuses (recordOf xLimits) one-place (query 6 0 []) [] 17
+      × Refuses (recordOf xLimits) no-places askX lent 5
+  -- a fill from the damaged memory, and what it then answers
+  pub damaged-fill : fillOf (recordOf xLimits) (through damaged (0 ∷ 1 ∷ 2 ∷ mark ∷ [])) ≡ fillLeft filled (mark ∷ 1 ∷ mark ∷ 0 ∷ [])
+  pub damaged-filled : Gives (recordOf xLimits) (through damaged (mark ∷ 1 ∷ mark ∷ 0 ∷ [])) askX lent (4096 ∷ [])
+  -- an index that was not filled from the built table at hand misses X, so that none says nothing: that it was is asked with reason
+  pub emptied-table : (a : Arrays) → Places xLimits a → Built (recordOf xLimits) (emptied a)
+  pub emptied-x : (a : Arrays) → Places xLimits a → GivesNone (recordOf xLimits) (emptied a) askX lent
+  pub emptied-not-complete : (a : Arrays) → Places xLimits a → Complete (recordOf xLimits) (emptied a) askX → ⊥
+  pub emptied-not-filled : (a : Arrays) → Places xLimits a → FilledFrom (recordOf xLimits) (emptied a) → ⊥
+  -- by the scan nothing is asked of an index, and any may be lent
+  pub scan-filled : (t : Table) (a : Arrays) → a .by ≡ scan → FilledFrom t a
+  -- places at or past the count are passed over, and X is found behind them; what a place leads to is rechecked
+  pub crowded-x : Gives (recordOf xLimits) crowded askX lent (4096 ∷ [])
+  pub misled-t : GivesNone (recordOf xLimits) misled askT lent
   -- widths that the table does not have have no nodes, whatever the record says
   pub strange-count : 0 < widthAt strange 2 .count
   pub no-width : WriteRefuses strange damaged 2 0 lent 16 × WriteRefuses strange damaged 0 0 lent 16 × WriteRefuses strange damaged 4294967295 0 lent 16

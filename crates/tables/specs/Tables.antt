@@ -1,8 +1,9 @@
--- What a build leaves in three lent arrays and returns, and what a lent table answers, for every input (SPECIFICATION, chapters 6 and 7). The
--- contracts of `build`, `find`, `write` and `synthesize` are these definitions, and the demands are stated of them. Assumes nothing.
+-- What a build leaves in three lent arrays and an index and returns, what a fill leaves in the index, and what a lent table answers, for every
+-- input and by either look-up (SPECIFICATION, chapters 6 and 7). The contracts of `build`, `fill_index`, `find`, `write` and `synthesize` are these
+-- definitions, and the demands are stated of them. Assumes nothing.
 use mathlib.Core.Bool.{Bool, false, not, _&&_, _||_}
 use mathlib.Core.List.{List, [], _∷_, _++_, map}
-use Prim.Native.Nat.{ℕ, zero, suc, _*_, _-_}
+use Prim.Native.Nat.{ℕ, zero, suc, _*_, _-_, _/_}
 use lib.IntN.{ℤ}
 use lib.Dec.{eqb, ltb}
 use lib.ListN.{length, getD, take, drop}
@@ -11,10 +12,11 @@ use Rattle.exact.specs.Matrix.{Exact}
 use Rattle.exact.specs.Places.{held}
 use Rattle.walk.specs.Walk.{Build, gate, any}
 use Rattle.walk.specs.AtWidth.{built, printOf, parentOf}
+use Rattle.walk.specs.Index.{By, indexed, kept}
 use Rattle.walk.specs.Finds.{WidthLimits, Part, partWith, Finding, findOf}
 use Rattle.walk.specs.Finds as f
 use Rattle.walk.specs.Answers.{refused, Outcome, outcome, writeOf, thenWrite}
-use Rattle.tables.specs.Checks.{Row, row, firstRow, Limits, limitRows, Arrays, shortRow, roomRow, queryRows}
+use Rattle.tables.specs.Checks.{Row, row, firstRow, Limits, limitRows, Arrays, shortRow, roomRow, indexRow, partsRow, queryRows}
 
 -- ---- the record
 
@@ -74,10 +76,22 @@ codesOf l w = map gate (walkOf l w .nodes)
 abbrev pub within : ℕ → ℕ → (List ℕ → List ℕ) → List ℕ → List ℕ
 within a n g xs = take a xs ++ (g (take n (drop a xs)) ++ drop n (drop a xs))
 
+-- parts of n places, one after the other, of which those of widths 1 to w were worked, each by the g of its width
+unfoldable pub partsTo : (ℕ → List ℕ → List ℕ) → ℕ → ℕ → List ℕ → List ℕ
+partsTo g n zero old = old
+partsTo g n (suc w) old = within (w * n) n (g (suc w)) (partsTo g n w old)
+
 -- an array after widths 1 to w were filled: each part begins with its column, and all other places are as they were (SPECIFICATION 6.2, 6.11)
-unfoldable pub filledTo : (ℕ → List ℕ) → ℕ → ℕ → List ℕ → List ℕ
-filledTo column E zero old = old
-filledTo column E (suc w) old = within (w * E) E (over (column (suc w))) (filledTo column E w old)
+abbrev pub filledTo : (ℕ → List ℕ) → ℕ → ℕ → List ℕ → List ℕ
+filledTo column E w old = partsTo (λ v. over (column v)) E w old
+
+-- how many places of an index of so many each width has: where row 17 does not hold, Q times as many are all (SPECIFICATION 7.16)
+abbrev pub partSize : Limits → ℕ → ℕ
+partSize l places = places / l .qubits
+
+-- the index after widths 1 to w were built: each part goes with the nodes of its width; by the scan it is as it was (SPECIFICATION 7.14)
+abbrev pub indexTo : Limits → By → ℕ → List ℕ → List ℕ
+indexTo l by w index = partsTo (λ v. kept by (printsOf l v) (length (walkOf l v .nodes))) (partSize l (length index)) w index
 
 -- the arrays after widths 1 to w were built
 abbrev pub builtTo : Limits → ℕ → Arrays → Arrays
@@ -85,6 +99,8 @@ builtTo l w a = record {
   prints = filledTo (printsOf l) (l .entries) w (a .prints);
   parents = filledTo (parentsOf l) (l .entries) w (a .parents);
   codes = filledTo (codesOf l) (l .entries) w (a .codes);
+  by = a .by;
+  index = indexTo l (a .by) w (a .index);
 }
 
 -- a table's record, or a refusal: first its number, then its position
@@ -100,9 +116,9 @@ pub record Left : Type 0 where
 abbrev pub left : BuildReply → Arrays → Left
 left r a = record { reply = r; arrays = a }
 
--- rows 1, 2, 3, 4, 5 in this order (SPECIFICATION 9.2)
+-- rows 1, 2, 3, 4, 5, 17 in this order (SPECIFICATION 9.2)
 abbrev pub buildRows : Limits → Arrays → List Row
-buildRows l a = limitRows l ++ (roomRow l a ∷ [])
+buildRows l a = limitRows l ++ (roomRow l a ∷ partsRow l a ∷ [])
 
 -- by the number of the first row that holds, 0 where none does: a refusal leaves the arrays as they were (SPECIFICATION 9.4)
 abbrev pub leftBy : Limits → Arrays → ℕ → Left
@@ -165,21 +181,57 @@ countAt t w = pick (notAWidth t w) 0 (widthAt t w .count)
 abbrev pub partOf : ℕ → ℕ → List ℕ → List ℕ
 partOf n E xs = take E (drop ((n - 1) * E) xs)
 
--- and in the three, with its count
+-- and in the three and the index, with its count
 abbrev pub partAt : Table → Arrays → ℕ → Part
 partAt t a w =
-    partWith (partOf w (t .limits .entries) (a .prints)) (partOf w (t .limits .entries) (a .parents)) (partOf w (t .limits .entries) (a .codes))
-    (countAt t w)
+    partWith (a .by) (partOf w (t .limits .entries) (a .prints)) (partOf w (t .limits .entries) (a .parents)) (partOf w (t .limits .entries) (a .codes))
+    (countAt t w) (partOf w (partSize (t .limits) (length (a .index))) (a .index))
 
 -- the limits of a width of the table
 abbrev pub limitsAt : Limits → ℕ → WidthLimits
 limitsAt l w = record { width = w; basis = l .basis; gates = l .gates; entries = l .entries }
 
+-- ---- a fill of the index
+
+-- 13 of the record, 5, and 17 by the look-up: what is tried before nodes are looked up (SPECIFICATION 9.2)
+abbrev pub lookRows : Table → By → ℕ → ℕ → ℕ → ℕ → List Row
+lookRows t by f u c places = tableRows t f u c ++ (indexRow (t .limits) by places ∷ [])
+
+abbrev pub lookRowsOf : Table → By → Arrays → List Row
+lookRowsOf t by a = lookRows t by (length (a .prints)) (length (a .parents)) (length (a .codes)) (length (a .index))
+
+-- the index that goes with a table: each width's part is filled from its entries, nodes rising (SPECIFICATION 7.14)
+unfoldable pub filledIndex : Table → Arrays → List ℕ
+filledIndex t a =
+    partsTo (λ w. kept indexed (partOf w (t .limits .entries) (a .prints)) (countAt t w)) (partSize (t .limits) (length (a .index)))
+    (t .limits .qubits) (a .index)
+
+-- filled, or a refusal: first its number, then its position
+pub data FillReply : Type 0 where
+  filled : FillReply
+  not-filled : ℕ → ℕ → FillReply
+
+-- the reply, and what the index holds after it
+pub record FillLeft : Type 0 where
+  pub reply : FillReply
+  pub index : List ℕ
+
+abbrev pub fillLeft : FillReply → List ℕ → FillLeft
+fillLeft r i = record { reply = r; index = i }
+
+-- by the number of the first row that holds, 0 where none does: a refusal leaves the index as it was (SPECIFICATION 9.4)
+abbrev pub filledBy : Table → Arrays → ℕ → FillLeft
+filledBy t a r = pick (eqb r 0) (fillLeft filled (filledIndex t a)) (fillLeft (not-filled r 0) (a .index))
+
+-- the index is cleared and filled from a table: 13 of the record, 5, 17 (SPECIFICATION 7.17)
+unfoldable pub fillOf : Table → Arrays → FillLeft
+fillOf t a = filledBy t a (firstRow (lookRowsOf t indexed a))
+
 -- ---- a find
 
--- 13 of the record, 5, 6, 9, 10, 11 in this order (SPECIFICATION 9.2)
+-- 13 of the record, 5, 17, 6, 9, 10, 11 in this order (SPECIFICATION 9.2)
 abbrev pub findRows : Table → Arrays → Query → List Row
-findRows t a q = tableRowsOf t a ++ queryRows (q .width) (q .exponent) (q .bytes)
+findRows t a q = lookRowsOf t (a .by) a ++ queryRows (q .width) (q .exponent) (q .bytes)
 
 -- by the number of the first row that holds, 0 where none does
 abbrev pub foundBy : Table → Arrays → Query → ℕ → Finding

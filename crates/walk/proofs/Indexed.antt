@@ -3,12 +3,13 @@ use mathlib.Core.Path.{_≡_, refl, sym, ap, _∙_}
 use mathlib.Core.List.{List, [], _∷_}
 use Prim.Native.Nat.{ℕ, suc, _<_}
 use native.Mathlib.Omega.{arith}
-use lib.ListN.{length, set}
+use lib.ListN.{length, getD, set}
 use lib.Seq.{getD-set-same, getD-set-other}
 use Rattle.circuit.specs.Codes.{mark}
 use Rattle.walk.specs.Lookup.{found, none, lowestFrom}
 use Rattle.walk.specs.Index.{By, scan, indexed, lookedUp, keptUp, kept, filled, inserted, freeOf, probed, probeOf}
 use Rattle.walk.specs.IndexLaws.{Roomy, NodeFrom, Indexing}
+use Rattle.walk.specs.Meaning.{LeadsTo, Leads}
 use Rattle.walk.proofs.Lookups.{looks-up}
 use Rattle.walk.proofs.Rounds.{place-first, place-next}
 use Rattle.walk.proofs.Inserting.{filled-length, filled-cong}
@@ -41,11 +42,26 @@ looked-node scan index fps count from f v e =
     record { not-before = w .not-before; below = w .below; has = w .has }
 looked-node indexed index fps count from f v e = probes index fps count from f .is-found v .0 e .leads-to
 
+-- what either look-up leads to, said of nodes and of places
+pub leads : (by : By) (index fps : List ℕ) (count from f : ℕ) → Leads by index fps count from f
+leads scan index fps count from f = let w = looks-up fps count from f in record { is-found = w .is-found; is-none = w .is-none }
+leads indexed index fps count from f = let w = probes index fps count from f in record { is-found = w .is-found; is-none = w .is-none }
+
+pub leads-below : (by : By) (index fps : List ℕ) (count from f v : ℕ) → LeadsTo by index fps count from f v → v < count
+leads-below by index fps count from f v w = looked-node by index fps count from f v (leads by index fps count from f .is-found v .1 w) .below
+
+-- nodes below the count alone decide what a part holds
+pub kept-cong : (by : By) (fps gps old : List ℕ) (count : ℕ) → ((v : ℕ) → v < count → getD fps v 0 ≡ getD gps v 0) → kept by fps count old ≡ kept by gps count old
+kept-cong scan fps gps old count h = refl
+kept-cong indexed fps gps old count h = filled-cong fps gps (length old) count h
+
 computed : (kept indexed (7 ∷ 3 ∷ 7 ∷ []) 3 (0 ∷ 0 ∷ 0 ∷ 0 ∷ []) ≡ 1 ∷ 2 ∷ mark ∷ 0 ∷ [])
     × (lookedUp indexed (1 ∷ 2 ∷ mark ∷ 0 ∷ []) (7 ∷ 3 ∷ 7 ∷ []) 3 1 7 ≡ found 2)
     × (lookedUp indexed (5 ∷ 5 ∷ []) (7 ∷ 3 ∷ []) 2 0 3 ≡ none)
+    × (keptUp indexed (5 ∷ 6 ∷ []) 3 1 ≡ 5 ∷ 6 ∷ [])
+    × (lookedUp indexed (kept indexed (7 ∷ 3 ∷ []) 2 (0 ∷ [])) (7 ∷ 3 ∷ []) 2 0 3 ≡ none)
 unfolding filled inserted freeOf probed probeOf
-computed = (refl, refl, refl)
+computed = (refl, refl, refl, refl, refl)
 
 pub indexing : Indexing
 indexing = record {

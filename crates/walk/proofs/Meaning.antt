@@ -12,13 +12,13 @@ use Rattle.exact.specs.Phase.{upToPhase}
 use Rattle.exact.specs.Fingerprint.{fingerprint}
 use Rattle.exact.proofs.Phases.{up-sym, power-of-test}
 use Rattle.exact.proofs.Unitaries.{unitary-asked}
-use Rattle.walk.specs.Lookup.{Lookup, found, lowestFrom}
-use Rattle.walk.specs.Meaning.{LowestNode, Gates, Fault, FoundBy, AnsweredBy, NoList, not-found, does-not-fit, not-equal, BadFound, FindMeans, Means, WriteMeans, Right}
+use Rattle.walk.specs.Lookup.{Lookup, found}
+use Rattle.walk.specs.Meaning.{LeadsTo, Leads, Gates, Fault, FoundBy, AnsweredBy, NoList, not-found, does-not-fit, not-equal, BadFound, FindMeans, Means, WriteMeans, Right}
 use Rattle.walk.specs.Lookup as lookup
 use Rattle.walk.specs.Chains.{Chain, good, bad}
-use Rattle.walk.proofs.Lookups.{looks-up}
+use Rattle.walk.proofs.Indexed.{leads, leads-below, looked-node}
 use Rattle.walk.proofs.Chaining.{gates-of, good-by, fault-of, bad-by}
-use Rattle.walk.specs.Finds.{WidthLimits, Part, fitsAll, rechecked, Finding, chainAt, byChain, findOf}
+use Rattle.walk.specs.Finds.{WidthLimits, Part, fitsAll, rechecked, Finding, chainAt, byChain, lookedIn, findOf}
 use Rattle.walk.specs.Finds as f
 use Rattle.walk.specs.Answers.{Reply, given, none, refused, Outcome, outcome, written, writeOf, thenWrite, answerOf}
 
@@ -124,14 +124,18 @@ module _ (limits : WidthLimits) (part : Part) (k : ℕ) (out : List ℕ) where
       from-bad (w, p, q, h) = written-bad (bad-by _ _ _ _ _ k w) ∙ (λ j. outcome (refused (sym p j) (sym q j)) (sym h j))
 
 module _ (limits : WidthLimits) (part : Part) (x : Exact) where
-  abbrev fps : List ℕ
-  fps = part .fingerprints
-
   abbrev count : ℕ
   count = part .count
 
   abbrev n : ℕ
   n = limits .width
+
+  -- what the fingerprint of x leads to
+  abbrev To : ℕ → Type 0
+  To k = LeadsTo (part .by) (part .index) (part .fingerprints) count 0 (fingerprint n x) k
+
+  looks : Leads (part .by) (part .index) (part .fingerprints) count 0 (fingerprint n x)
+  looks = leads (part .by) (part .index) (part .fingerprints) count 0 (fingerprint n x)
 
   abbrev By : ℕ → List ℕ → Type 0
   By k l = FoundBy limits part x k l
@@ -147,22 +151,22 @@ module _ (limits : WidthLimits) (part : Part) (x : Exact) where
 
   -- ---- from what holds to the find
 
-  at-node : {k : ℕ} → LowestNode fps count 0 (fingerprint n x) k → {c : Chain} → chainAt limits part k ≡ c → finding ≡ byChain n x k f.none c
+  at-node : (k : ℕ) → To k → {c : Chain} → chainAt limits part k ≡ c → finding ≡ byChain n x k f.none c
   unfolding findOf
-  at-node {k} w e = rw (looks-up fps count 0 (fingerprint n x) .is-found k .1 w, e)
+  at-node k w e = rw (looks .is-found k .1 w, e)
 
   node-found : {k : ℕ} {l : List ℕ} → By k l → finding ≡ f.node k (length l)
   unfolding rechecked
-  node-found {k} w = at-node (w .lowest) (good-by _ _ _ _ _ k (w .gates)) ∙ rw (w .fits, w .equal)
+  node-found {k} w = at-node k (w .leads) (good-by _ _ _ _ _ k (w .gates)) ∙ rw (w .fits, w .equal)
 
   bad-found : Bad → finding ≡ f.refused 13 0
-  bad-found w = at-node (w .lowest) (bad-by _ _ _ _ _ (w .node) (w .fault))
+  bad-found w = at-node (w .node) (w .leads) (bad-by _ _ _ _ _ (w .node) (w .fault))
 
   none-found : No → finding ≡ f.none
   unfolding findOf rechecked
-  none-found (not-found w) = rw (looks-up fps count 0 (fingerprint n x) .is-none .1 w)
-  none-found (does-not-fit k i l w g e) = at-node w (good-by _ _ _ _ _ k g) ∙ rw e
-  none-found (not-equal k l w g e) = at-node w (good-by _ _ _ _ _ k g) ∙ rw (test-fails (steps n l) _ e)
+  none-found (not-found w) = rw (looks .is-none .1 w)
+  none-found (does-not-fit k i l w g e) = at-node k w (good-by _ _ _ _ _ k g) ∙ rw e
+  none-found (not-equal k l w g e) = at-node k w (good-by _ _ _ _ _ k g) ∙ rw (test-fails (steps n l) _ e)
 
   -- ---- and back: one of the three holds
 
@@ -172,17 +176,17 @@ module _ (limits : WidthLimits) (part : Part) (x : Exact) where
     a-fault : Bad → View
 
   view : View
-  view = by (lowestFrom fps count 0 (fingerprint n x)) refl
+  view = by (lookedIn part (fingerprint n x)) refl
     where
-      by : (f : Lookup) → lowestFrom fps count 0 (fingerprint n x) ≡ f → View
-      by lookup.none e = no-node (not-found (looks-up fps count 0 (fingerprint n x) .is-none .0 e))
+      by : (f : Lookup) → lookedIn part (fingerprint n x) ≡ f → View
+      by lookup.none e = no-node (not-found (looks .is-none .0 e))
       by (found k) e = at (chainAt limits part k) refl
         where
-          w : LowestNode fps count 0 (fingerprint n x) k
-          w = looks-up fps count 0 (fingerprint n x) .is-found k .0 e
+          w : To k
+          w = looks .is-found k .0 e
 
           at : (c : Chain) → chainAt limits part k ≡ c → View
-          at bad g = a-fault (record { node = k; lowest = w; fault = fault-of _ _ _ _ _ k g })
+          at bad g = a-fault (record { node = k; leads = w; fault = fault-of _ _ _ _ _ k g })
           at (good l) g = test (steps n l) refl (upToPhase n (product n l) x) refl
             where
               way : Gates n (limits .basis) (limits .gates) (part .parents) (part .codes) k l
@@ -191,7 +195,7 @@ module _ (limits : WidthLimits) (part : Part) (x : Exact) where
               test : (s : Steps) → steps n l ≡ s → (b : Bool) → upToPhase n (product n l) x ≡ b → View
               test (unfitAt i) p b q = no-node (does-not-fit k i l w way p)
               test allFit p false q = no-node (not-equal k l w way q)
-              test allFit p true q = a-node (record { lowest = w; gates = way; fits = p; equal = q })
+              test allFit p true q = a-node (record { leads = w; gates = way; fits = p; equal = q })
 
   -- ---- both
 
@@ -227,11 +231,16 @@ module _ (limits : WidthLimits) (part : Part) (x : Exact) where
 
   -- a part without nodes has none
   pub no-nodes : count ≡ 0 → finding ≡ f.none
-  no-nodes e = none-found (not-found (record { none-has = λ m p h z. omega (arith, e, h) }))
+  unfolding findOf
+  no-nodes e = by (lookedIn part (fingerprint n x)) refl
+    where
+      by : (g : Lookup) → lookedIn part (fingerprint n x) ≡ g → finding ≡ f.none
+      by lookup.none h = rw h
+      by (found k) h = absurd (omega (arith, e, looked-node (part .by) (part .index) (part .fingerprints) count 0 (fingerprint n x) k h .below))
 
   -- a node found is below the count
   pub found-below : {k m : ℕ} → finding ≡ f.node k m → k < count
-  found-below {k} {m} e = let (l, w, z) = find-means .is-node k m .0 e in w .lowest .below
+  found-below {k} {m} e = let (l, w, z) = find-means .is-node k m .0 e in leads-below (part .by) (part .index) (part .fingerprints) count 0 (fingerprint n x) k (w .leads)
 
   module _ (out : List ℕ) where
     abbrev answer : Outcome

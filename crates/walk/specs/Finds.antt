@@ -10,8 +10,9 @@ use Rattle.exact.specs.Lists.{product}
 use Rattle.exact.specs.Fits.{Steps, allFit, unfitAt, steps}
 use Rattle.exact.specs.Phase.{upToPhase}
 use Rattle.exact.specs.Fingerprint.{fingerprint}
-use Rattle.walk.specs.Lookup.{Lookup, found, lowestFrom}
+use Rattle.walk.specs.Lookup.{Lookup, found}
 use Rattle.walk.specs.Lookup as lookup
+use Rattle.walk.specs.Index.{By, lookedUp}
 use Rattle.walk.specs.Chains.{Chain, good, bad, chainOf}
 
 -- ---- what is asked of
@@ -23,15 +24,17 @@ pub record WidthLimits : Type 0 where
   pub gates : ℕ
   pub entries : ℕ
 
--- a width's part of the three arrays, and how many nodes it has (SPECIFICATION 6.2)
+-- a width's part of the three arrays, how many nodes it has, and how it is looked up, with its part of the index (SPECIFICATION 6.2, 7.13)
 pub record Part : Type 0 where
   pub fingerprints : List ℕ
   pub parents : List ℕ
   pub codes : List ℕ
   pub count : ℕ
+  pub by : By
+  pub index : List ℕ
 
-abbrev pub partWith : List ℕ → List ℕ → List ℕ → ℕ → Part
-partWith f u c count = record { fingerprints = f; parents = u; codes = c; count = count }
+abbrev pub partWith : By → List ℕ → List ℕ → List ℕ → ℕ → List ℕ → Part
+partWith by f u c count i = record { fingerprints = f; parents = u; codes = c; count = count; by = by; index = i }
 
 -- ---- the recheck
 
@@ -67,6 +70,10 @@ abbrev pub byLookup : WidthLimits → Part → Exact → Finding → Lookup → 
 byLookup limits part x rest (found k) = byChain (limits .width) x k rest (chainAt limits part k)
 byLookup limits part x rest lookup.none = none
 
--- the node found for the matrix x, by the lowest node that has its fingerprint (SPECIFICATION 7.4)
+-- the node to which a fingerprint leads, by the scan or through the index
+abbrev pub lookedIn : Part → ℕ → Lookup
+lookedIn part y = lookedUp (part .by) (part .index) (part .fingerprints) (part .count) 0 y
+
+-- the node found for the matrix x, by the one node to which its fingerprint leads: by the scan, the lowest that has it (SPECIFICATION 7.4, 7.15)
 unfoldable pub findOf : WidthLimits → Part → Exact → Finding
-findOf limits part x = byLookup limits part x none (lowestFrom (part .fingerprints) (part .count) 0 (fingerprint (limits .width) x))
+findOf limits part x = byLookup limits part x none (lookedIn part (fingerprint (limits .width) x))

@@ -58,10 +58,13 @@ pub record Indexing : Type 0 where
   -- the scan leaves what was lent
   pub scan-leaves : (fingerprints old : List ℕ) (count : ℕ) → kept scan fingerprints count old ≡ old
   -- computed: node 1 meets node 0 at the last place and goes round; node 2, with node 0's fingerprint, comes after both, and is found from 1 on; a part
-  -- without an empty place, whose numbers are all past the count, leads to none
+  -- without an empty place, whose numbers are all past the count, leads to none; put into such a part a node is left out, and so a part with fewer places
+  -- than nodes misses one
   pub computed : (kept indexed (7 ∷ 3 ∷ 7 ∷ []) 3 (0 ∷ 0 ∷ 0 ∷ 0 ∷ []) ≡ 1 ∷ 2 ∷ mark ∷ 0 ∷ [])
       × (lookedUp indexed (1 ∷ 2 ∷ mark ∷ 0 ∷ []) (7 ∷ 3 ∷ 7 ∷ []) 3 1 7 ≡ found 2)
       × (lookedUp indexed (5 ∷ 5 ∷ []) (7 ∷ 3 ∷ []) 2 0 3 ≡ none)
+      × (keptUp indexed (5 ∷ 6 ∷ []) 3 1 ≡ 5 ∷ 6 ∷ [])
+      × (lookedUp indexed (kept indexed (7 ∷ 3 ∷ []) 2 (0 ∷ [])) (7 ∷ 3 ∷ []) 2 0 3 ≡ none)
   -- in the part that goes with a table either look-up finds the lowest node with the fingerprint
   pub same : (by : By) (fingerprints old : List ℕ) (count from fingerprint : ℕ) → Roomy by count old
       → lookedUp by (kept by fingerprints count old) fingerprints count from fingerprint ≡ lowestFrom fingerprints count from fingerprint

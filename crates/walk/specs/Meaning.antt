@@ -16,6 +16,8 @@ use Rattle.exact.specs.Unitary.{Unitary}
 use Rattle.exact.specs.Fingerprint.{fingerprint}
 use Rattle.walk.specs.Lookup.{found, lowestFrom}
 use Rattle.walk.specs.Lookup as lookup
+use Rattle.walk.specs.Index.{By, scan, indexed, lookedUp}
+use Rattle.walk.specs.IndexLaws.{ComesTo, ComesToNone}
 use Rattle.walk.specs.Chains.{good, bad, marked, chainOf}
 use Rattle.walk.specs.Finds.{WidthLimits, Part, findOf}
 use Rattle.walk.specs.Finds as f
@@ -38,6 +40,20 @@ pub record Nowhere (fingerprints : List ℕ) (count from fingerprint : ℕ) : Ty
 pub record LooksUp (fingerprints : List ℕ) (count from fingerprint : ℕ) : Type 0 where
   pub is-found : (node : ℕ) → (lowestFrom fingerprints count from fingerprint ≡ found node) ↔ LowestNode fingerprints count from fingerprint node
   pub is-none : (lowestFrom fingerprints count from fingerprint ≡ lookup.none) ↔ Nowhere fingerprints count from fingerprint
+
+-- the node to which either look-up leads; that there is none
+abbrev pub LeadsTo : By → List ℕ → List ℕ → ℕ → ℕ → ℕ → ℕ → Type 0
+LeadsTo scan index fingerprints count from fingerprint node = LowestNode fingerprints count from fingerprint node
+LeadsTo indexed index fingerprints count from fingerprint node = ComesTo index fingerprints count from fingerprint node
+
+abbrev pub LeadsNowhere : By → List ℕ → List ℕ → ℕ → ℕ → ℕ → Type 0
+LeadsNowhere scan index fingerprints count from fingerprint = Nowhere fingerprints count from fingerprint
+LeadsNowhere indexed index fingerprints count from fingerprint = ComesToNone index fingerprints count from fingerprint
+
+-- the definition, for either
+pub record Leads (by : By) (index fingerprints : List ℕ) (count from fingerprint : ℕ) : Type 0 where
+  pub is-found : (node : ℕ) → (lookedUp by index fingerprints count from fingerprint ≡ found node) ↔ LeadsTo by index fingerprints count from fingerprint node
+  pub is-none : (lookedUp by index fingerprints count from fingerprint ≡ lookup.none) ↔ LeadsNowhere by index fingerprints count from fingerprint
 
 -- ---- the chain
 
@@ -70,12 +86,12 @@ pub record Chained (n basis limit : ℕ) (parents codes : List ℕ) (node : ℕ)
 -- ---- the find
 
 module _ (limits : WidthLimits) (part : Part) (x : Exact) where
-  -- the lowest node with the fingerprint of x; that there is none; the list of the way from a node, or that the way meets a fault
+  -- the node to which the fingerprint of x leads; that there is none; the list of the way from a node, or that the way meets a fault
   abbrev pub FoundNode : ℕ → Type 0
-  FoundNode node = LowestNode (part .fingerprints) (part .count) 0 (fingerprint (limits .width) x) node
+  FoundNode node = LeadsTo (part .by) (part .index) (part .fingerprints) (part .count) 0 (fingerprint (limits .width) x) node
 
   abbrev pub NotFoundAny : Type 0
-  NotFoundAny = Nowhere (part .fingerprints) (part .count) 0 (fingerprint (limits .width) x)
+  NotFoundAny = LeadsNowhere (part .by) (part .index) (part .fingerprints) (part .count) 0 (fingerprint (limits .width) x)
 
   abbrev pub GatesOf : ℕ → List ℕ → Type 0
   GatesOf node l = Gates (limits .width) (limits .basis) (limits .gates) (part .parents) (part .codes) node l
@@ -85,21 +101,21 @@ module _ (limits : WidthLimits) (part : Part) (x : Exact) where
 
   -- the node is found; the way from it gives the list, every step fits, and the product is equal up to phase to x (SPECIFICATION 7.6)
   pub record FoundBy (node : ℕ) (l : List ℕ) : Type 0 where
-    pub lowest : FoundNode node
+    pub leads : FoundNode node
     pub gates : GatesOf node l
     pub fits : steps (limits .width) l ≡ allFit
     pub equal : upToPhase (limits .width) (product (limits .width) l) x ≡ true
 
-  -- no node has the fingerprint, or the list of the lowest that has does not fit or is not equal up to phase
+  -- the fingerprint leads to no node, or the list of the one to which it leads does not fit or is not equal up to phase
   pub data NoList : Type 0 where
     not-found : NotFoundAny → NoList
     does-not-fit : (node i : ℕ) (l : List ℕ) → FoundNode node → GatesOf node l → steps (limits .width) l ≡ unfitAt i → NoList
     not-equal : (node : ℕ) (l : List ℕ) → FoundNode node → GatesOf node l → upToPhase (limits .width) (product (limits .width) l) x ≡ false → NoList
 
-  -- the way from the lowest node with the fingerprint meets a fault
+  -- the way from the node to which the fingerprint leads meets a fault
   pub record BadFound : Type 0 where
     pub node : ℕ
-    pub lowest : FoundNode node
+    pub leads : FoundNode node
     pub fault : FaultOf node
 
   -- the definition, said by these

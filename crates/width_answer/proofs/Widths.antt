@@ -8,10 +8,9 @@ use lib.Seq.{length-take-le}
 use Rattle.exact.specs.Matrix.{Exact}
 use Rattle.exact.specs.Fingerprint.{fingerprint}
 use Rattle.synthesis_arena.specs.Lookup.{toldFound}
-use Rattle.walk.specs.Lookup.{lowestFrom}
 use Rattle.synthesis_arena.specs.declared.Found.{Found}
 use Rattle.synthesis_arena.specs.declared.Found.the-variants.{At, NotFound}
-use Rattle.walk.specs.Finds.{WidthLimits, Part, Finding, none, chainAt, byLookup, findOf}
+use Rattle.walk.specs.Finds.{WidthLimits, Part, Finding, none, chainAt, byLookup, lookedIn, findOf}
 use Rattle.walk.specs.Answers.{outcome, writeOf, thenWrite, answerOf}
 use Rattle.walk.specs.Answers as a
 use Rattle.walk.proofs.Meaning.{no-nodes, find-means, means}
@@ -20,10 +19,10 @@ use Rattle.width_answer.specs.declared.Find.{Find}
 use Rattle.width_answer.specs.declared.Find.the-variants as d
 
 module _ (limits : WidthLimits) (part : Part) (x : Exact) {print : ℕ} (e : print ≡ fingerprint (limits .width) x) {r : Found}
-    (told : toldFound r ≡ lowestFrom (part .fingerprints) (part .count) 0 print) where
+    (told : toldFound r ≡ lookedIn part print) where
   by-lookup : {s : Found} → r ≡ s → byLookup limits part x none (toldFound s) ≡ findOf limits part x
   unfolding findOf
-  by-lookup f = ap (byLookup limits part x none) (sym (ap toldFound f) ∙ told ∙ ap (lowestFrom (part .fingerprints) (part .count) 0) e)
+  by-lookup f = ap (byLookup limits part x none) (sym (ap toldFound f) ∙ told ∙ ap (lookedIn part) e)
 
   pub width-node : {k : ℕ} → r ≡ At k → {g : Finding} {list : List ℕ} → NodeFound (limits .width) x (chainAt limits part) k g list → ListFound limits part x g list
   unfolding answerOf writeOf

@@ -11,9 +11,11 @@ ghost use Rattle.exact.specs.Places.{held};
 ghost use Rattle.walk.specs.Chains.{chainOf};
 ghost use Rattle.width_answer.specs.Answers.{AskedPlaces, toldFind, NodeFound, ListFound};
 ghost use Rattle.walk.specs.Finds.{partWith, rechecked};
+ghost use Rattle.index.specs.Told.{toldBy};
 ghost use Rattle.synthesis_arena.specs.Limits.{toldLimits};
 use circuit::GateSet;
 use cyclotomic::Coefficient;
+use index::LookupBy;
 use lists::Walked;
 use synthesis_arena::Found;
 use synthesis_arena::NodeCircuit;
@@ -86,26 +88,29 @@ fn find_node(
     Find::Node(node, size)
 }
 
-// The node that answers a matrix in a width's part of a table, by the lowest that has its fingerprint (SPECIFICATION 7.4). Its list is left in
-// the first places of `list`; what `list` holds where no node is found is not told.
+// The node that answers a matrix in a width's part of a table, by the node to which its fingerprint leads (SPECIFICATION 7.4, 7.15). Its list is
+// left in the first places of `list`; what `list` holds where no node is found is not told.
 pub fn find_width(
+    by: LookupBy,
     limits: WidthLimits,
     count: usize,
     exponent: u16,
     fingerprints: &[u64],
     parents: &[u32],
     codes: &[u32],
+    index: &[u32],
     query: &[Coefficient],
     list: &mut [u32],
 ) -> Find
     requires { ⌜ (limits .width ≤ 5) × (limits .gates ≤ length (now list)) ⌝ }
     requires { ⌜ (count ≤ length (now fingerprints)) × (count ≤ length (now parents)) × (count ≤ length (now codes)) ⌝ }
     requires { ⌜ AskedPlaces (limits .width) (now query) ⌝ }
-    ensures { λ r. ⌜ ListFound (toldLimits limits) (partWith (now (fingerprints .entry)) (now (parents .entry)) (now (codes .entry)) count)
+    ensures { λ r. ⌜ ListFound (toldLimits limits)
+        (partWith (toldBy by) (now (fingerprints .entry)) (now (parents .entry)) (now (codes .entry)) count (now (index .entry)))
         (held (limits .width) exponent (now (query .entry))) (toldFind r) (now (list .exit)) ⌝ }
 {
     let print = prints::unitary_fingerprint(query, limits.width as usize, exponent);
-    match synthesis_arena::node_for(fingerprints, count, 0, print) {
+    match index::look_up(by, index, fingerprints, count, 0, print) {
         Found::At(node) => find_node(limits, node, exponent, parents, codes, query, list),
         Found::NotFound => Find::Nothing,
     }

@@ -10,6 +10,7 @@ use borrow.Author.Tests.{eq-eqb, ne-eqb}
 use lib.Dec.{eqb}
 use lib.ListN.{length}
 use Rattle.ints.specs.Lists.{pick}
+use Rattle.walk.specs.Index.{By}
 use Rattle.walk.specs.Walk.{Rules, Node, State, Build, root, listAt, layer, settled, deeper, ended, depths, begin}
 use Rattle.walk.proofs.Grown.{Grown, alone, ParentsTo}
 use Rattle.synthesis_arena.specs.declared.WidthLimits.{WidthLimits}
@@ -31,7 +32,7 @@ unfolding depths
 ended-stays R E b zero e = refl
 ended-stays R E b (suc m) e = rw e
 
-module _ (lim : WidthLimits) (f0 u0 c0 : List ℕ) (goal : Build) where
+module _ (by : By) (lim : WidthLimits) (f0 u0 c0 i0 : List ℕ) (goal : Build) where
   abbrev R : Rules
   R = rules lim
 
@@ -41,9 +42,9 @@ module _ (lim : WidthLimits) (f0 u0 c0 : List ℕ) (goal : Build) where
   abbrev G : ℕ
   G = lim .gates
 
-  pub record DepthRun (lo d : ℕ) (f u c : List ℕ) (count : ℕ) : Type 0 where
+  pub record DepthRun (lo d : ℕ) (f u c i : List ℕ) (count : ℕ) : Type 0 where
     pub ns : List Node
-    pub columns : Columns lim f0 u0 c0 ns f u c count
+    pub columns : Columns by lim f0 u0 c0 i0 ns f u c i count
     pub grown : Grown R ns
     pub low : ParentsTo lo ns
     pub few : length ns ≤ lim .entries
@@ -51,12 +52,13 @@ module _ (lim : WidthLimits) (f0 u0 c0 : List ℕ) (goal : Build) where
     pub flat : (j : ℕ) → j < length ns → length (listAt ns j) ≤ d
     pub rest : depths R E (between ns lo d) (G - d) ≡ goal
 
-  module _ {lo d : ℕ} {f u c : List ℕ} {count : ℕ} (r : DepthRun lo d f u c count) where
-    abbrev pub depth-run-live : d ≤ 64 → Long lim f0 u0 c0 → Live lim f u c count lo count
+  module _ {lo d : ℕ} {f u c i : List ℕ} {count : ℕ} (r : DepthRun lo d f u c i count) where
+    abbrev pub depth-run-live : d ≤ 64 → Long by lim f0 u0 c0 i0 → Live by lim f u c i count lo count
     depth-run-live deep long = record {
       f0 = f0;
       u0 = u0;
       c0 = c0;
+      i0 = i0;
       ns = r .ns;
       d = d;
       columns = r .columns;
@@ -69,23 +71,23 @@ module _ (lim : WidthLimits) (f0 u0 c0 : List ℕ) (goal : Build) where
       long = long;
     }
 
-    whole : {t : Build} → t ≡ goal → {f′ u′ c′ : List ℕ} {count′ d′ : ℕ} {b : Bool} → Columns lim f0 u0 c0 (t .nodes) f′ u′ c′ count′ → d′ ≡ t .depth → b ≡ t .saturated
-        → Whole lim goal f0 u0 c0 f′ u′ c′ (row count′ d′ b)
-    whole {t} e {f′} {u′} {c′} {count′} {d′} {b} w p q = subst (λ (z : Build). Whole lim z f0 u0 c0 f′ u′ c′ (row count′ d′ b)) e (record { columns = w; depth-is = p; full-is = q })
+    whole : {t : Build} → t ≡ goal → {f′ u′ c′ i′ : List ℕ} {count′ d′ : ℕ} {b : Bool} → Columns by lim f0 u0 c0 i0 (t .nodes) f′ u′ c′ i′ count′ → d′ ≡ t .depth → b ≡ t .saturated
+        → Whole by lim goal f0 u0 c0 i0 f′ u′ c′ i′ (row count′ d′ b)
+    whole {t} e {f′} {u′} {c′} {i′} {count′} {d′} {b} w p q = subst (λ (z : Build). Whole by lim z f0 u0 c0 i0 f′ u′ c′ i′ (row count′ d′ b)) e (record { columns = w; depth-is = p; full-is = q })
 
-    pub depth-run-end : G ≤ d → Whole lim goal f0 u0 c0 f u c (row count d false)
+    pub depth-run-end : G ≤ d → Whole by lim goal f0 u0 c0 i0 f u c i (row count d false)
     unfolding depths
     depth-run-end l =
         let z : 0 ≡ G - d = omega arith in
         let e : between (r .ns) lo d ≡ goal = ap (depths R E (between (r .ns) lo d)) z ∙ r .rest in
         whole {t = between (r .ns) lo d} e (r .columns) refl refl
 
-    module _ (l : d < G) {f′ u′ c′ : List ℕ} {count′ : ℕ} {b : Bool} (a : After lim f0 u0 c0 (layer R E (unsaturated (r .ns)) lo (count - lo)) f′ u′ c′ count′ b) where
+    module _ (l : d < G) {f′ u′ c′ i′ : List ℕ} {count′ : ℕ} {b : Bool} (a : After by lim f0 u0 c0 i0 (layer R E (unsaturated (r .ns)) lo (count - lo)) f′ u′ c′ i′ count′ b) where
       abbrev next : State
       next = layer R E (unsaturated (r .ns)) lo (length (r .ns) - lo)
 
-      moved : After lim f0 u0 c0 next f′ u′ c′ count′ b
-      moved = subst (λ (z : ℕ). After lim f0 u0 c0 (layer R E (unsaturated (r .ns)) lo (z - lo)) f′ u′ c′ count′ b) (r .columns .count-is) a
+      moved : After by lim f0 u0 c0 i0 next f′ u′ c′ i′ count′ b
+      moved = subst (λ (z : ℕ). After by lim f0 u0 c0 i0 (layer R E (unsaturated (r .ns)) lo (z - lo)) f′ u′ c′ i′ count′ b) (r .columns .count-is) a
 
       -- the width is not ended, so the depth is walked
       round : depths R E (settled (between (r .ns) lo d) next) (G - suc d) ≡ goal
@@ -111,16 +113,16 @@ module _ (lim : WidthLimits) (f0 u0 c0 : List ℕ) (goal : Build) where
       round-done : b ≡ false → depths R E done (G - suc d) ≡ goal
       round-done q = ap (λ (t : Bool). depths R E (pick t cut done) (G - suc d)) (sym (sym (moved .full-is) ∙ q)) ∙ round
 
-      pub depth-run-full : b ≡ true → Whole lim goal f0 u0 c0 f′ u′ c′ (row count′ d true)
+      pub depth-run-full : b ≡ true → Whole by lim goal f0 u0 c0 i0 f′ u′ c′ i′ (row count′ d true)
       depth-run-full q = whole {t = cut} (round-cut q) (moved .columns) refl refl
 
-      pub depth-run-none : b ≡ false → count′ ≡ count → Whole lim goal f0 u0 c0 f′ u′ c′ (row count (d + 1) false)
+      pub depth-run-none : b ≡ false → count′ ≡ count → Whole by lim goal f0 u0 c0 i0 f′ u′ c′ i′ (row count (d + 1) false)
       depth-run-none q e =
           let s : eqb (length (r .ns)) (length (next .nodes)) ≡ true = eq-eqb (length (r .ns)) (length (next .nodes)) (omega (arith, moved .columns .count-is, r .columns .count-is)) in
-          subst (λ (z : ℕ). Whole lim goal f0 u0 c0 f′ u′ c′ (row z (d + 1) false)) e
+          subst (λ (z : ℕ). Whole by lim goal f0 u0 c0 i0 f′ u′ c′ i′ (row z (d + 1) false)) e
           (whole {t = done} (sym (ended-stays R E done (G - suc d) s) ∙ round-done q) (moved .columns) (add-one d) refl)
 
-      pub depth-run-next : b ≡ false → (count′ ≡ count → ⊥) → DepthRun count (d + 1) f′ u′ c′ count′
+      pub depth-run-next : b ≡ false → (count′ ≡ count → ⊥) → DepthRun count (d + 1) f′ u′ c′ i′ count′
       depth-run-next q e =
           let i : TriedKept R E d (length (r .ns)) (length (r .ns)) (next .nodes)
           = kept-layer R E d (length (r .ns)) (unsaturated (r .ns)) lo (length (r .ns) - lo) (length (r .ns)) (omega (arith, r .order, r .columns .count-is)) (le-refl (length (r .ns)))
@@ -137,7 +139,7 @@ module _ (lim : WidthLimits) (f0 u0 c0 : List ℕ) (goal : Build) where
                 ∙ ap (λ (z : ℕ). depths R E (between (next .nodes) z (suc d)) (G - suc d)) (r .columns .count-is) ∙ round-done q;
           }
 
-pub depth-run-start : {lim : WidthLimits} {f u c : List ℕ} (h : Start lim f u c) → DepthRun lim (h .f0) (h .u0) (h .c0) (depths (rules lim) (lim .entries) begin (lim .gates)) 0 0 f u c 1
+pub depth-run-start : {by : By} {lim : WidthLimits} {f u c i : List ℕ} (h : Start by lim f u c i) → DepthRun by lim (h .f0) (h .u0) (h .c0) (h .i0) (depths (rules lim) (lim .entries) begin (lim .gates)) 0 0 f u c i 1
 depth-run-start {lim} h =
     let z : lim .gates - 0 ≡ lim .gates = omega arith in
     record {

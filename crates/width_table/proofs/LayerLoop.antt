@@ -8,13 +8,14 @@ use native.Mathlib.Numerals.{add-one}
 use native.Mathlib.Omega.{arith}
 use lib.ListN.{length}
 use Rattle.generators.specs.Generators.{generators}
+use Rattle.walk.specs.Index.{By}
 use Rattle.walk.specs.Walk.{Rules, Node, State, tryAll, layer}
 use Rattle.walk.proofs.Candidates.{layer-saturated}
 use Rattle.synthesis_arena.specs.declared.WidthLimits.{WidthLimits}
 use Rattle.next_node.specs.Arrays.{rules, unsaturated, Columns, Long, Live, After}
 use Rattle.candidates.proofs.Keeping.{TriedKept, kept-node, unfilled}
 
-module _ (lim : WidthLimits) (hi d : ℕ) (f0 u0 c0 : List ℕ) (goal : State) where
+module _ (by : By) (lim : WidthLimits) (hi d : ℕ) (f0 u0 c0 i0 : List ℕ) (goal : State) where
   abbrev R : Rules
   R = rules lim
 
@@ -24,21 +25,22 @@ module _ (lim : WidthLimits) (hi d : ℕ) (f0 u0 c0 : List ℕ) (goal : State) w
   abbrev gens : List ℕ
   gens = generators (lim .width) (lim .basis)
 
-  pub record LayerRun (k : ℕ) (f u c : List ℕ) (count : ℕ) : Type 0 where
+  pub record LayerRun (k : ℕ) (f u c i : List ℕ) (count : ℕ) : Type 0 where
     pub ns : List Node
-    pub columns : Columns lim f0 u0 c0 ns f u c count
+    pub columns : Columns by lim f0 u0 c0 i0 ns f u c i count
     pub kept : TriedKept R E d hi k ns
     pub rest : layer R E (unsaturated ns) k (hi - k) ≡ goal
 
-  module _ {k : ℕ} {f u c : List ℕ} {count : ℕ} (r : LayerRun k f u c count) where
+  module _ {k : ℕ} {f u c i : List ℕ} {count : ℕ} (r : LayerRun k f u c i count) where
     pub layer-run-lt : k < hi → k < count
     layer-run-lt l = omega (arith, r .kept .size, r .columns .count-is)
 
-    abbrev pub layer-run-live : k < hi → d ≤ 64 → Long lim f0 u0 c0 → Live lim f u c count k (suc k)
+    abbrev pub layer-run-live : k < hi → d ≤ 64 → Long by lim f0 u0 c0 i0 → Live by lim f u c i count k (suc k)
     layer-run-live l deep long = record {
       f0 = f0;
       u0 = u0;
       c0 = c0;
+      i0 = i0;
       ns = r .ns;
       d = d;
       columns = r .columns;
@@ -55,11 +57,11 @@ module _ (lim : WidthLimits) (hi d : ℕ) (f0 u0 c0 : List ℕ) (goal : State) w
     unfolding layer
     layer-run-cons l = let z : suc (hi - suc k) ≡ hi - k = omega arith in ap (layer R E (unsaturated (r .ns)) k) z ∙ r .rest
 
-    module _ (l : k < hi) {f′ u′ c′ : List ℕ} {count′ : ℕ} {b : Bool} (a : After lim f0 u0 c0 (tryAll R E (unsaturated (r .ns)) k gens) f′ u′ c′ count′ b) where
+    module _ (l : k < hi) {f′ u′ c′ i′ : List ℕ} {count′ : ℕ} {b : Bool} (a : After by lim f0 u0 c0 i0 (tryAll R E (unsaturated (r .ns)) k gens) f′ u′ c′ i′ count′ b) where
       abbrev tried : State
       tried = tryAll R E (unsaturated (r .ns)) k gens
 
-      pub layer-run-next : b ≡ false → LayerRun (k + 1) f′ u′ c′ count′
+      pub layer-run-next : b ≡ false → LayerRun (k + 1) f′ u′ c′ i′ count′
       layer-run-next q =
           let i : TriedKept R E d hi (suc k) (tried .nodes) = kept-node R E d hi (unsaturated (r .ns)) k l (r .kept) in
           record {
@@ -70,20 +72,20 @@ module _ (lim : WidthLimits) (hi d : ℕ) (f0 u0 c0 : List ℕ) (goal : State) w
                 ∙ ap (λ (t : State). layer R E t (suc k) (hi - suc k)) (sym (unfilled tried b (a .full-is) q)) ∙ layer-run-cons l;
           }
 
-      pub layer-run-full : b ≡ true → After lim f0 u0 c0 goal f′ u′ c′ count′ true
+      pub layer-run-full : b ≡ true → After by lim f0 u0 c0 i0 goal f′ u′ c′ i′ count′ true
       layer-run-full q =
           let e : tried ≡ goal = sym (layer-saturated R E tried (suc k) (hi - suc k) (sym (a .full-is) ∙ q)) ∙ layer-run-cons l in
-          subst (λ (t : State). After lim f0 u0 c0 t f′ u′ c′ count′ true) e (record { columns = a .columns; full-is = sym q ∙ a .full-is })
+          subst (λ (t : State). After by lim f0 u0 c0 i0 t f′ u′ c′ i′ count′ true) e (record { columns = a .columns; full-is = sym q ∙ a .full-is })
 
-    pub layer-run-end : hi ≤ k → After lim f0 u0 c0 goal f u c count false
+    pub layer-run-end : hi ≤ k → After by lim f0 u0 c0 i0 goal f u c i count false
     unfolding layer
     layer-run-end l =
         let z : 0 ≡ hi - k = omega arith in
         let e : unsaturated (r .ns) ≡ goal = ap (layer R E (unsaturated (r .ns)) k) z ∙ r .rest in
-        subst (λ (t : State). After lim f0 u0 c0 t f u c count false) e (record { columns = r .columns; full-is = refl })
+        subst (λ (t : State). After by lim f0 u0 c0 i0 t f u c i count false) e (record { columns = r .columns; full-is = refl })
 
-pub layer-run-start : {lim : WidthLimits} {lo : ℕ} {f u c : List ℕ} {count : ℕ} (h : Live lim f u c count lo count)
-    → LayerRun lim count (h .d) (h .f0) (h .u0) (h .c0) (layer (rules lim) (lim .entries) (unsaturated (h .ns)) lo (count - lo)) lo f u c count
+pub layer-run-start : {by : By} {lim : WidthLimits} {lo : ℕ} {f u c i : List ℕ} {count : ℕ} (h : Live by lim f u c i count lo count)
+    → LayerRun by lim count (h .d) (h .f0) (h .u0) (h .c0) (h .i0) (layer (rules lim) (lim .entries) (unsaturated (h .ns)) lo (count - lo)) lo f u c i count
 layer-run-start h = record {
   ns = h .ns;
   columns = h .columns;

@@ -13,9 +13,11 @@ ghost use mathlib.Core.Path.{_≡_};
 ghost use Prim.Native.Nat.{_≤_, _<_};
 ghost use Rattle.generators.specs.Generators.{generators};
 ghost use Rattle.walk.specs.AtWidth.{built};
+ghost use Rattle.index.specs.Told.{toldBy};
 ghost use Rattle.next_node.specs.Arrays.{Long, Live};
 ghost use Rattle.width_table.specs.Table.{LayerTried, Start, Deepened, Whole};
 use circuit::GateSet;
+use index::LookupBy;
 use matrix::UnitaryMatrix;
 use next_node::Tried;
 use synthesis_arena::WidthLimits;
@@ -29,6 +31,7 @@ pub struct WidthTable {
 
 // One depth: each node of the last layer in order, from number `first` up to the count.
 fn deepen(
+    by: LookupBy,
     limits: WidthLimits,
     first: usize,
     count: usize,
@@ -36,19 +39,31 @@ fn deepen(
     fingerprints: &mut [u64],
     parents: &mut [u32],
     codes: &mut [u32],
+    index: &mut [u32],
 ) -> Tried
     requires bounds { ⌜ ((limits .width) ≤ 5) × (first ≤ count) × ((limits .entries) ≤ 1000000) ⌝ }
     requires generators { ⌜ now gates ≡ generators (limits .width) (limits .basis) ⌝ }
-    requires live { ⌜ Live limits (now fingerprints) (now parents) (now codes) count first count ⌝ }
-    ensures tried { λ r. ⌜ LayerTried limits first count
-        (now (fingerprints .entry)) (now (parents .entry)) (now (codes .entry))
-        (now (fingerprints .exit)) (now (parents .exit)) (now (codes .exit)) r ⌝ }
+    requires live { ⌜ Live (toldBy by) limits (now fingerprints) (now parents) (now codes) (now index) count first count ⌝ }
+    ensures tried { λ r. ⌜ LayerTried (toldBy by) limits first count
+        (now (fingerprints .entry)) (now (parents .entry)) (now (codes .entry)) (now (index .entry))
+        (now (fingerprints .exit)) (now (parents .exit)) (now (codes .exit)) (now (index .exit)) r ⌝ }
 {
+    let lookup = by;
     let l = limits;
     let mut n = count;
     let mut node = first;
     while node < count {
-        let t = candidates::try_node(l, n, node, gates, fingerprints, parents, codes);
+        let t = candidates::try_node(
+            lookup,
+            l,
+            n,
+            node,
+            gates,
+            fingerprints,
+            parents,
+            codes,
+            index,
+        );
         n = t.count;
         if t.saturated {
             return Tried {
@@ -66,19 +81,22 @@ fn deepen(
 
 // Depths 1 to G: a depth that is walked to its end is completed, and one that adds no node is the last.
 fn deepen_all(
+    by: LookupBy,
     limits: WidthLimits,
     gates: &[u32],
     fingerprints: &mut [u64],
     parents: &mut [u32],
     codes: &mut [u32],
+    index: &mut [u32],
 ) -> WidthTable
     requires bounds { ⌜ ((limits .width) ≤ 5) × ((limits .gates) ≤ 64) × ((limits .entries) ≤ 1000000) ⌝ }
     requires generators { ⌜ now gates ≡ generators (limits .width) (limits .basis) ⌝ }
-    requires start { ⌜ Start limits (now fingerprints) (now parents) (now codes) ⌝ }
-    ensures deepened { λ r. ⌜ Deepened limits
-        (now (fingerprints .entry)) (now (parents .entry)) (now (codes .entry))
-        (now (fingerprints .exit)) (now (parents .exit)) (now (codes .exit)) r ⌝ }
+    requires start { ⌜ Start (toldBy by) limits (now fingerprints) (now parents) (now codes) (now index) ⌝ }
+    ensures deepened { λ r. ⌜ Deepened (toldBy by) limits
+        (now (fingerprints .entry)) (now (parents .entry)) (now (codes .entry)) (now (index .entry))
+        (now (fingerprints .exit)) (now (parents .exit)) (now (codes .exit)) (now (index .exit)) r ⌝ }
 {
+    let lookup = by;
     let l = limits;
     let limit = limits.gates;
     let mut n = 1;
@@ -86,7 +104,17 @@ fn deepen_all(
     let mut d = 0;
     while d < limit {
         let next = d + 1;
-        let t = deepen(l, first, n, gates, fingerprints, parents, codes);
+        let t = deepen(
+            lookup,
+            l,
+            first,
+            n,
+            gates,
+            fingerprints,
+            parents,
+            codes,
+            index,
+        );
         if t.saturated {
             return WidthTable {
                 count: t.count,
@@ -114,16 +142,18 @@ fn deepen_all(
 
 // A width: node 0, then depth by depth. Places that no node fills keep what they held.
 pub fn build_width(
+    by: LookupBy,
     limits: WidthLimits,
     fingerprints: &mut [u64],
     parents: &mut [u32],
     codes: &mut [u32],
+    index: &mut [u32],
 ) -> WidthTable
     requires bounds { ⌜ ((limits .width) ≤ 5) × ((limits .gates) ≤ 64) × (0 < (limits .entries)) × ((limits .entries) ≤ 1000000) ⌝ }
-    requires long { ⌜ Long limits (now fingerprints) (now parents) (now codes) ⌝ }
-    ensures whole { λ r. ⌜ Whole limits (built (limits .width) (limits .basis) (limits .gates) (limits .entries))
-        (now (fingerprints .entry)) (now (parents .entry)) (now (codes .entry))
-        (now (fingerprints .exit)) (now (parents .exit)) (now (codes .exit)) r ⌝ }
+    requires long { ⌜ Long (toldBy by) limits (now fingerprints) (now parents) (now codes) (now index) ⌝ }
+    ensures whole { λ r. ⌜ Whole (toldBy by) limits (built (limits .width) (limits .basis) (limits .gates) (limits .entries))
+        (now (fingerprints .entry)) (now (parents .entry)) (now (codes .entry)) (now (index .entry))
+        (now (fingerprints .exit)) (now (parents .exit)) (now (codes .exit)) (now (index .exit)) r ⌝ }
 {
     let mut gates: [u32; 105] = [0; 105];
     let size = generators::library_gates(limits.width, GateSet(limits.basis), &mut gates);
@@ -131,7 +161,7 @@ pub fn build_width(
     let one = UnitaryMatrix::identity(n);
     let data = one.data;
     let print = prints::unitary_fingerprint(&data, n, 0);
-    next_node::put_root(print, fingerprints, parents, codes);
+    next_node::put_root(by, print, fingerprints, parents, codes, index);
     if size == 0 {
         return WidthTable {
             count: 1,
@@ -139,5 +169,13 @@ pub fn build_width(
             saturated: false,
         };
     }
-    deepen_all(limits, &gates[0..size], fingerprints, parents, codes)
+    deepen_all(
+        by,
+        limits,
+        &gates[0..size],
+        fingerprints,
+        parents,
+        codes,
+        index,
+    )
 }

@@ -10,7 +10,7 @@ use Rattle.candidates.proofs.try_candidate.Tie as tie
 
 returns : tie.Need-returns
 returns c =
-    let s = c .before .before .before .before .before .before in (
+    let s = c .before .before .before .before .before .before .before in (
       λ h e. keep h _ (skip-pruned h _ (sym (pruned-is h _ _ (s .pre .1 .1 .1 .1 .there)) ∙ sym (c .before .is-pruned .ensures) ∙ c .if1 .taken)),
       s .pre .1 .1 .1 .0,
     )
@@ -19,7 +19,7 @@ returns-2 : tie.Need-returns-2
 returns-2 c =
     let a = c .before .before in
     let i = a .before .before .before in
-    let s = i .before .before .before .before .before .before in (
+    let s = i .before .before .before .before .before .before .before in (
       λ h e.
           let t = sym (ap toldCandidate (c .enum-told .given .1)) ∙ a .candidate-print .ensures .0 in
           keep h _
@@ -30,11 +30,11 @@ returns-2 c =
 
 returns-3 : tie.Need-returns-3
 returns-3 c =
-    let a = c .before .before .before .before .before .before in
-    let p = a .before .before .before .before .before in
+    let a = c .before .before .before .before .before .before .before .before in
+    let p = a .before .before .before .before .before .before in
     let q = p .before .before in
     let i = q .before .before .before in
-    let s = i .before .before .before .before .before .before in (
+    let s = i .before .before .before .before .before .before .before in (
       λ h e.
           let t = sym (ap toldCandidate (p .print .given .1)) ∙ q .candidate-print .ensures .0 in
           let g = print-given _ _ _ t in
@@ -57,6 +57,7 @@ try-candidate-spec =
     (λ c. search needs)
     returns-2
     (λ c κs. search needs)
+    (λ c. search needs)
     (λ c. search needs)
     (λ c. search needs)
     (λ c. search needs)

@@ -22,8 +22,8 @@ put-nodes-requires c κs =
     let p = sound s in
     let l = c .before .before .before .put-table-line in
     let counted = ap (λ (v : Width). v .count) (c .before .before .before .before .before .width-table .ensures) in (
-      (omega (arith, s .pre .1 .1, l .ensures .1, l .kept .0, p .count, counted), p .start, omega (arith, p .count, counted, p .entries)),
-      (omega (arith, p .inside _ (s .pre .1 .0 .1), p .count, counted), omega (arith, p .inside _ (s .pre .1 .0 .2), p .count, counted)),
+      (omega (arith, s .pre .1 .1, l .ensures .1, l .kept .0, p .count, p .counted, counted), p .start, omega (arith, p .count, p .counted, counted, p .entries)),
+      (omega (arith, p .inside _ (s .pre .1 .0 .1), p .count, p .counted, counted), omega (arith, p .inside _ (s .pre .1 .0 .2), p .count, p .counted, counted)),
     )
 
 returns : tie.Need-returns
@@ -34,8 +34,8 @@ returns c =
     let l = c .before .before .before .before .before .before .put-table-line .ensures in
     let n = c .before .before .put-nodes .ensures in
     let counted = ap (λ (v : Width). v .count) (c .before .before .before .before .before .before .before .before .width-table .ensures) in (
-      put-as (width-as (toldMurm (a .table)) (a .parents .now) (a .codes .now) (a .width) (c .before .before .before .before .before .before .before .before .width-table .ensures) (p .count)) (then-put (l .0) (n .0)),
-      omega (arith, l .1, n .1, p .count, counted),
+      put-as (width-as (toldMurm (a .table)) (a .parents .now) (a .codes .now) (a .width) (c .before .before .before .before .before .before .before .before .width-table .ensures) (omega (arith, p .count, p .counted))) (then-put (l .0) (n .0)),
+      omega (arith, l .1, n .1, p .count, p .counted, counted),
     )
 
 pub put-width-spec : {M : Type 1} → statement M

@@ -12,8 +12,8 @@ array-share-prefix-space c =
     let r = c .before .before .before .before .read-matrix in
     omega (arith, r .ensures, ap askedCount (c .before .width .given .1), r .kept .1 .0)
 
-slice-aggregate-find : tie.Need-slice-aggregate-find
-slice-aggregate-find c = sym (length-take-le _ (c .before .before .before .before .before .read-matrix .last .1 .0) (array-share-prefix-space (c .before)))
+slice-aggregate-find-by : tie.Need-slice-aggregate-find-by
+slice-aggregate-find-by c = sym (length-take-le _ (c .before .before .before .before .before .read-matrix .last .1 .0) (array-share-prefix-space (c .before)))
 
 pub ask-find-spec : {M : Type 1} → statement M
 ask-find-spec =
@@ -24,7 +24,7 @@ ask-find-spec =
     (λ c κs. search needs)
     (λ c. search needs)
     array-share-prefix-space
-    slice-aggregate-find
+    slice-aggregate-find-by
     (λ c κs. search needs)
     (λ c. search needs)
     (λ c. search needs)

@@ -18,8 +18,8 @@ slice-aggregate-fingerprint-of c = sym (length-take-le _ (c .before .before .bef
 array-share-prefix-space-2 : tie.Need-array-share-prefix-space-2
 array-share-prefix-space-2 c = array-share-prefix-space (c .before .before)
 
-slice-aggregate-synthesize : tie.Need-slice-aggregate-synthesize
-slice-aggregate-synthesize c = slice-aggregate-fingerprint-of (c .before .before)
+slice-aggregate-synthesize-by : tie.Need-slice-aggregate-synthesize-by
+slice-aggregate-synthesize-by c = slice-aggregate-fingerprint-of (c .before .before)
 
 pub ask-matrix-spec : {M : Type 1} → statement M
 ask-matrix-spec =
@@ -33,7 +33,7 @@ ask-matrix-spec =
     slice-aggregate-fingerprint-of
     (λ c κs. search needs)
     array-share-prefix-space-2
-    slice-aggregate-synthesize
+    slice-aggregate-synthesize-by
     (λ c κs. search needs)
     (λ c. search needs)
     (λ c. search needs)

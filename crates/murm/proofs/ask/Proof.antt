@@ -4,8 +4,9 @@ use mathlib.Core.List.{[]}
 use Prim.Native.Nat.{_-_}
 use native.Mathlib.Omega.{arith}
 use lib.ListN.{length-take}
-use Rattle.tables.specs.Checks.{Arrays, arrays}
+use Rattle.tables.specs.Checks.{Arrays, arraysBy}
 use Rattle.tables.specs.Tables.{Table, Query, query}
+use Rattle.index.specs.Told.{toldBy}
 use Rattle.murm_config.specs.Told.{toldMurm}
 use Rattle.width_answer.proofs.Widths.{answered-none, answered-bad, found-short, found-within, answered-list}
 use Rattle.murm.proofs.Asked.{short-list, long-list}
@@ -18,13 +19,16 @@ module _ (s : tie.Start) where
   table = toldMurm (s .args .table)
 
   abbrev memory : Arrays
-  memory = arrays (s .args .fingerprints .now) (s .args .parents .now) (s .args .codes .now)
+  memory = arraysBy (toldBy (s .args .by)) (s .args .fingerprints .now) (s .args .parents .now) (s .args .codes .now) (s .args .index .now)
 
   abbrev asked : Query
   asked = query (s .args .width) (s .args .exponent) (s .args .matrix .now)
 
 returns : tie.Need-returns
-returns c = let s = c .before .before .before .before .before .before in short-list (table s) (memory s) (asked s) (s .args .out .now) (c .if1 .taken)
+returns c = let s = c .before .before .before .before .before .before .before in short-list (table s) (memory s) (asked s) (s .args .out .now) (c .if1 .taken)
+
+find-any-requires : tie.Need-find-any-requires
+find-any-requires c κs = let p = c .before .before .before .before .before .before .before .before .pre in (p .0, (p .1 .0, (p .1 .1 .0, p .1 .1 .1, search needs)))
 
 part-copy-codes-end : tie.Need-part-copy-codes-end
 part-copy-codes-end c = found-within _ _ _ [] _ (c .before .before .before .before .before .before .find-any .ensures) (c .before .before .before .size .given .1)
@@ -35,23 +39,23 @@ copy-codes-requires c κs =
       arith,
       c .before .before .before .before .before .before .before .before .before .if1 .left,
       found-short _ _ _ [] _ (c .before .before .before .before .before .before .before .find-any .ensures) (c .before .before .before .before .size .given .1),
-      length-take (c .before .before .before .before .size .given .0 .1 .0 - 0) (c .before .before .before .before .before .before .before .find-any .last .1 .1 .1 .1 .1 .1 .1 .0),
+      length-take (c .before .before .before .before .size .given .0 .1 .0 - 0) (c .before .before .before .before .before .before .before .find-any .last .1 .1 .1 .1 .1 .1 .1 .1 .1 .0),
     )
 
 returns-2 : tie.Need-returns-2
 returns-2 c =
-    let s = c .before .before .before .before .before .before .before .before .before .before .before .before .before .before .before .before .before .before in
+    let s = c .before .before .before .before .before .before .before .before .before .before .before .before .before .before .before .before .before .before .before in
     long-list (table s) (memory s) (asked s) (s .args .out .now) (c .before .before .before .before .before .before .before .before .before .before .before .before .if1 .left)
     (answered-list _ _ _ _ _ (c .before .before .before .before .before .before .before .before .before .before .find-any .ensures) (c .before .before .before .before .before .before .before .size .given .1) (c .before .before .copy-codes .ensures))
 
 returns-3 : tie.Need-returns-3
 returns-3 c =
-    let s = c .before .before .before .before .before .before .before .before .before .before .before in
+    let s = c .before .before .before .before .before .before .before .before .before .before .before .before in
     long-list (table s) (memory s) (asked s) (s .args .out .now) (c .before .before .before .before .before .if1 .left) (answered-none _ _ _ _ _ (c .before .before .before .find-any .ensures) (c .enum-told .given .1))
 
 returns-4 : tie.Need-returns-4
 returns-4 c =
-    let s = c .before .before .before .before .before .before .before .before .before .before .before in
+    let s = c .before .before .before .before .before .before .before .before .before .before .before .before in
     long-list (table s) (memory s) (asked s) (s .args .out .now) (c .before .before .before .before .before .if1 .left) (answered-bad _ _ _ _ _ (c .before .before .before .find-any .ensures) (c .enum-told2 .given .1))
 
 pub ask-spec : {M : Type 1} → statement M
@@ -61,7 +65,7 @@ ask-spec =
     (λ c. search needs)
     returns
     (λ c. search needs)
-    (λ c κs. search needs)
+    find-any-requires
     (λ c. search needs)
     (λ c. search needs)
     (λ c. search needs)

@@ -1,11 +1,12 @@
--- `check_find` meets its contract: the rows of the table, then those of the query. Assumes nothing.
+-- `check_find` meets its contract: the rows of the table and the index, then those of the query. Assumes nothing.
 use borrow.Author.Needs.{needs}
-use mathlib.Core.Path.{sym, ap, _∙_}
 use native.Mathlib.Omega.{arith}
-use Rattle.refusal.specs.Told.{Reason}
 use Rattle.refusal.proofs.Numbers.{some}
+use Rattle.tables.specs.Tables.{lookRows}
+use Rattle.tables.proofs.Asked.{numbered-look}
+use Rattle.index.specs.Told.{toldBy}
 use Rattle.murm_config.specs.Told.{toldMurm}
-use Rattle.murm_config.proofs.Asking.{later-rows, table-refuses}
+use Rattle.murm_config.proofs.Asking.{later-rows, first-refuses}
 use Rattle.murm.proofs.check_find.Statement.{statement}
 use Rattle.murm.proofs.check_find.Tie as tie
 
@@ -13,7 +14,9 @@ returns : tie.Need-returns
 returns c =
     let a = c .before .before .before .before .args in
     record {
-      told = later-rows (toldMurm (a .table)) (a .prints) (a .parents) (a .codes) _ (c .before .before .before .check-table .ensures) (c .before .enum-told .given .1) (c .check-query .ensures .told);
+      told = later-rows (lookRows (toldMurm (a .table)) (toldBy (a .by)) (a .prints) (a .parents) (a .codes) (a .places)) _
+          (numbered-look (toldMurm (a .table)) (toldBy (a .by)) (a .prints) (a .parents) (a .codes) (a .places))
+          (c .before .before .before .check-look .ensures) (c .before .enum-told .given .1) (c .check-query .ensures .told);
       small = c .check-query .ensures .small;
     }
 
@@ -21,7 +24,9 @@ returns-2 : tie.Need-returns-2
 returns-2 c =
     let a = c .before .before .before .before .args in
     record {
-      told = table-refuses (toldMurm (a .table)) (a .prints) (a .parents) (a .codes) _ (c .before .before .before .check-table .ensures) (c .before .r .given .1);
+      told = first-refuses (lookRows (toldMurm (a .table)) (toldBy (a .by)) (a .prints) (a .parents) (a .codes) (a .places)) _
+          (numbered-look (toldMurm (a .table)) (toldBy (a .by)) (a .prints) (a .parents) (a .codes) (a .places))
+          (c .before .before .before .check-look .ensures) (c .before .r .given .1);
       small = λ e. absurd (omega (arith, some (c .before .r .given .0 .0), e));
     }
 

@@ -1,25 +1,37 @@
 -- `find_any` meets its contract: a width without entries has no node. Assumes nothing.
 use borrow.Author.Needs.{needs}
 use mathlib.Core.Path.{sym, _∙_}
-use Rattle.tables.specs.Checks.{arrays}
-use Rattle.tables.specs.Tables.{query, matrixOf, limitsAt, partAt}
+use native.Mathlib.Omega.{arith}
+use Rattle.tables.specs.Checks.{Arrays, arraysBy}
+use Rattle.tables.specs.Tables.{Table, Query, query, matrixOf, limitsAt, partAt}
 use Rattle.width_answer.proofs.Widths.{empty-found}
-use Rattle.murm_config.specs.Told.{toldConfig, toldMurm}
+use Rattle.index.specs.Told.{toldBy}
+use Rattle.murm_config.specs.Told.{toldMurm}
 use Rattle.murm.proofs.find_any.Statement.{statement}
 use Rattle.murm.proofs.find_any.Tie as tie
 
+-- what the definition is asked
+module _ (s : tie.Start) where
+  abbrev table : Table
+  table = toldMurm (s .args .table)
+
+  abbrev memory : Arrays
+  memory = arraysBy (toldBy (s .args .by)) (s .args .fingerprints .now) (s .args .parents .now) (s .args .codes .now) (s .args .index .now)
+
+  abbrev asked : Query
+  asked = query (s .args .width) (s .args .exponent) (s .args .matrix .now)
+
 returns : tie.Need-returns
 returns c =
-    let a = c .before .before .before .before .before .before .args in
-    empty-found (limitsAt (toldConfig (a .table .config)) (a .width)) (partAt (toldMurm (a .table)) (arrays (a .fingerprints .now) (a .parents .now) (a .codes .now)) (a .width))
-    (matrixOf (query (a .width) (a .exponent) (a .matrix .now))) _ (sym (c .before .count-at .ensures) ∙ c .if1 .taken)
+    let s = c .before .before .before .before .before .before .before in
+    empty-found (limitsAt (table s .limits) (s .args .width)) (partAt (table s) (memory s) (s .args .width)) (matrixOf (asked s)) _
+    (sym (c .before .count-at .ensures) ∙ c .if1 .taken)
+
+find-part-requires : tie.Need-find-part-requires
+find-part-requires c κs =
+    let s = c .before .before .before .before .before .before .before .before in
+    ((s .pre .0, c .before .before .count-at .ensures, omega (arith, c .before .if1 .left)), (s .pre .1 .0, s .pre .1 .1))
 
 pub find-any-spec : {M : Type 1} → statement M
 find-any-spec =
-    tie.close
-    (tie.spec
-    (λ c κs. search needs)
-    returns
-    (λ c κs. search needs)
-    (λ c. search needs)
-    (λ c. search needs))
+    tie.close (tie.spec (λ c κs. search needs) returns find-part-requires (λ c. search needs) (λ c. search needs))

@@ -1,17 +1,18 @@
--- `find_from` meets its contract: the part of each array that is lent is `take entries (drop start ..)`. Assumes nothing.
+-- `find_from` meets its contract: the part of each array that is lent is `take entries (drop start ..)`, and so with the index. Assumes nothing.
 use borrow.Author.Needs.{needs}
 use Prim.Native.Nat.{_+_, _-_}
 use native.Mathlib.Omega.{arith}
 use mathlib.Core.Path.{_≡_}
 use Rattle.exact.specs.Places.{held}
 use Rattle.synthesis_arena.specs.Limits.{toldLimits}
+use Rattle.index.specs.Told.{toldBy}
 use Rattle.murm.proofs.Parts.{room, same-size}
 use Rattle.murm.proofs.find_from.Statement.{statement}
 use Rattle.murm.proofs.find_from.Tie as tie
 
 find-width-requires : tie.Need-find-width-requires
 find-width-requires c κs =
-    let s = c .before .before .before .before .before .before .before .before .before in
+    let s = c .before .before .before .before .before .before .before .before .before .before .before in
     let p = s .pre in
     let a = s .args in (
       p .0,
@@ -27,15 +28,21 @@ find-width-requires c κs =
 
 returns : tie.Need-returns
 returns c =
-    let a = c .before .before .before .before .before .before .before .before .before .before .before .before .args in
+    let a = c .before .before .before .before .before .before .before .before .before .before .before .before .before .before .args in
     let e : a .start + a .limits .entries - a .start ≡ a .limits .entries = omega arith in
-    same-size (toldLimits (a .limits)) (held (a .limits .width) (a .exponent) (a .matrix .now)) (a .start) (a .limits .entries) (a .fingerprints .now)
-    (a .parents .now) (a .codes .now) e (c .before .before .find-width .ensures)
+    let h : a .place + a .size - a .place ≡ a .size = omega arith in
+    same-size (toldLimits (a .limits)) (held (a .limits .width) (a .exponent) (a .matrix .now)) (toldBy (a .by)) (a .start) (a .limits .entries)
+    (a .place) (a .size) (a .fingerprints .now) (a .parents .now) (a .codes .now) (a .index .now) e h (c .before .before .find-width .ensures)
 
 pub find-from-spec : {M : Type 1} → statement M
 find-from-spec =
     tie.close
     (tie.spec
+    (λ c. search needs)
+    (λ c. search needs)
+    (λ c. search needs)
+    (λ c. search needs)
+    (λ c. search needs)
     (λ c. search needs)
     (λ c. search needs)
     (λ c. search needs)

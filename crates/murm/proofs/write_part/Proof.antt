@@ -39,8 +39,8 @@ circuit-requires c κs =
     let a = s .args in
     let E = a .table .config .«max_entries_per_qubit» in
     let at = (a .width - 1) * E in (
-      omega (arith, room at E (toldMurm (a .table) .limits .entries) (a .parents .now) (p .inside _ (s .pre .in-parents)) (omega arith), p .count, p .counted, s .pre .node),
-      omega (arith, room at E (toldMurm (a .table) .limits .entries) (a .codes .now) (p .inside _ (s .pre .in-codes)) (omega arith), p .count, p .counted, s .pre .node),
+      omega (arith, room at E (toldMurm (a .table) .limits .entries) (a .parents .now) (p .inside _ (s .pre .in-parents)) (omega arith), p .count, s .pre .node),
+      omega (arith, room at E (toldMurm (a .table) .limits .entries) (a .codes .now) (p .inside _ (s .pre .in-codes)) (omega arith), p .count, s .pre .node),
       s .pre .long,
     )
 

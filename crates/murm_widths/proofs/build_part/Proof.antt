@@ -1,16 +1,33 @@
 -- `build_part` meets its contract. Assumes nothing.
+use mathlib.Core.Path.{_≡_}
 use Prim.Native.Nat.{_+_, _*_}
+use native.Mathlib.Omega.{arith}
 use borrow.Author.Needs.{needs}
 use Rattle.tables.specs.Tables.{walkOf}
 use Rattle.tables.specs.Checks.{limitsOf}
-use Rattle.murm_widths.proofs.Parts.{row-is, prints-back, parents-back, codes-back}
+use Rattle.index.specs.Told.{toldBy}
+use Rattle.murm_widths.proofs.Parts.{lent-length, row-is, prints-back, parents-back, codes-back, index-back}
 use Rattle.murm_widths.proofs.build_part.Statement.{statement}
 use Rattle.murm_widths.proofs.build_part.Tie as tie
 
+build-width-requires : tie.Need-build-width-requires
+build-width-requires c κs =
+    let s = c .before .before .before .before .before .before .before .before in
+    let a = s .args in
+    let p = s .pre in (
+      (omega (arith, p .0 .0), p .0 .1, p .0 .2, p .0 .3),
+      record {
+        in-f = omega (arith, lent-length (a .v * a .entries) (a .entries) (a .fingerprints .now) (p .1 .0 .0));
+        in-u = omega (arith, lent-length (a .v * a .entries) (a .entries) (a .parents .now) (p .1 .0 .1));
+        in-c = omega (arith, lent-length (a .v * a .entries) (a .entries) (a .codes .now) (p .1 .0 .2));
+        in-i = λ e. omega (arith, lent-length (a .v * a .size) (a .size) (a .index .now) (p .1 .1 .0), p .1 .1 .1 e);
+      },
+    )
+
 returns : tie.Need-returns
 returns c =
-    let s = c .before .before .before .before .before .before .before .before .before .before .before .before .before .args in
-    let b = c .before .before .before .before .before .before .build-width in
+    let s = c .before .before .before .before .before .before .before .before .before .before .before .before .before .before .before .before .before .args in
+    let b = c .before .before .before .before .before .before .before .before .build-width in
     let r = b .ensures in
     let k = r .columns in
     let l = limitsOf 0 (s .gates) (s .entries) (s .basis) in
@@ -21,6 +38,7 @@ returns c =
       prints = prints-back l w a (s .entries) _ (k .count-is) (s .fingerprints .now) _ (k .prints);
       parents = parents-back l w a (s .entries) _ (k .count-is) (s .parents .now) _ (k .parents);
       codes = codes-back l w a (s .entries) _ (k .count-is) (s .codes .now) _ (k .gates);
+      index = index-back l w (s .v * s .size) (s .size) _ (k .count-is) (s .index .now) _ (toldBy (s .by)) _ _ (k .prints) (k .index);
     }
 
 pub build-part-spec : {M : Type 1} → statement M
@@ -42,7 +60,14 @@ build-part-spec =
     (λ c. search needs)
     (λ c. search needs)
     (λ c. search needs)
-    (λ c κs. search needs)
+    (λ c. search needs)
+    (λ c. search needs)
+    (λ c. search needs)
+    (λ c. search needs)
+    (λ c. search needs)
+    (λ c. search needs)
+    build-width-requires
+    (λ c. search needs)
     (λ c. search needs)
     (λ c. search needs)
     (λ c. search needs)

@@ -2,27 +2,48 @@
 use Prim.Native.Nat.{ℕ, _≤_, _<_, _-_, _+_}
 use native.Mathlib.Omega.{arith}
 use mathlib.Core.Path.{_≡_, sym, ap, _∙_}
+use mathlib.Core.List.{List}
+use lib.ListN.{length}
 use borrow.Author.Needs.{needs}
-use Rattle.tables.specs.Tables.{printsOf, parentsOf, codesOf}
-use Rattle.tables.specs.Checks.{limitsOf}
+use Rattle.ints.specs.Lists.{over}
+use Rattle.walk.specs.Index.{By, indexed, kept}
+use Rattle.tables.specs.Tables.{walkOf, printsOf, parentsOf, codesOf}
+use Rattle.tables.specs.Checks.{Limits, limitsOf}
 use Rattle.tables.proofs.Filled.{room-at}
+use Rattle.tables.proofs.Indexes.{part-fits, part-sizes, indexed-parts}
+use Rattle.index.specs.Told.{toldBy}
 use Rattle.murm_config.specs.Told.{toldConfig, toldWidth, toldMurm}
 use Rattle.murm_widths.proofs.Widths.{recordTo, record-none, record-more, record-all, Done, done-none, done-more, done-all}
 use Rattle.murm_widths.proofs.Widths.{prints-same, parents-same, codes-same}
 use Rattle.murm_widths.proofs.build_widths.Statement.{statement}
 use Rattle.murm_widths.proofs.build_widths.Tie as tie
 
+-- what is done to the part of a width, in each array and in the index
+module _ (l : Limits) where
+  abbrev prints : ℕ → List ℕ → List ℕ
+  prints w = over (printsOf l w)
+
+  abbrev parents : ℕ → List ℕ → List ℕ
+  parents w = over (parentsOf l w)
+
+  abbrev codes : ℕ → List ℕ → List ℕ
+  codes w = over (codesOf l w)
+
+  abbrev places : By → ℕ → List ℕ → List ℕ
+  places by w = kept by (printsOf l w) (length (walkOf l w .nodes))
+
 abbrev Inv-loop : tie.InvT-loop
-Inv-loop fingerprints₀ parents₀ codes₀ q g e b table₀ v₀ fingerprints parents codes table v =
-    (v ≤ q) × (toldMurm table ≡ recordTo (limitsOf q g e b) v) × Done (printsOf (limitsOf q g e b)) e v fingerprints₀ fingerprints
-    × Done (parentsOf (limitsOf q g e b)) e v parents₀ parents × Done (codesOf (limitsOf q g e b)) e v codes₀ codes
+Inv-loop fingerprints₀ parents₀ codes₀ index₀ lookup q g e b size table₀ v₀ fingerprints₁ parents₁ codes₁ index₁ table v =
+    (v ≤ q) × (toldMurm table ≡ recordTo (limitsOf q g e b) v) × Done (prints (limitsOf q g e b)) e v fingerprints₀ fingerprints₁
+    × Done (parents (limitsOf q g e b)) e v parents₀ parents₁ × Done (codes (limitsOf q g e b)) e v codes₀ codes₁
+    × Done (places (limitsOf q g e b) (toldBy lookup)) size v index₀ index₁
 
 abbrev μ-loop : tie.MeasureT-loop
-μ-loop fingerprints₀ parents₀ codes₀ q g e b table₀ v₀ fingerprints parents codes table v = q - v
+μ-loop fingerprints₀ parents₀ codes₀ index₀ lookup q g e b size table₀ v₀ fingerprints₁ parents₁ codes₁ index₁ table v = q - v
 
 loop-holds : tie.Need-loop-holds Inv-loop μ-loop
 loop-holds c =
-    let m = c .before .before .before .before .before .args .config in
+    let m = c .before .before .before .before .before .before .args .config in
     let b = c .before .bits .ensures in (
       search needs,
       c .empty .ensures ∙ (record-none (toldConfig m)
@@ -30,51 +51,74 @@ loop-holds c =
       done-none _ _ _,
       done-none _ _ _,
       done-none _ _ _,
+      done-none _ _ _,
     )
 
 build-part-requires : tie.Need-build-part-requires Inv-loop μ-loop
 build-part-requires c κs =
-    let m = c .before .before .before .before .before .before .before .before .before .before .args .config in
-    let v = c .before .before .before .before .loop .v in
-    let t = c .before .before .before .loop-test .taken in
-    omega (arith, room-at v (m .«max_qubits») (m .«max_entries_per_qubit») t)
+    let s = c .before .before .before .before .before .before .before .before .before .before .before .before in
+    let m = s .args .config in
+    let p = s .pre in
+    let u = c .before .before .before .before .before .loop in
+    let t = c .before .before .before .before .loop-test .taken in
+    let room = room-at (u .v) (m .«max_qubits») (m .«max_entries_per_qubit») t in
+    let l = toldConfig m in
+    let places : ℕ = length (s .args .index .now) in (
+      (omega (arith, t, p .0 .1), p .0 .2, p .0 .3, p .0 .4),
+      (
+        (omega (arith, room, p .1 .0 .0, u .inv .2 .0), omega (arith, room, p .1 .0 .1, u .inv .3 .0), omega (arith, room, p .1 .0 .2, u .inv .4 .0)),
+        (
+          omega (arith, part-fits l places (u .v) t, u .inv .5 .0),
+          λ e. omega (arith, part-sizes l places (indexed-parts l (toldBy (s .args .by)) places e (p .1 .1)) .large),
+        ),
+      ),
+    )
 
 add-v : tie.Need-add-v Inv-loop μ-loop
 add-v c =
-    let t = c .before .before .before .before .before .before .before .before .before .before .before in
-    let s = t .before .before .before .before .before .before .before in
-    record { fits = omega (arith, t .loop-test .taken, s .pre .0 .0) }
+    let t = c .before .before .before .before .before .before .before .before .before .before .before .before .before .before in
+    record { fits = omega (arith, t .loop-test .taken, t .before .before .before .before .before .before .before .before .pre .0 .1) }
 
 loop-again : tie.Need-loop-again Inv-loop μ-loop
 loop-again c =
-    let p = c .before .before .before .before .before .before .before .build-part in
-    let t = c .before .before .before .before .before .before .before .before .before .before .before in
+    let p = c .before .before .before .before .before .before .before .before .before .build-part in
+    let t = c .before .before .before .before .before .before .before .before .before .before .before .before .before .before in
     let u = t .before .loop in
     let b = t .before .before .before .bits .result in
-    let s = t .before .before .before .before .before .before .before in
+    let s = t .before .before .before .before .before .before .before .before in
     let m = s .args .config in
     let l = limitsOf (m .«max_qubits») (m .«max_gates») (m .«max_entries_per_qubit») b in
     let v = u .v in
-    let h : v < 5 = omega (arith, t .loop-test .taken, s .pre .0 .0) in (
+    let h : v < 5 = omega (arith, t .loop-test .taken, s .pre .0 .1) in (
       omega (arith, t .loop-test .taken),
       c .with-width .ensures ∙ record-more l v (toldMurm (u .table)) (toldWidth (p .result)) h (u .inv .1) (p .ensures .row),
-      done-more _ _ v _ _ _ _ (prints-same l (v + 1)) (p .kept .1 .1 .1 .1 .0) (p .ensures .prints) (u .inv .2),
-      done-more _ _ v _ _ _ _ (parents-same l (v + 1)) (p .kept .1 .1 .1 .1 .1 .0) (p .ensures .parents) (u .inv .3),
-      done-more _ _ v _ _ _ _ (codes-same l (v + 1)) (p .kept .1 .1 .1 .1 .1 .1 .0) (p .ensures .codes) (u .inv .4),
+      done-more (prints l) _ v _ _ _ (ap over (prints-same l (v + 1))) (p .kept .1 .1 .1 .1 .1 .1 .0) (p .ensures .prints) (u .inv .2),
+      done-more (parents l) _ v _ _ _ (ap over (parents-same l (v + 1))) (p .kept .1 .1 .1 .1 .1 .1 .1 .0) (p .ensures .parents) (u .inv .3),
+      done-more (codes l) _ v _ _ _ (ap over (codes-same l (v + 1))) (p .kept .1 .1 .1 .1 .1 .1 .1 .1 .0) (p .ensures .codes) (u .inv .4),
+      done-more (places l (toldBy (s .args .by))) _ v _ _ _
+          (ap (λ (z : List ℕ). kept (toldBy (s .args .by)) z (length (walkOf l (v + 1) .nodes))) (prints-same l (v + 1)))
+          (p .kept .1 .1 .1 .1 .1 .1 .1 .1 .1 .0) (p .ensures .index) (u .inv .5),
     )
 
 returns : tie.Need-returns Inv-loop μ-loop
 returns c =
     let u = c .before .loop in
-    let m = c .before .before .before .before .before .before .before .args .config in
+    let s = c .before .before .before .before .before .before .before .before .args in
+    let m = s .config in
     let b = c .before .before .before .bits in
     let e : limitsOf (m .«max_qubits») (m .«max_gates») (m .«max_entries_per_qubit») (b .result) ≡ toldConfig m =
     ap (limitsOf (m .«max_qubits») (m .«max_gates») (m .«max_entries_per_qubit»)) (b .ensures) in
     let f : u .v ≡ m .«max_qubits» = omega arith in (
       record-all _ (toldConfig m) (u .v) _ e f (u .inv .1),
       (
-        done-all _ _ _ _ _ _ _ (ap printsOf e) f (u .inv .2),
-        (done-all _ _ _ _ _ _ _ (ap parentsOf e) f (u .inv .3), done-all _ _ _ _ _ _ _ (ap codesOf e) f (u .inv .4)),
+        done-all _ _ _ _ _ _ _ (ap prints e) f (u .inv .2),
+        (
+          done-all _ _ _ _ _ _ _ (ap parents e) f (u .inv .3),
+          (
+            done-all _ _ _ _ _ _ _ (ap codes e) f (u .inv .4),
+            done-all _ _ _ _ _ _ _ (ap (λ (z : Limits). places z (toldBy (s .by))) e) f (u .inv .5),
+          ),
+        ),
       ),
     )
 
@@ -85,15 +129,18 @@ build-widths-spec =
     Inv-loop
     μ-loop
     (λ c κs. search needs)
+    (λ c. search needs)
+    (λ c. c .before .before .before .before .before .pre .0 .0)
     (λ c κs. search needs)
     loop-holds
     build-part-requires
-    (λ c. search needs)
-    (λ c κs. search needs)
+    (λ c. record { fits = omega (arith, c .before .before .before .before .before .before .before .before .before .before .before .before .before .loop-test .taken, c .before .before .before .before .before .before .before .before .before .before .before .before .before .before .before .before .before .before .before .before .before .pre .0 .1) })
+    (λ c κs. (omega arith, omega (arith, c .before .before .before .before .before .before .before .before .before .before .before .before .before .loop-test .taken, c .before .before .before .before .before .before .before .before .before .before .before .before .before .before .before .before .before .before .before .before .before .pre .0 .1)))
     add-v
-    (λ c. search needs)
+    (λ c. omega (arith, c .before .before .before .before .before .before .before .before .before .before .before .before .before .before .loop-test .taken))
     loop-again
-    (λ c. search needs)
-    (λ c. search needs)
-    (λ c. search needs)
+    (λ c. c .before .loop .inv .2 .0)
+    (λ c. c .before .loop .inv .3 .0)
+    (λ c. c .before .loop .inv .4 .0)
+    (λ c. c .before .loop .inv .5 .0)
     returns)

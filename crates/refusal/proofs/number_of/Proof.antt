@@ -8,7 +8,7 @@ use Rattle.refusal.proofs.number_of.Statement.{statement}
 use Rattle.refusal.proofs.number_of.Tie as tie
 
 -- what is asked of an arm that answers k and i, where the definition tells its case so
-tells : {r x : Refusal} {k i : ℕ} → r ≡ x → toldRefusal x ≡ reason k i → k ≤ 16 → (k ≡ numberOf r) × ((i ≡ positionOf r) × (k ≤ 16))
+tells : {r x : Refusal} {k i : ℕ} → r ≡ x → toldRefusal x ≡ reason k i → k ≤ 17 → (k ≡ numberOf r) × ((i ≡ positionOf r) × (k ≤ 17))
 tells e t h = let s = sym (ap toldRefusal e ∙ t) in (ap (λ (z : Reason). z .number) s, (ap (λ (z : Reason). z .position) s, h))
 
 pub number-of-spec : {M : Type 1} → statement M
@@ -31,6 +31,7 @@ number-of-spec =
     (λ c. c .match .keys14)
     (λ c. c .match .keys15)
     (λ c. c .match .keys16)
+    (λ c. c .match .keys17)
     (λ c. tells (c .enum-told .given .1) refl (omega arith))
     (λ c. tells (c .enum-told2 .given .1) refl (omega arith))
     (λ c. tells (c .enum-told3 .given .1) refl (omega arith))
@@ -46,4 +47,5 @@ number-of-spec =
     (λ c. tells (c .enum-told11 .given .1) refl (omega arith))
     (λ c. tells (c .enum-told12 .given .1) refl (omega arith))
     (λ c. tells (c .enum-told13 .given .1) refl (omega arith))
-    (λ c. tells (c .enum-told14 .given .1) refl (omega arith)))
+    (λ c. tells (c .enum-told14 .given .1) refl (omega arith))
+    (λ c. tells (c .enum-told15 .given .1) refl (omega arith)))

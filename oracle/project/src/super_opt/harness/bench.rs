@@ -1,11 +1,13 @@
 //! Mode `bench`: port and original on the same work in one process, in turns.
 //! `bench` times lists, fingerprints, tables and answers; `bench kinds` also
-//! lists of one kind of gate; `bench tables` tables and answers only.
+//! lists of one kind of gate; `bench tables` tables and answers only; `bench index`
+//! large tables and answers through an index.
 
 use std::hint::black_box;
 use std::io::{self, Write};
 use std::time::{Duration, Instant};
 
+use super::bench_index;
 use super::bench_tables;
 use super::codes::{FURTHER, code_of, kinds, list_codes_of, list_gate, valid_gate};
 use super::lists::Parts;
@@ -44,7 +46,8 @@ pub(super) fn run(arguments: &[String], out: &mut dyn Write) -> io::Result<()> {
         [] => time_all(false, out)?,
         ["kinds"] => time_all(true, out)?,
         ["tables"] => {}
-        _ => return Err(io::Error::other("usage: oracle bench [kinds|tables]")),
+        ["index"] => return bench_index::run(out),
+        _ => return Err(io::Error::other("usage: oracle bench [kinds|tables|index]")),
     }
     bench_tables::run(out)
 }

@@ -6,8 +6,9 @@ use std::hint::black_box;
 use std::io::{self, Write};
 
 use super::bench::race;
+use super::indexes::sizes;
 use super::lists::Parts;
-use super::port::{Reply, Table};
+use super::port::{By, Lookup, Reply, Table};
 use super::random::Random;
 use super::tables::{Limits, nodes_of};
 use crate::circuit::GateSet;
@@ -42,39 +43,57 @@ struct Question {
     coefficients: Vec<i8>,
 }
 
+/// One line: how many of something each does in a second.
+pub(super) fn write_rates(
+    out: &mut dyn Write,
+    width: usize,
+    work: &str,
+    count: usize,
+    times: (f64, f64),
+) -> io::Result<()> {
+    let (original, port) = (count as f64 / times.0, count as f64 / times.1);
+    let ratio = port / original;
+    writeln!(out, "{width} {work} {original:.0} {port:.0} {ratio:.2}")?;
+    out.flush()
+}
+
 /// Writes two lines for each Q and basis, and two for the answers of each width.
 pub(super) fn run(out: &mut dyn Write) -> io::Result<()> {
     let mut write = |width: usize, work: &str, count: usize, times: (f64, f64)| {
-        let (original, port) = (count as f64 / times.0, count as f64 / times.1);
-        let ratio = port / original;
-        writeln!(out, "{width} {work} {original:.0} {port:.0} {ratio:.2}")?;
-        out.flush()
+        write_rates(out, width, work, count, times)
     };
     for basis in BASES {
         for qubits in 1..=5 {
             let full = limits(qubits, GATES, ENTRIES, basis);
-            let (count, times) = time_build(full);
+            let (count, times) = time_build(full, By::Scan);
             write(qubits as usize, &format!("full-{basis}"), count, times)?;
             let gates = WHOLE_GATES[qubits as usize - 1];
             let whole = limits(qubits, gates, WHOLE_ENTRIES, basis);
-            let (count, times) = time_build(whole);
+            let (count, times) = time_build(whole, By::Scan);
             write(qubits as usize, &format!("whole-{basis}"), count, times)?;
         }
     }
+    time_asked(By::Scan, ["answers", "misses"], out)
+}
+
+/// Answers and misses at every width, under these names.
+pub(super) fn time_asked(by: By, names: [&str; 2], out: &mut dyn Write) -> io::Result<()> {
     let limits = limits(5, GATES, ENTRIES, BASIS);
-    let (table, original) = (built(limits), limits.build());
+    let original = limits.build();
+    let (table, index) = built(limits, by);
+    let lookup = Lookup { by, index: &index };
     for width in 1..=5 {
         let nodes = nodes(&original, width);
-        let times = time_answers(&table, &original, width, &nodes, true);
-        write(width, "answers", QUESTIONS, times)?;
+        let times = time_answers(&table, lookup, &original, width, &nodes, true);
+        write_rates(out, width, names[0], QUESTIONS, times)?;
         let others = others(&original, width);
-        let times = time_answers(&table, &original, width, &others, false);
-        write(width, "misses", QUESTIONS, times)?;
+        let times = time_answers(&table, lookup, &original, width, &others, false);
+        write_rates(out, width, names[1], QUESTIONS, times)?;
     }
     Ok(())
 }
 
-fn limits(qubits: u32, gates: u32, entries: u32, basis: u32) -> Limits {
+pub(super) fn limits(qubits: u32, gates: u32, entries: u32, basis: u32) -> Limits {
     Limits {
         qubits,
         gates,
@@ -83,18 +102,25 @@ fn limits(qubits: u32, gates: u32, entries: u32, basis: u32) -> Limits {
     }
 }
 
-/// The port's table.
-fn built(limits: Limits) -> Table {
-    let places = limits.qubits as usize * limits.entries as usize;
-    let mut table = Table::with_places(limits, places);
-    assert_eq!(table.build(), 0, "the limits are not refused");
-    table
+/// The port's table, and the index that it was built through; the scan has none.
+pub(super) fn built(limits: Limits, by: By) -> (Table, Vec<u32>) {
+    let qubits = limits.qubits as usize;
+    let mut table = Table::with_places(limits, qubits * limits.entries as usize);
+    let places = match by {
+        By::Scan => 0,
+        By::Index => qubits * sizes(limits.entries)[0],
+    };
+    let mut index = vec![0; places];
+    let refusal = table.build_by(by, &mut index);
+    assert_eq!(refusal, 0, "the limits are not refused");
+    (table, index)
 }
 
 /// How many entries the table has, and the least times of one build by the
 /// original and by the port, which must come to the same nodes.
-fn time_build(limits: Limits) -> (usize, (f64, f64)) {
-    let (mut table, original) = (built(limits), limits.build());
+pub(super) fn time_build(limits: Limits, by: By) -> (usize, (f64, f64)) {
+    let (mut table, mut index) = built(limits, by);
+    let original = limits.build();
     let mut count = 0;
     for width in 1..=limits.qubits as usize {
         let (nodes, depth, saturated) = original.width(width);
@@ -111,12 +137,13 @@ fn time_build(limits: Limits) -> (usize, (f64, f64)) {
         }
         count += nodes.len();
     }
+    drop(original);
     let times = race(
         || {
             black_box(black_box(limits).build());
         },
         || {
-            black_box(table.build());
+            black_box(table.build_by(by, &mut index));
         },
     );
     (count, times)
@@ -163,6 +190,7 @@ fn others(table: &Murm, width: usize) -> Vec<Question> {
 /// or none.
 fn time_answers(
     table: &Table,
+    lookup: Lookup,
     original: &Murm,
     width: usize,
     questions: &[Question],
@@ -171,7 +199,7 @@ fn time_answers(
     let mut out = [0; GATES as usize];
     for question in questions {
         let (exponent, coefficients) = (question.exponent, &question.coefficients);
-        let reply = table.ask(width as u32, exponent, coefficients, &mut out);
+        let reply = table.ask_by(lookup, width as u32, exponent, coefficients, &mut out);
         let told = original.synthesize(&question.matrix);
         assert_eq!(told.is_some(), answered, "the original's answer");
         assert_eq!(reply == Reply::None, !answered, "the port's answer");
@@ -188,8 +216,19 @@ fn time_answers(
         || {
             for question in questions {
                 let coefficients = black_box(&question.coefficients);
-                let exponent = question.exponent;
-                let _ = black_box(table.synthesize(width as u32, exponent, coefficients, &mut out));
+                let (width, exponent) = (width as u32, question.exponent);
+                // By the scan the crate in rust/ is asked, as any caller asks it.
+                match lookup.by {
+                    By::Scan => {
+                        let _ =
+                            black_box(table.synthesize(width, exponent, coefficients, &mut out));
+                    }
+                    By::Index => {
+                        let told =
+                            table.synthesize_by(lookup, width, exponent, coefficients, &mut out);
+                        black_box(told);
+                    }
+                }
             }
         },
     )

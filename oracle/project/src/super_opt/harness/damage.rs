@@ -1,11 +1,13 @@
 //! Mode `damage`: tables that the port built are altered in one place or in
-//! some, and asked for answers, nodes and lists. What the port says must be what
-//! `rules` decides; every list answered must give the matrix asked, by an exact
-//! product; and of the lent list only the places of a list may change.
+//! some, and asked for answers, nodes and lists; then indexes, by `indexes`. What
+//! the port says must be what `rules` decides; every list answered must give the
+//! matrix asked, by an exact product; and of the lent list only the places of a list
+//! may change.
 
 use std::io::{self, Write};
 
 use super::altered::{Place, places, values};
+use super::indexes;
 use super::orders;
 use super::port::{Finding, Reply, Table};
 use super::random::Random;
@@ -38,7 +40,7 @@ const ROUNDS: usize = 2000;
 pub(super) const MOST: usize = 64;
 
 /// The code of T on qubit 0.
-const T: u32 = 20480;
+pub(super) const T: u32 = 20480;
 
 pub(super) fn run(_: &[String], out: &mut dyn Write) -> io::Result<()> {
     let mut tally = Tally::new();
@@ -49,6 +51,7 @@ pub(super) fn run(_: &[String], out: &mut dyn Write) -> io::Result<()> {
     orders::run(&mut tally);
     planted(&mut tally);
     long_chain(&mut tally);
+    indexes::run(&mut tally);
     tally.report(out)
 }
 
@@ -75,16 +78,22 @@ pub(super) fn listed(width: u32, codes: &[u32]) -> Matrix {
     Matrix::of_list(width, codes).expect("a short list fits")
 }
 
+/// Arrays of twice as many places as a table has, that look like nodes: T after
+/// the root.
+pub(super) fn lent(limits: Limits) -> Table {
+    let size = limits.qubits as usize * limits.entries as usize;
+    let mut table = Table::with_places(limits, 2 * size);
+    table.fingerprints.fill(listed(1, &[T]).fingerprint());
+    table.codes.fill(T);
+    table
+}
+
 /// A table that the port built, in places that held something, with as many
 /// places again behind it.
 pub(super) fn built(limits: Limits, tally: &mut Tally) -> Table {
-    let size = limits.qubits as usize * limits.entries as usize;
-    let mut table = Table::with_places(limits, 2 * size);
-    // Unfilled places look like nodes: T after the root.
-    let print = listed(1, &[T]).fingerprint();
-    table.fingerprints.fill(print);
-    table.codes.fill(T);
+    let mut table = lent(limits);
     let lent = table.clone();
+    let size = limits.qubits as usize * limits.entries as usize;
     let refusal = table.build();
     assert_eq!(refusal, 0, "the limits are not refused");
     for place in 0..2 * size {
@@ -103,7 +112,7 @@ pub(super) fn built(limits: Limits, tally: &mut Tally) -> Table {
 }
 
 /// Every node's matrix, and others.
-fn questions(table: &Table) -> Vec<Asked> {
+pub(super) fn questions(table: &Table) -> Vec<Asked> {
     let limits = table.limits;
     let mut all = Vec::new();
     for width in 1..=limits.qubits {
@@ -148,7 +157,7 @@ fn questions(table: &Table) -> Vec<Asked> {
 
 /// How many places the list of a question has: mostly enough for any answer,
 /// sometimes just enough, and sometimes one too few, or none.
-fn room(gates: u32, number: usize) -> usize {
+pub(super) fn room(gates: u32, number: usize) -> usize {
     match number % 12 {
         3 => gates as usize,
         7 => (gates as usize).saturating_sub(1),

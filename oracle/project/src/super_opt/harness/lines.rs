@@ -73,7 +73,7 @@ fn asked<T>(what: Option<T>, table: Option<&Built>, answer: fn(&T, &Built) -> St
 }
 
 /// `WIDTH K COEFFICIENTS..`, with its newline.
-fn question(line: &str) -> Option<Question> {
+pub(super) fn question(line: &str) -> Option<Question> {
     let mut words = line.strip_suffix('\n')?.split(' ');
     let width = number(words.next()?)?;
     let exponent = u16::try_from(number(words.next()?)?).ok()?;

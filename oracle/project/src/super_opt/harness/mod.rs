@@ -6,6 +6,8 @@ mod altered;
 #[cfg(feature = "port")]
 mod bench;
 #[cfg(feature = "port")]
+mod bench_index;
+#[cfg(feature = "port")]
 mod bench_tables;
 mod circuits;
 mod codes;
@@ -15,6 +17,10 @@ mod edges;
 mod further;
 mod further_edges;
 mod gates;
+#[cfg(feature = "port")]
+mod indexed;
+#[cfg(feature = "port")]
+mod indexes;
 mod inputs;
 mod lines;
 mod lists;
@@ -33,6 +39,8 @@ mod table_inputs;
 mod tables;
 #[cfg(feature = "port")]
 mod tally;
+#[cfg(feature = "port")]
+mod walks;
 
 use std::io::{self, BufWriter, Write};
 use std::process::ExitCode;
@@ -45,6 +53,8 @@ const MODES: &[(&str, Mode)] = &[
     ("bench", bench::run),
     #[cfg(feature = "port")]
     ("damage", damage::run),
+    #[cfg(feature = "port")]
+    ("index", indexed::run),
     ("circuits", circuits::run),
     ("gates", gates::run),
     ("inputs", inputs::run),

@@ -1,23 +1,29 @@
 //! Several causes of a refusal at once. Of each set of causes the first in the
 //! order of the operation is told; without any there is a list.
 
-use super::damage::{MOST, TABLES, built, limits_of, listed};
-use super::port::{Finding, Reply, Table};
+use super::damage::{MOST, TABLES, built, lent, limits_of, listed};
+use super::indexes::{sizes, used};
+use super::port::{By, Finding, Lookup, Reply, Table};
 use super::random::Random;
-use super::rules::{Asked, times_root, written};
+use super::rules::{Asked, fill, times_root, written};
 use super::tally::Tally;
 
 /// How often each set of causes is asked, of each table.
 const ROUNDS: usize = 8;
 
 /// What each cause of an answer is told by, in order.
-const ANSWER: [u64; 8] = [13, 5, 6, 9, 10, 11, 12, 13];
+const ANSWER: [u64; 9] = [13, 5, 17, 6, 9, 10, 11, 12, 13];
 
-/// The place of 12 there, which a find does not try.
-const SHORT_LIST: usize = 6;
+/// The place of 17 there, which the scan does not try, and of 12, which a find does
+/// not try.
+const NO_PARTS: usize = 2;
+const SHORT_LIST: usize = 7;
+const BAD_CHAIN: usize = 8;
 
-/// The same of a write.
+/// The same of a write, of a fill, and of a build.
 const WRITE: [u64; 5] = [13, 5, 16, 12, 13];
+const FILL: [u64; 3] = [13, 5, 17];
+const BUILD: [u64; 6] = [1, 2, 3, 4, 5, 17];
 
 pub(super) fn run(tally: &mut Tally) {
     let mut random = Random::new(53);
@@ -25,10 +31,20 @@ pub(super) fn run(tally: &mut Tally) {
         let table = built(limits_of(limits), tally);
         for _ in 0..ROUNDS {
             for causes in 0..1 << ANSWER.len() {
-                answer(&table, causes, &mut random, tally);
+                for by in [By::Scan, By::Index] {
+                    answer(&table, by, causes, &mut random, tally);
+                }
             }
             for causes in 0..1 << WRITE.len() {
                 write(&table, causes, &mut random, tally);
+            }
+            for causes in 0..1 << FILL.len() {
+                fill_index(&table, causes, &mut random, tally);
+            }
+            for causes in 0..1 << BUILD.len() {
+                for by in [By::Scan, By::Index] {
+                    build(&table, by, causes, &mut random, tally);
+                }
             }
         }
     }
@@ -78,6 +94,23 @@ fn shorten(table: &mut Table, random: &mut Random) {
     }
 }
 
+/// An index of Q parts, each too small; or of other than Q parts; or nearly right.
+fn break_parts(index: &mut Vec<u32>, table: &Table, random: &mut Random) {
+    let qubits = table.limits.qubits as usize;
+    let size = sizes(table.limits.entries)[0];
+    let places = match random.below(8) {
+        0 => 0,
+        1 => qubits * size - 1,
+        2 => qubits * size + 1,
+        3 => qubits * size / 2,
+        4 => (qubits + 1) * size + usize::from(qubits == 1),
+        5 => qubits * (size - 1),
+        6 => qubits * (size + 2),
+        _ => size * 3 * qubits,
+    };
+    index.resize(places, 0);
+}
+
 /// The chain of a node is made bad, at the node or at node 0.
 fn break_chain(table: &mut Table, width: u32, node: usize, random: &mut Random) {
     let start = (width as usize - 1) * table.limits.entries as usize;
@@ -116,15 +149,15 @@ fn query(table: &Table, width: u32, node: usize, causes: [bool; 4]) -> Asked {
 }
 
 /// An answer and a find with a set of causes. The node's place, and no other of
-/// its width, has the fingerprint of what is asked.
-fn answer(table: &Table, causes: usize, random: &mut Random, tally: &mut Tally) {
+/// its width, has the fingerprint of what is asked. The scan is lent the same index.
+fn answer(table: &Table, by: By, causes: usize, random: &mut Random, tally: &mut Tally) {
     let has = |cause: usize| causes >> cause & 1 != 0;
     let gates = table.limits.gates as usize;
     if has(SHORT_LIST) && gates == 0 {
         return;
     }
     let (width, node) = node_of(table, random);
-    let asked = query(table, width, node, [2, 3, 4, 5].map(has));
+    let asked = query(table, width, node, [3, 4, 5, 6].map(has));
     let list = written(table, width, node).expect("a table as it was built");
     let mut altered = table.clone();
     let start = (width as usize - 1) * table.limits.entries as usize;
@@ -132,8 +165,14 @@ fn answer(table: &Table, causes: usize, random: &mut Random, tally: &mut Tally) 
     if let Some((_, print)) = &asked.value {
         altered.fingerprints[start + node] = *print;
     }
-    if has(7) {
+    if has(BAD_CHAIN) {
         break_chain(&mut altered, width, node, random);
+    }
+    let size = random.one_of(&sizes(table.limits.entries));
+    let places = table.limits.qubits as usize * size;
+    let mut index = fill(&altered, places).expect("an index of Q parts");
+    if has(NO_PARTS) {
+        break_parts(&mut index, table, random);
     }
     if has(1) {
         shorten(&mut altered, random);
@@ -145,6 +184,10 @@ fn answer(table: &Table, causes: usize, random: &mut Random, tally: &mut Tally) 
         true => random.below(gates),
         false => random.one_of(&[gates, MOST]),
     };
+    let causes = match by {
+        By::Scan => causes & !(1 << NO_PARTS),
+        By::Index => causes,
+    };
     let expected = match first(&ANSWER, causes) {
         Some(number) => Reply::Refused(number),
         None => Reply::List(list.clone()),
@@ -155,9 +198,75 @@ fn answer(table: &Table, causes: usize, random: &mut Random, tally: &mut Tally) 
     };
     tally.tables += 1;
     tally.new_questions();
-    let (reply, found) = tally.ask(&altered, 0, &asked, room);
+    let lookup = Lookup { by, index: &index };
+    let (reply, found) = tally.ask_by(&altered, lookup, 0, &asked, room);
     if reply != expected || found != finding {
-        tally.differs(format!("causes {causes:#b}: {reply:?}, {found:?}"));
+        tally.differs(format!(
+            "causes {causes:#b} by {by:?}: {reply:?}, {found:?}"
+        ));
+    }
+}
+
+/// A fill with a set of causes.
+fn fill_index(table: &Table, causes: usize, random: &mut Random, tally: &mut Tally) {
+    let has = |cause: usize| causes >> cause & 1 != 0;
+    let mut altered = table.clone();
+    let size = random.one_of(&sizes(table.limits.entries));
+    let mut index = used(table.limits.qubits as usize * size, random);
+    if has(2) {
+        break_parts(&mut index, table, random);
+    }
+    if has(1) {
+        shorten(&mut altered, random);
+    }
+    if has(0) {
+        break_record(&mut altered, random);
+    }
+    let filled = tally.fill(&altered, &mut index);
+    if filled != (causes == 0) {
+        tally.differs(format!("causes {causes:#b} of a fill: filled {filled}"));
+    }
+}
+
+/// A build with a set of causes.
+fn build(table: &Table, by: By, causes: usize, random: &mut Random, tally: &mut Tally) {
+    let has = |cause: usize| causes >> cause & 1 != 0;
+    let mut altered = lent(table.limits);
+    let size = random.one_of(&sizes(table.limits.entries));
+    let mut index = used(table.limits.qubits as usize * size, random);
+    if has(5) {
+        break_parts(&mut index, table, random);
+    }
+    if has(4) {
+        shorten(&mut altered, random);
+    }
+    let limits = &mut altered.limits;
+    if has(3) {
+        match random.below(3) {
+            0 => limits.gates = 65,
+            1 => limits.gates = 4294967295,
+            _ => limits.entries = random.one_of(&[1_000_001, 4294967295]),
+        }
+    }
+    if has(2) {
+        limits.basis = random.one_of(&[0, 128, 4096, limits.basis | 128, 4294967295]);
+    }
+    if has(1) {
+        limits.entries = 0;
+        if has(3) {
+            limits.gates = 65;
+        }
+    }
+    if has(0) {
+        limits.qubits = random.one_of(&[0, 6, 4294967295]);
+    }
+    let causes = match by {
+        By::Scan => causes & !(1 << 5),
+        By::Index => causes,
+    };
+    let number = tally.build(&mut altered, by, &mut index);
+    if number != first(&BUILD, causes).unwrap_or(0) {
+        tally.differs(format!("causes {causes:#b} of a build by {by:?}: {number}"));
     }
 }
 

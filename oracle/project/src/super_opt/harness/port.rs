@@ -6,8 +6,8 @@ use murm::{Arrays, Query, Record, Refusal};
 
 use super::tables::Limits;
 
-/// What `bench_find` returns for none. A lower number is a node times `NODE` and
-/// its gate count, or a write's gate count; a higher one is a refusal's number
+/// What a find and an answer return for none. A lower number is a node times `NODE`
+/// and its gate count, or a gate count alone; a higher one is a refusal's number
 /// times `STEP`, and its position.
 const NONE: u64 = 4294967295;
 const STEP: u64 = 1 << 32;
@@ -18,6 +18,7 @@ unsafe extern "C" {
     fn bench_query(width: u32, exponent: u16, entries: *const i8, places: usize) -> u64;
     fn bench_fingerprint(entries: *const i8, places: usize, width: usize, exponent: u16) -> u64;
     fn bench_build(
+        by: u32,
         limits: *const u32,
         limit_places: usize,
         fingerprints: *mut u64,
@@ -26,10 +27,12 @@ unsafe extern "C" {
         parent_places: usize,
         codes: *mut u32,
         code_places: usize,
+        index: *mut u32,
+        index_places: usize,
         record: *mut u64,
         record_places: usize,
     ) -> u64;
-    fn bench_find(
+    fn bench_fill(
         qubits: u32,
         gates: u32,
         entries: u32,
@@ -45,10 +48,58 @@ unsafe extern "C" {
         parent_places: usize,
         codes: *const u32,
         code_places: usize,
+        index: *mut u32,
+        index_places: usize,
+    ) -> u64;
+    fn bench_find(
+        by: u32,
+        qubits: u32,
+        gates: u32,
+        entries: u32,
+        basis: u32,
+        count1: usize,
+        count2: usize,
+        count3: usize,
+        count4: usize,
+        count5: usize,
+        fingerprints: *const u64,
+        fingerprint_places: usize,
+        parents: *const u32,
+        parent_places: usize,
+        codes: *const u32,
+        code_places: usize,
+        index: *const u32,
+        index_places: usize,
         width: u32,
         exponent: u16,
         matrix: *const i8,
         matrix_places: usize,
+    ) -> u64;
+    fn bench_synthesize(
+        by: u32,
+        qubits: u32,
+        gates: u32,
+        entries: u32,
+        basis: u32,
+        count1: usize,
+        count2: usize,
+        count3: usize,
+        count4: usize,
+        count5: usize,
+        fingerprints: *const u64,
+        fingerprint_places: usize,
+        parents: *const u32,
+        parent_places: usize,
+        codes: *const u32,
+        code_places: usize,
+        index: *const u32,
+        index_places: usize,
+        width: u32,
+        exponent: u16,
+        matrix: *const i8,
+        matrix_places: usize,
+        out: *mut u32,
+        places: usize,
     ) -> u64;
     fn bench_write(
         qubits: u32,
@@ -71,6 +122,72 @@ unsafe extern "C" {
         out: *mut u32,
         places: usize,
     ) -> u64;
+}
+
+/// Calls a function with a table's record and arrays, between what goes before and
+/// what goes after them.
+macro_rules! over {
+    ($function:ident, [$($before:expr),*], $table:expr, [$($after:expr),* $(,)?]) => {{
+        let [qubits, gates, entries, basis] = $table.limits();
+        unsafe {
+            $function(
+                $($before,)*
+                qubits,
+                gates,
+                entries,
+                basis,
+                $table.count(1),
+                $table.count(2),
+                $table.count(3),
+                $table.count(4),
+                $table.count(5),
+                $table.fingerprints.as_ptr(),
+                $table.fingerprints.len(),
+                $table.parents.as_ptr(),
+                $table.parents.len(),
+                $table.codes.as_ptr(),
+                $table.codes.len(),
+                $($after,)*
+            )
+        }
+    }};
+}
+
+/// How nodes are looked up.
+#[derive(Clone, Copy, Debug, PartialEq)]
+pub(super) enum By {
+    Scan,
+    Index,
+}
+
+impl By {
+    fn number(self) -> u32 {
+        match self {
+            By::Scan => 0,
+            By::Index => 1,
+        }
+    }
+}
+
+/// The same with the index that is lent. The scan is not to look at it.
+#[derive(Clone, Copy)]
+pub(super) struct Lookup<'a> {
+    pub(super) by: By,
+    pub(super) index: &'a [u32],
+}
+
+/// The scan, with no index lent.
+pub(super) const SCAN: Lookup<'static> = Lookup {
+    by: By::Scan,
+    index: &[],
+};
+
+/// Through this index.
+pub(super) fn through(index: &[u32]) -> Lookup<'_> {
+    Lookup {
+        by: By::Index,
+        index,
+    }
 }
 
 /// The exponent, where the list is not refused.
@@ -147,9 +264,15 @@ impl Table {
 
     /// 0, or the number of the refusal.
     pub(super) fn build(&mut self) -> u64 {
+        self.build_by(By::Scan, &mut [])
+    }
+
+    /// The same with a look-up and a lent index.
+    pub(super) fn build_by(&mut self, by: By, index: &mut [u32]) -> u64 {
         let limits = self.limits();
         unsafe {
             bench_build(
+                by.number(),
                 limits.as_ptr(),
                 limits.len(),
                 self.fingerprints.as_mut_ptr(),
@@ -158,10 +281,17 @@ impl Table {
                 self.parents.len(),
                 self.codes.as_mut_ptr(),
                 self.codes.len(),
+                index.as_mut_ptr(),
+                index.len(),
                 self.record.as_mut_ptr(),
                 self.record.len(),
             )
         }
+    }
+
+    /// Fills an index from the table: 0, or the number of the refusal.
+    pub(super) fn fill(&self, index: &mut [u32]) -> u64 {
+        over!(bench_fill, [], self, [index.as_mut_ptr(), index.len()])
     }
 
     /// How many gates the list has; none. Of the record only the counts are asked
@@ -203,32 +333,62 @@ impl Table {
         }
     }
 
-    /// The node that answers a matrix.
-    pub(super) fn find(&self, width: u32, exponent: u16, matrix: &[i8]) -> Finding {
-        let [qubits, gates, entries, basis] = self.limits();
-        let told = unsafe {
-            bench_find(
-                qubits,
-                gates,
-                entries,
-                basis,
-                self.count(1),
-                self.count(2),
-                self.count(3),
-                self.count(4),
-                self.count(5),
-                self.fingerprints.as_ptr(),
-                self.fingerprints.len(),
-                self.parents.as_ptr(),
-                self.parents.len(),
-                self.codes.as_ptr(),
-                self.codes.len(),
+    /// The same by a look-up.
+    pub(super) fn ask_by(
+        &self,
+        lookup: Lookup,
+        width: u32,
+        exponent: u16,
+        matrix: &[i8],
+        out: &mut [u32],
+    ) -> Reply {
+        let told = self.synthesize_by(lookup, width, exponent, matrix, out);
+        reply(told, out)
+    }
+
+    /// The same as a number.
+    pub(super) fn synthesize_by(
+        &self,
+        lookup: Lookup,
+        width: u32,
+        exponent: u16,
+        matrix: &[i8],
+        out: &mut [u32],
+    ) -> u64 {
+        let Lookup { by, index } = lookup;
+        over!(
+            bench_synthesize,
+            [by.number()],
+            self,
+            [
+                index.as_ptr(),
+                index.len(),
                 width,
                 exponent,
                 matrix.as_ptr(),
                 matrix.len(),
-            )
-        };
+                out.as_mut_ptr(),
+                out.len(),
+            ]
+        )
+    }
+
+    /// The node that answers a matrix.
+    pub(super) fn find(&self, lookup: Lookup, width: u32, exponent: u16, matrix: &[i8]) -> Finding {
+        let Lookup { by, index } = lookup;
+        let told = over!(
+            bench_find,
+            [by.number()],
+            self,
+            [
+                index.as_ptr(),
+                index.len(),
+                width,
+                exponent,
+                matrix.as_ptr(),
+                matrix.len(),
+            ]
+        );
         match told {
             NONE => Finding::None,
             _ if told < NONE => Finding::Node((told / NODE) as usize, (told % NODE) as usize),
@@ -238,33 +398,21 @@ impl Table {
 
     /// The list of a node.
     pub(super) fn write(&self, width: u32, node: usize, out: &mut [u32]) -> Reply {
-        let [qubits, gates, entries, basis] = self.limits();
-        let told = unsafe {
-            bench_write(
-                qubits,
-                gates,
-                entries,
-                basis,
-                self.count(1),
-                self.count(2),
-                self.count(3),
-                self.count(4),
-                self.count(5),
-                self.fingerprints.as_ptr(),
-                self.fingerprints.len(),
-                self.parents.as_ptr(),
-                self.parents.len(),
-                self.codes.as_ptr(),
-                self.codes.len(),
-                width,
-                node,
-                out.as_mut_ptr(),
-                out.len(),
-            )
-        };
-        match told {
-            count if count < NONE => Reply::List(out[..count as usize].to_vec()),
-            _ => Reply::Refused(refusal(told)),
-        }
+        let told = over!(
+            bench_write,
+            [],
+            self,
+            [width, node, out.as_mut_ptr(), out.len(),]
+        );
+        reply(told, out)
+    }
+}
+
+/// What a number says of a lent list.
+fn reply(told: u64, out: &[u32]) -> Reply {
+    match told {
+        NONE => Reply::None,
+        count if count < NONE => Reply::List(out[..count as usize].to_vec()),
+        _ => Reply::Refused(refusal(told)),
     }
 }

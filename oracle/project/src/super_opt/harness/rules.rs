@@ -1,7 +1,8 @@
 //! What a table answers, written from docs/SPECIFICATION.md alone: nothing here
 //! is the original's or the port's. All arithmetic is on 64-bit integers.
 
-use super::port::{Finding, Reply, Table};
+use super::port::{By, Finding, Lookup, Reply, Table};
+use super::tables::Limits;
 
 /// a + b omega + c omega^2 + d omega^3.
 type Entry = [i64; 4];
@@ -16,8 +17,8 @@ pub(super) struct Matrix {
 
 /// A kind's number, its operands, how many of the first rise, and the turn of
 /// the rows that have all their bits.
-struct Kind {
-    number: u32,
+pub(super) struct Kind {
+    pub(super) number: u32,
     operands: usize,
     rising: usize,
     turn: Option<usize>,
@@ -39,7 +40,10 @@ const KINDS: [Kind; 11] = [
 ];
 
 const H: u32 = 0;
-const MARK: u32 = 4294967295;
+pub(super) const MARK: u32 = 4294967295;
+
+/// A place of an index that holds no node.
+pub(super) const EMPTY: u32 = 4294967295;
 
 pub(super) fn turned([a, b, c, d]: Entry, power: usize) -> Entry {
     match power {
@@ -69,7 +73,7 @@ fn divisible([a, b, c, d]: &Entry) -> bool {
 }
 
 /// The kind and the row bits of a code that is valid at the width.
-fn gate(code: u32, width: u32) -> Option<(&'static Kind, Vec<usize>)> {
+pub(super) fn gate(code: u32, width: u32) -> Option<(&'static Kind, Vec<usize>)> {
     let kind = KINDS.iter().find(|kind| kind.number == code / 4096)?;
     let places = [code / 256 % 16, code / 16 % 16, code % 16];
     let (used, unused) = places.split_at(kind.operands);
@@ -98,7 +102,7 @@ impl Matrix {
     }
 
     /// One gate on the left, by rows; whether it fits.
-    fn step(&mut self, code: u32) -> bool {
+    pub(super) fn step(&mut self, code: u32) -> bool {
         let (kind, bits) = gate(code, self.width).expect("the code is valid");
         let size = self.size();
         let has = |row: usize, bits: &[usize]| bits.iter().all(|bit| row & bit != 0);
@@ -342,32 +346,68 @@ fn query_refused(asked: &Asked) -> Option<u64> {
     (!lowest).then_some(11)
 }
 
-/// The answer with a lent list of so many places.
-pub(super) fn decide(table: &Table, asked: &Asked, room: usize) -> Reply {
-    if let Some(number) = table_refused(table).or_else(|| query_refused(asked)) {
-        return Reply::Refused(number);
+/// How many places each part of an index has. Nothing where the index is not Q
+/// equal parts, each a power of two in size and at least twice E. Q is not 0.
+pub(super) fn part_size(limits: &Limits, places: usize) -> Option<usize> {
+    let size = places / limits.qubits as usize;
+    let whole = size * limits.qubits as usize == places;
+    let enough = size as u64 >= 2 * u64::from(limits.entries);
+    (whole && enough && size.is_power_of_two()).then_some(size)
+}
+
+/// What is tried of a lent table and then, where nodes are looked up through an
+/// index, of that: 17.
+fn lent_refused(table: &Table, lookup: Lookup) -> Option<u64> {
+    table_refused(table).or_else(|| match lookup.by {
+        By::Scan => None,
+        By::Index => {
+            let parts = part_size(&table.limits, lookup.index.len());
+            parts.is_none().then_some(17)
+        }
+    })
+}
+
+/// The places of a part in the order in which they are looked at: onward from
+/// the fingerprint's low bits, round the part, each once.
+pub(super) fn probe(size: usize, fingerprint: u64) -> impl Iterator<Item = usize> {
+    let low = (fingerprint % size as u64) as usize;
+    (low..size).chain(0..low)
+}
+
+/// A node goes to the first empty place. There is one: at least half of a part
+/// is empty.
+pub(super) fn put_in(part: &mut [u32], fingerprint: u64, node: usize) {
+    let empty = probe(part.len(), fingerprint).find(|&place| part[place] == EMPTY);
+    part[empty.expect("an empty place")] = node as u32;
+}
+
+/// The node that a part of an index leads to, which may hold anything: the first
+/// that is one of the width's and has the fingerprint. An empty place ends it.
+/// Any other number at or above the count is passed over, and so is a node with
+/// another fingerprint. It ends too when every place was looked at.
+pub(super) fn led_to(part: &[u32], prints: &[u64], fingerprint: u64) -> Option<usize> {
+    probe(part.len(), fingerprint)
+        .map(|place| part[place])
+        .take_while(|&held| held != EMPTY)
+        .map(|held| held as usize)
+        .find(|&node| node < prints.len() && prints[node] == fingerprint)
+}
+
+/// What a fill leaves of an index of so many places, whatever it held: empty, and
+/// then the nodes of each width put in its part, rising. Refused by 13 of the
+/// record, 5 and 17.
+pub(super) fn fill(table: &Table, places: usize) -> Result<Vec<u32>, u64> {
+    if let Some(number) = table_refused(table) {
+        return Err(number);
     }
-    if room < table.limits.gates as usize {
-        return Reply::Refused(12);
+    let size = part_size(&table.limits, places).ok_or(17u64)?;
+    let mut index = vec![EMPTY; places];
+    for (width, part) in (1..).zip(index.chunks_exact_mut(size)) {
+        for (node, &print) in prints_of(table, width).iter().enumerate() {
+            put_in(part, print, node);
+        }
     }
-    if asked.width == 0 || asked.width > table.limits.qubits {
-        return Reply::None;
-    }
-    let width = asked.width as usize;
-    let entries = table.limits.entries as usize;
-    let count = table.record[3 * (width - 1)] as usize;
-    let part = &table.fingerprints[(width - 1) * entries..][..count];
-    let (matrix, fingerprint) = asked.value.as_ref().expect("a query that is not refused");
-    let Some(node) = part.iter().position(|print| print == fingerprint) else {
-        return Reply::None;
-    };
-    let Some(list) = chain(table, asked.width, node) else {
-        return Reply::Refused(13);
-    };
-    match Matrix::of_list(asked.width, &list) {
-        Some(product) if product.equal_up_to_phase(matrix) => Reply::List(list),
-        _ => Reply::None,
-    }
+    Ok(index)
 }
 
 /// How many entries a width has. One of 0 or above Q has none, whatever the
@@ -380,20 +420,63 @@ fn entry_count(table: &Table, width: u32) -> usize {
     }
 }
 
-/// The lowest node of a width that holds a fingerprint. The table is not refused.
-fn lowest_with(table: &Table, width: u32, fingerprint: u64) -> Option<usize> {
-    let place = |node: usize| (width as usize - 1) * table.limits.entries as usize + node;
-    (0..entry_count(table, width)).find(|&node| table.fingerprints[place(node)] == fingerprint)
+/// The fingerprints of a width's nodes. The table is not refused.
+pub(super) fn prints_of(table: &Table, width: u32) -> &[u64] {
+    let count = entry_count(table, width);
+    if count == 0 {
+        return &[];
+    }
+    let start = (width as usize - 1) * table.limits.entries as usize;
+    &table.fingerprints[start..][..count]
+}
+
+/// The node of a width that a fingerprint is looked up to: by the scan the lowest
+/// that has it. Neither table nor index is refused.
+fn looked_up(table: &Table, lookup: Lookup, width: u32, fingerprint: u64) -> Option<usize> {
+    let prints = prints_of(table, width);
+    match lookup.by {
+        By::Scan => prints.iter().position(|&print| print == fingerprint),
+        // A width without nodes has no part.
+        By::Index if prints.is_empty() => None,
+        By::Index => led_to(part_of(table, lookup.index, width), prints, fingerprint),
+    }
+}
+
+/// The part of an index for a width that the table has. The index is not refused.
+pub(super) fn part_of<'a>(table: &Table, index: &'a [u32], width: u32) -> &'a [u32] {
+    let size = part_size(&table.limits, index.len()).expect("an index of Q parts");
+    &index[(width as usize - 1) * size..][..size]
+}
+
+/// The answer with a lent list of so many places.
+pub(super) fn decide(table: &Table, lookup: Lookup, asked: &Asked, room: usize) -> Reply {
+    if let Some(number) = lent_refused(table, lookup).or_else(|| query_refused(asked)) {
+        return Reply::Refused(number);
+    }
+    if room < table.limits.gates as usize {
+        return Reply::Refused(12);
+    }
+    let (matrix, fingerprint) = asked.value.as_ref().expect("a query that is not refused");
+    let Some(node) = looked_up(table, lookup, asked.width, *fingerprint) else {
+        return Reply::None;
+    };
+    let Some(list) = chain(table, asked.width, node) else {
+        return Reply::Refused(13);
+    };
+    match Matrix::of_list(asked.width, &list) {
+        Some(product) if product.equal_up_to_phase(matrix) => Reply::List(list),
+        _ => Reply::None,
+    }
 }
 
 /// What a find says: the answer's checks but for 12, and the node whose list the
 /// answer would be.
-pub(super) fn find(table: &Table, asked: &Asked) -> Finding {
-    if let Some(number) = table_refused(table).or_else(|| query_refused(asked)) {
+pub(super) fn find(table: &Table, lookup: Lookup, asked: &Asked) -> Finding {
+    if let Some(number) = lent_refused(table, lookup).or_else(|| query_refused(asked)) {
         return Finding::Refused(number);
     }
     let (matrix, fingerprint) = asked.value.as_ref().expect("a query that is not refused");
-    let Some(node) = lowest_with(table, asked.width, *fingerprint) else {
+    let Some(node) = looked_up(table, lookup, asked.width, *fingerprint) else {
         return Finding::None;
     };
     let Some(list) = chain(table, asked.width, node) else {
@@ -405,11 +488,11 @@ pub(super) fn find(table: &Table, asked: &Asked) -> Finding {
     }
 }
 
-/// The node that has a query's fingerprint, where a find says none: its list did
-/// not pass the recheck.
-pub(super) fn passed_over(table: &Table, asked: &Asked) -> Option<usize> {
+/// The node that a query's fingerprint is looked up to, where a find says none: its
+/// list did not pass the recheck.
+pub(super) fn passed_over(table: &Table, lookup: Lookup, asked: &Asked) -> Option<usize> {
     let (_, fingerprint) = asked.value.as_ref()?;
-    lowest_with(table, asked.width, *fingerprint)
+    looked_up(table, lookup, asked.width, *fingerprint)
 }
 
 /// What a write says with a lent list of so many places: 13 of the record and 5,

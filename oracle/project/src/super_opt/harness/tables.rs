@@ -212,7 +212,7 @@ fn node_codes(nodes: &WidthTable, node: usize) -> Vec<u32> {
 }
 
 /// `COUNT CODES..`.
-fn counted(codes: &[u32]) -> String {
+pub(super) fn counted(codes: &[u32]) -> String {
     let mut line = codes.len().to_string();
     for code in codes {
         line.push(' ');

@@ -1,27 +1,41 @@
-//! What an altered table is asked, what it must say by `rules`, and how often
-//! each kind of outcome came.
+//! What an altered table or index is asked, what it must say by `rules`, and how
+//! often each kind of outcome came.
 
 use std::collections::HashSet;
 use std::io::{self, Write};
 
-use super::port::{Finding, Reply, Table};
-use super::rules::{Asked, bad_record, decide, find, gives, passed_over, write, written};
+use super::port::{By, Finding, Lookup, Reply, SCAN, Table};
+use super::rules::{
+    Asked, EMPTY, bad_record, decide, fill, find, gives, part_of, passed_over, prints_of, probe,
+    write, written,
+};
+use super::walks;
 
-/// Every kind of outcome of an answer, of a find and of a write. No other may
-/// come, and each must.
+/// Every kind of outcome of an answer, of a find and of a write; of an answer and a
+/// find through an index; and of a fill and a build. No other may come, and each
+/// must.
 const ANSWERS: [&str; 10] = [LIST, NONE, "5", "6", "9", "10", "11", "12", RECORD, CHAIN];
 const FINDS: [&str; 9] = [NODE, NONE, "5", "6", "9", "10", "11", RECORD, CHAIN];
 const WRITES: [&str; 6] = [LIST, "5", "16", "12", RECORD, CHAIN];
+#[rustfmt::skip]
+const INDEX_ANSWERS: [&str; 11] =
+    [LIST, NONE, "5", "17", "6", "9", "10", "11", "12", RECORD, CHAIN];
+const INDEX_FINDS: [&str; 10] = [NODE, NONE, "5", "17", "6", "9", "10", "11", RECORD, CHAIN];
+const FILLS: [&str; 4] = [FILLED, "5", "17", RECORD];
+const BUILDS: [&str; 6] = [BUILT, "1", "2", "3", "4", "5"];
+const INDEX_BUILDS: [&str; 7] = [BUILT, "1", "2", "3", "4", "5", "17"];
 
 const LIST: &str = "lists";
 const NODE: &str = "nodes";
 const NONE: &str = "none";
+const FILLED: &str = "indexes";
+const BUILT: &str = "tables";
 const RECORD: &str = "13 of the record";
 const CHAIN: &str = "13 of a chain";
 
-/// What must come among them: two causes together, and lists that only one of
-/// find and write is about.
-const AMONG: [&str; 7] = [
+/// What must come among them: two causes together, lists that only one of find
+/// and write is about, and what an index may lead to.
+const AMONG: [&str; 14] = [
     SHORT_FIRST,
     PASSED_OVER,
     NO_NODE_SHORT,
@@ -29,6 +43,13 @@ const AMONG: [&str; 7] = [
     SHORT_FOR_GATES,
     JUST_ENOUGH,
     UNBUILT_COUNT,
+    MISSED,
+    FOUND_MORE,
+    OTHER_NODE,
+    ABOVE_COUNT,
+    ROUND,
+    LAST,
+    FULL,
 ];
 
 const SHORT_FIRST: &str = "answers by 12 whose find is refused by 13 of a chain";
@@ -39,6 +60,15 @@ const SHORT_FOR_GATES: &str = "writes refused by 12 with places for the list its
 const JUST_ENOUGH: &str = "lists written with G places, and shorter than G";
 const UNBUILT_COUNT: &str =
     "writes refused by 16 at a width above Q whose count in the record is larger";
+
+const MISSED: &str = "finds of none through an index where the scan finds a node";
+const FOUND_MORE: &str = "finds of a node through an index where the scan finds none";
+const OTHER_NODE: &str = "finds through an index of another node than by the scan";
+const ABOVE_COUNT: &str =
+    "nodes that a probe leads to past a number at or above the count that is not empty";
+const ROUND: &str = "nodes that a probe leads to round the end of the part";
+const LAST: &str = "nodes that a probe leads to at its last step";
+const FULL: &str = "probes of a part without an empty place that lead to no node";
 
 /// How often each of some kinds came.
 struct Counts {
@@ -102,6 +132,7 @@ fn refused(table: &Table, number: u64) -> &'static str {
         13 if bad_record(table) => RECORD,
         13 => CHAIN,
         16 => "16",
+        17 => "17",
         _ => "another number",
     }
 }
@@ -115,11 +146,31 @@ fn kind(table: &Table, reply: &Reply) -> &'static str {
     }
 }
 
+/// The kind of a build that is refused, or not.
+fn build_kind(number: u64) -> &'static str {
+    match number {
+        0 => BUILT,
+        1 => "1",
+        2 => "2",
+        3 => "3",
+        4 => "4",
+        5 => "5",
+        17 => "17",
+        _ => "another number",
+    }
+}
+
 pub(super) struct Tally {
     pub(super) tables: usize,
+    pub(super) indexes: usize,
     answers: Counts,
     finds: Counts,
     writes: Counts,
+    index_answers: Counts,
+    index_finds: Counts,
+    fills: Counts,
+    builds: Counts,
+    index_builds: Counts,
     among: Counts,
     differences: usize,
     /// Questions by number, and lists that give them. It is emptied with each
@@ -131,9 +182,15 @@ impl Tally {
     pub(super) fn new() -> Self {
         Self {
             tables: 0,
+            indexes: 0,
             answers: Counts::new(&ANSWERS),
             finds: Counts::new(&FINDS),
             writes: Counts::new(&WRITES),
+            index_answers: Counts::new(&INDEX_ANSWERS),
+            index_finds: Counts::new(&INDEX_FINDS),
+            fills: Counts::new(&FILLS),
+            builds: Counts::new(&BUILDS),
+            index_builds: Counts::new(&INDEX_BUILDS),
             among: Counts::new(&AMONG),
             differences: 0,
             exact: HashSet::new(),
@@ -159,9 +216,7 @@ impl Tally {
         }
     }
 
-    /// Asks a table the question of this number, with a lent list of so many
-    /// places; then what is found, and the list of the node found. Where the
-    /// answer is not refused by 12 it is the find, followed by the write.
+    /// Asks a table the question of this number by the scan.
     pub(super) fn ask(
         &mut self,
         table: &Table,
@@ -169,9 +224,28 @@ impl Tally {
         asked: &Asked,
         room: usize,
     ) -> (Reply, Finding) {
+        self.ask_by(table, SCAN, number, asked, room)
+    }
+
+    /// Asks a table the question of this number, with a lent list of so many
+    /// places; then what is found, and the list of the node found. Where the
+    /// answer is not refused by 12 it is the find, followed by the write.
+    pub(super) fn ask_by(
+        &mut self,
+        table: &Table,
+        lookup: Lookup,
+        number: usize,
+        asked: &Asked,
+        room: usize,
+    ) -> (Reply, Finding) {
         let (mut list, before) = lent(room);
-        let reply = table.ask(asked.width, asked.exponent, &asked.bytes, &mut list);
-        let expected = decide(table, asked, room);
+        let (width, exponent, bytes) = (asked.width, asked.exponent, &asked.bytes);
+        // Without an index the C function of murm_c is asked.
+        let reply = match lookup.by {
+            By::Scan if lookup.index.is_empty() => table.ask(width, exponent, bytes, &mut list),
+            _ => table.ask_by(lookup, width, exponent, bytes, &mut list),
+        };
+        let expected = decide(table, lookup, asked, room);
         let right = reply == expected && self.is_exact(number, asked, &reply);
         if !right || !is_kept(&reply, &list, &before) {
             self.differs(format!(
@@ -181,9 +255,12 @@ impl Tally {
                 asked.width,
             ));
         }
-        let known = self.answers.add(kind(table, &reply));
+        let known = match lookup.by {
+            By::Scan => self.answers.add(kind(table, &reply)),
+            By::Index => self.index_answers.add(kind(table, &reply)),
+        };
         self.kind_is(known, table, "question");
-        let found = self.find(table, asked);
+        let found = self.find(table, lookup, asked);
         if reply == Reply::Refused(12) {
             if found == Finding::Refused(13) {
                 self.among.add(SHORT_FIRST);
@@ -211,9 +288,9 @@ impl Tally {
     }
 
     /// Asks a table for the node of a matrix.
-    fn find(&mut self, table: &Table, asked: &Asked) -> Finding {
-        let found = table.find(asked.width, asked.exponent, &asked.bytes);
-        let expected = find(table, asked);
+    fn find(&mut self, table: &Table, lookup: Lookup, asked: &Asked) -> Finding {
+        let found = table.find(lookup, asked.width, asked.exponent, &asked.bytes);
+        let expected = find(table, lookup, asked);
         if found != expected {
             self.differs(format!(
                 "{} record {:?}, width {}, a find: {found:?}, expected {expected:?}",
@@ -222,14 +299,21 @@ impl Tally {
                 asked.width,
             ));
         }
-        let known = self.finds.add(match &found {
+        let kind = match &found {
             Finding::Node(..) => NODE,
             Finding::None => NONE,
             Finding::Refused(number) => refused(table, *number),
-        });
+        };
+        let known = match lookup.by {
+            By::Scan => self.finds.add(kind),
+            By::Index => self.index_finds.add(kind),
+        };
         self.kind_is(known, table, "find");
+        if lookup.by == By::Index {
+            self.follow(table, lookup.index, asked, &expected);
+        }
         if expected == Finding::None
-            && let Some(node) = passed_over(table, asked)
+            && let Some(node) = passed_over(table, lookup, asked)
         {
             let reply = self.write(table, asked.width, node, table.limits.gates as usize);
             match reply {
@@ -238,6 +322,104 @@ impl Tally {
             }
         }
         found
+    }
+
+    /// Which of the special cases a find through an index is.
+    fn follow(&mut self, table: &Table, index: &[u32], asked: &Asked, expected: &Finding) {
+        if matches!(expected, Finding::Refused(number) if *number != 13) || bad_record(table) {
+            return;
+        }
+        match (expected, find(table, SCAN, asked)) {
+            (Finding::None, Finding::Node(..)) => _ = self.among.add(MISSED),
+            (Finding::Node(..), Finding::None) => _ = self.among.add(FOUND_MORE),
+            (Finding::Node(node, _), Finding::Node(lowest, _)) if *node != lowest => {
+                self.among.add(OTHER_NODE);
+            }
+            _ => (),
+        }
+        let (Some((_, print)), 1..=5) = (&asked.value, asked.width) else {
+            return;
+        };
+        let prints = prints_of(table, asked.width);
+        if prints.is_empty() {
+            return;
+        }
+        let part = part_of(table, index, asked.width);
+        let (mut above, mut start) = (false, None);
+        for (step, place) in probe(part.len(), *print).enumerate() {
+            let held = part[place];
+            if held == EMPTY {
+                return;
+            }
+            let round = place < *start.get_or_insert(place);
+            if prints.get(held as usize) == Some(print) {
+                let cases = [
+                    (ABOVE_COUNT, above),
+                    (ROUND, round),
+                    (LAST, step + 1 == part.len()),
+                ];
+                for (name, _) in cases.into_iter().filter(|(_, holds)| *holds) {
+                    self.among.add(name);
+                }
+                return;
+            }
+            above |= held as usize >= prints.len();
+        }
+        self.among.add(FULL);
+    }
+
+    /// Fills an index from a table; whether it is filled.
+    pub(super) fn fill(&mut self, table: &Table, index: &mut [u32]) -> bool {
+        let before = index.to_vec();
+        let number = table.fill(index);
+        let (expected, left) = match fill(table, index.len()) {
+            Ok(filled) => (0, filled),
+            Err(number) => (number, before),
+        };
+        if number != expected || index[..] != left[..] {
+            self.differs(format!(
+                "{} record {:?}, an index of {} places: fill {number}, expected {expected}, {} places differ",
+                table.limits.line(),
+                table.record,
+                index.len(),
+                differing(index, &left),
+            ));
+        }
+        let known = self.fills.add(match number {
+            0 => FILLED,
+            _ => refused(table, number),
+        });
+        self.kind_is(known, table, "fill");
+        number == 0
+    }
+
+    /// Builds a table in what is lent; the number told.
+    pub(super) fn build(&mut self, table: &mut Table, by: By, index: &mut [u32]) -> u64 {
+        let expected = walks::build(table, Lookup { by, index });
+        let lent = (table.clone(), index.to_vec());
+        let number = table.build_by(by, index);
+        let (wanted, (left, kept)) = match expected {
+            Ok(built) => (0, built),
+            Err(number) => (number, lent),
+        };
+        let same = table.record == left.record
+            && table.fingerprints == left.fingerprints
+            && table.parents == left.parents
+            && table.codes == left.codes;
+        if number != wanted || !same || index[..] != kept[..] {
+            self.differs(format!(
+                "{} build by {by:?} with an index of {} places: {number}, expected {wanted}, arrays and record the same: {same}, {} places of the index differ",
+                left.limits.line(),
+                index.len(),
+                differing(index, &kept),
+            ));
+        }
+        let known = match by {
+            By::Scan => self.builds.add(build_kind(number)),
+            By::Index => self.index_builds.add(build_kind(number)),
+        };
+        self.kind_is(known, table, "build");
+        number
     }
 
     /// Asks a table for the list of a node, with a lent list of so many places.
@@ -302,28 +484,40 @@ impl Tally {
     /// All counts; an error where there are differences, or where a kind of
     /// outcome never came.
     pub(super) fn report(&self, out: &mut dyn Write) -> io::Result<()> {
-        let questions = self.answers.total();
-        let (lists, nothing) = (self.answers.of(LIST), self.answers.of(NONE));
+        let both = |name| self.answers.of(name) + self.index_answers.of(name);
+        let questions = self.answers.total() + self.index_answers.total();
+        let (lists, nothing) = (both(LIST), both(NONE));
         writeln!(
             out,
-            "{} altered tables, {questions} questions: {lists} lists, {nothing} none, {} refused; {} differences",
+            "{} altered tables, {} altered indexes, {questions} questions: {lists} lists, {nothing} none, {} refused; {} differences",
             self.tables,
+            self.indexes,
             questions - lists - nothing,
             self.differences
         )?;
-        for (name, counts) in [
+        let all = [
             ("answers", &self.answers),
             ("finds", &self.finds),
             ("writes", &self.writes),
-        ] {
+            ("answers through an index", &self.index_answers),
+            ("finds through an index", &self.index_finds),
+            ("fills", &self.fills),
+            ("builds", &self.builds),
+            ("builds through an index", &self.index_builds),
+        ];
+        for (name, counts) in all {
             writeln!(out, "{} {name}: {}", counts.total(), counts.line())?;
         }
         for (name, count) in self.among.names.iter().zip(&self.among.counts) {
             writeln!(out, "{count} {name}")?;
         }
         out.flush()?;
-        let all = [&self.answers, &self.finds, &self.writes, &self.among];
-        let missing: Vec<&str> = all.into_iter().flat_map(Counts::missing).collect();
+        let among = ("among them", &self.among);
+        let missing: Vec<String> = all
+            .iter()
+            .chain([&among])
+            .flat_map(|(name, counts)| counts.missing().map(move |kind| format!("{name}: {kind}")))
+            .collect();
         if !missing.is_empty() {
             return Err(io::Error::other(format!(
                 "never met: {}",
@@ -335,6 +529,12 @@ impl Tally {
             _ => Err(io::Error::other("the port says something else")),
         }
     }
+}
+
+/// How many places are not the same.
+fn differing(one: &[u32], other: &[u32]) -> usize {
+    let pairs = one.iter().zip(other);
+    pairs.filter(|(one, other)| one != other).count()
 }
 
 /// A lent list, and what it holds.

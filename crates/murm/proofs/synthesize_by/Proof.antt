@@ -1,16 +1,17 @@
--- `synthesize` meets its contract: each test that was passed decides its row. Assumes nothing.
+-- `synthesize_by` meets its contract: each test that was passed decides its row. Assumes nothing.
 use borrow.Author.Needs.{needs}
 use mathlib.Core.Path.{sym, ap, _∙_}
 use Rattle.refusal.specs.Told.{toldCheck}
 use Rattle.refusal.specs.declared.Check.{Check}
 use Rattle.refusal.proofs.Numbers.{passed, refused}
-use Rattle.tables.specs.Checks.{Arrays, arrays}
+use Rattle.tables.specs.Checks.{Arrays, arraysBy}
 use Rattle.tables.specs.Tables.{Table, Query, query}
+use Rattle.index.specs.Told.{toldBy}
 use Rattle.murm_config.specs.Told.{toldMurm}
-use Rattle.tables.proofs.Asked.{good-table, asked-is}
+use Rattle.tables.proofs.Asked.{good-look, asked-is}
 use Rattle.murm.proofs.Asked.{refused-answer}
-use Rattle.murm.proofs.synthesize.Statement.{statement}
-use Rattle.murm.proofs.synthesize.Tie as tie
+use Rattle.murm.proofs.synthesize_by.Statement.{statement}
+use Rattle.murm.proofs.synthesize_by.Tie as tie
 
 -- what the definition is asked
 module _ (s : tie.Start) where
@@ -18,32 +19,32 @@ module _ (s : tie.Start) where
   table = toldMurm (s .args .table)
 
   abbrev memory : Arrays
-  memory = arrays (s .args .fingerprints .now) (s .args .parents .now) (s .args .codes .now)
+  memory = arraysBy (toldBy (s .args .by)) (s .args .fingerprints .now) (s .args .parents .now) (s .args .codes .now) (s .args .index .now)
 
   abbrev asked : Query
   asked = query (s .args .width) (s .args .exponent) (s .args .matrix .now)
 
 ask-requires : tie.Need-ask-requires
 ask-requires c κs =
-    let s = c .before .before .before .before .before .before .before .before in
+    let s = c .before .before .before .before .before .before .before .before .before in
     let q = c .before .before .before .check-find .ensures in
     let z = c .before .enum-told .given .1 in
-    let (r, m, e) = good-table (table s) (memory s) _ (passed (q .told) z) in
+    let (r, m, p, e) = good-look (table s) (memory s .by) (memory s) _ (passed (q .told) z) in
     (r, (m, (e, q .small (ap (λ (x : Check). toldCheck x .number) z))))
 
 returns : tie.Need-returns
 returns c =
-    let s = c .before .before .before .before .before .before .before .before .before .before .before in
+    let s = c .before .before .before .before .before .before .before .before .before .before .before .before in
     c .before .before .ask .ensures
     ∙ asked-is (table s) (memory s) (asked s) (s .args .out .now) (passed (c .before .before .before .before .before .before .check-find .ensures .told) (c .before .before .before .before .enum-told .given .1))
 
 returns-2 : tie.Need-returns-2
 returns-2 c =
-    let s = c .before .before .before .before .before .before .before .before in
+    let s = c .before .before .before .before .before .before .before .before .before in
     refused-answer (table s) (memory s) (asked s) (s .args .out .now) (refused (c .before .before .before .check-find .ensures .told) (c .before .r .given .1))
 
-pub synthesize-spec : {M : Type 1} → statement M
-synthesize-spec =
+pub synthesize-by-spec : {M : Type 1} → statement M
+synthesize-by-spec =
     tie.close
     (tie.spec
     (λ c κs. search needs)

@@ -1,0 +1,300 @@
+//! Mode `index`: the tables that standard input names, as for the mode `lines`, built
+//! by the port through an index, and asked through it. Arrays, record and answers
+//! must be the original's; the index must be what `rules` makes of the table, place
+//! by place, and what a fill leaves. The scan must say the same and leave the index.
+//! Lines that name no table and ask for no matrix are passed over.
+
+use std::io::{self, BufRead, Write};
+use std::panic::{AssertUnwindSafe, catch_unwind};
+
+use super::indexes::{sizes, used};
+use super::lines::question;
+use super::port::{self, By, Finding, Lookup, Reply, Table};
+use super::random::Random;
+use super::rules::fill;
+use super::tables::{Built, Limits, PLACES, Question, counted, nodes_of};
+
+/// What the lent arrays held.
+const PRINT: u64 = 0xa5a5_a5a5_a5a5_a5a5;
+const NUMBER: u32 = 0x5a5a_5a5a;
+
+/// The places of a lent list.
+const ROOM: usize = 64;
+
+/// A table that both built, with an index for each size of its parts.
+struct Both {
+    original: Built,
+    port: Table,
+    indexes: Vec<Vec<u32>>,
+}
+
+#[derive(Default)]
+struct Counts {
+    tables: usize,
+    refused: usize,
+    nodes: usize,
+    indexes: usize,
+    places: usize,
+    answers: usize,
+    lists: usize,
+    finds: usize,
+    found: usize,
+    by_scan: usize,
+    differences: usize,
+}
+
+impl Counts {
+    /// The first few differences are shown.
+    fn differ(&mut self, what: String) {
+        self.differences += 1;
+        if self.differences <= 5 {
+            eprintln!("{what}");
+        }
+    }
+
+    fn check(&mut self, same: bool, what: impl FnOnce() -> String) {
+        if !same {
+            self.differ(what());
+        }
+    }
+}
+
+pub(super) fn run(_: &[String], out: &mut dyn Write) -> io::Result<()> {
+    let mut counts = Counts::default();
+    let mut random = Random::new(61);
+    let mut both = None;
+    let mut line = Vec::new();
+    let mut input = io::stdin().lock();
+    while input.read_until(b'\n', &mut line)? > 0 {
+        let text = str::from_utf8(&line).unwrap_or_default();
+        let (word, rest) = text.split_once(' ').unwrap_or_default();
+        match (word, &both) {
+            ("table", _) => {
+                let limits = Limits::of_numbers(rest);
+                both = limits.and_then(|limits| table(limits, &mut random, &mut counts));
+            }
+            ("matrix", Some(both)) => ask(both, rest, Question::answer, answer, &mut counts),
+            ("find", Some(both)) => ask(both, rest, Question::found, find, &mut counts),
+            _ => (),
+        }
+        line.clear();
+    }
+    counts.report(out)
+}
+
+impl Counts {
+    fn report(&self, out: &mut dyn Write) -> io::Result<()> {
+        let Self {
+            tables,
+            refused,
+            nodes,
+            indexes,
+            places,
+            answers,
+            lists,
+            finds,
+            found,
+            by_scan,
+            differences,
+        } = self;
+        writeln!(
+            out,
+            "{tables} tables of {nodes} nodes, {refused} refused; {indexes} indexes of {places} places, each built and filled"
+        )?;
+        writeln!(
+            out,
+            "{answers} answers through an index, {lists} of them lists; {finds} finds, {found} of them nodes; {by_scan} of both by the scan; {differences} differences"
+        )?;
+        out.flush()?;
+        match differences {
+            0 => Ok(()),
+            _ => Err(io::Error::other("the port says something else")),
+        }
+    }
+}
+
+/// Arrays that held something.
+fn lent(limits: Limits, places: usize) -> Table {
+    let mut table = Table::with_places(limits, places);
+    table.fingerprints.fill(PRINT);
+    table.parents.fill(NUMBER);
+    table.codes.fill(NUMBER);
+    table.record.fill(PRINT);
+    table
+}
+
+fn same(one: &Table, other: &Table) -> bool {
+    one.record == other.record
+        && one.fingerprints == other.fingerprints
+        && one.parents == other.parents
+        && one.codes == other.codes
+}
+
+/// Builds a table by the original, by the port's scan and through an index of each
+/// size, and compares them.
+fn table(limits: Limits, random: &mut Random, counts: &mut Counts) -> Option<Both> {
+    let name = limits.line();
+    if let Some(row) = limits.refusal(PLACES) {
+        counts.refused += 1;
+        let lent = lent(limits, PLACES as usize);
+        // Q and E may be anything here, and the index is not looked at before them.
+        let before = used(random.one_of(&[0, 1, 16, 17, 5 << 10]), random);
+        for by in [By::Scan, By::Index] {
+            let (mut table, mut index) = (lent.clone(), before.clone());
+            let number = table.build_by(by, &mut index);
+            let kept = same(&table, &lent) && index == before;
+            counts.check(number == u64::from(row) && kept, || {
+                format!("{name} by {by:?}: {number}, expected {row}, kept {kept}")
+            });
+        }
+        return None;
+    }
+    counts.tables += 1;
+    let Ok(original) = catch_unwind(|| limits.build()) else {
+        counts.differ(format!("{name}: the original panicked"));
+        return None;
+    };
+    let original = Built {
+        limits,
+        table: original,
+    };
+    let expected = told(&original, counts);
+    let places = expected.fingerprints.len();
+    let mut indexes = Vec::new();
+    for size in sizes(limits.entries) {
+        let length = limits.qubits as usize * size;
+        let before = used(length, random);
+        let mut index = before.clone();
+        let mut scanned = lent(limits, places);
+        let number = scanned.build_by(By::Scan, &mut index);
+        counts.check(
+            number == 0 && same(&scanned, &expected) && index == before,
+            || format!("{name} by the scan: {number}"),
+        );
+        let mut table = lent(limits, places);
+        let number = table.build_by(By::Index, &mut index);
+        counts.check(number == 0 && same(&table, &expected), || {
+            format!("{name} with parts of {size}: {number}")
+        });
+        counts.check(fill(&table, length).as_ref() == Ok(&index), || {
+            format!("{name}: the index with parts of {size}")
+        });
+        let mut filled = used(length, random);
+        let number = table.fill(&mut filled);
+        counts.check(number == 0 && filled == index, || {
+            format!("{name}: a fill with parts of {size}: {number}")
+        });
+        counts.indexes += 1;
+        counts.places += length;
+        indexes.push(index);
+    }
+    Some(Both {
+        original,
+        port: expected,
+        indexes,
+    })
+}
+
+/// The original's table in lent arrays, with some places behind it.
+fn told(original: &Built, counts: &mut Counts) -> Table {
+    let limits = original.limits;
+    let entries = limits.entries as usize;
+    let mut table = lent(limits, limits.qubits as usize * entries + 3);
+    table.record.fill(0);
+    for row in 0..limits.qubits as usize {
+        let (nodes, depth, saturated) = original.table.width(row + 1);
+        let numbers = [nodes.len() as u64, depth as u64, u64::from(saturated)];
+        table.record[3 * row..][..3].copy_from_slice(&numbers);
+        counts.nodes += nodes.len();
+        for (node, (print, parent, code)) in nodes_of(nodes).into_iter().enumerate() {
+            let place = row * entries + node;
+            table.fingerprints[place] = print;
+            table.parents[place] = parent;
+            table.codes[place] = code;
+        }
+    }
+    table
+}
+
+/// Asks the original once, and the port through each index and by the scan.
+fn ask(
+    both: &Both,
+    line: &str,
+    original: fn(&Question, &Built) -> String,
+    port: fn(&Both, Lookup, &Question, &mut Counts) -> String,
+    counts: &mut Counts,
+) {
+    let Some(question) = question(line) else {
+        return;
+    };
+    let original = AssertUnwindSafe(|| original(&question, &both.original));
+    let original = catch_unwind(original).unwrap_or("panicked".to_owned());
+    for index in &both.indexes {
+        let by_index = Lookup {
+            by: By::Index,
+            index,
+        };
+        let told = port(both, by_index, &question, counts);
+        counts.check(told == original, || {
+            let table = both.port.limits.line();
+            format!("{table} through an index: {told}, expected {original}")
+        });
+    }
+    let index = &both.indexes[0];
+    let by_scan = Lookup {
+        by: By::Scan,
+        index,
+    };
+    counts.by_scan += 1;
+    let told = port(both, by_scan, &question, counts);
+    counts.check(told == original, || {
+        format!("by the scan: {told}, expected {original}")
+    });
+}
+
+fn answer(both: &Both, lookup: Lookup, question: &Question, counts: &mut Counts) -> String {
+    let Question {
+        width,
+        exponent,
+        coefficients,
+    } = question;
+    let mut out = [NUMBER; ROOM];
+    let reply = both
+        .port
+        .ask_by(lookup, *width, *exponent, coefficients, &mut out);
+    let filled = match &reply {
+        Reply::List(codes) => codes.len(),
+        _ => 0,
+    };
+    counts.check(out[filled..].iter().all(|&code| code == NUMBER), || {
+        "the lent list".to_owned()
+    });
+    if lookup.by == By::Index {
+        counts.answers += 1;
+        counts.lists += usize::from(matches!(reply, Reply::List(_)));
+    }
+    let print = port::query(*width as usize, *exponent, coefficients);
+    match reply {
+        Reply::List(codes) => format!("{print:016x} {}", counted(&codes)),
+        Reply::None => format!("{print:016x} none"),
+        Reply::Refused(number) => format!("refused {number} 0"),
+    }
+}
+
+fn find(both: &Both, lookup: Lookup, question: &Question, counts: &mut Counts) -> String {
+    let found = both.port.find(
+        lookup,
+        question.width,
+        question.exponent,
+        &question.coefficients,
+    );
+    if lookup.by == By::Index {
+        counts.finds += 1;
+        counts.found += usize::from(matches!(found, Finding::Node(..)));
+    }
+    match found {
+        Finding::Node(node, gates) => format!("{node} {gates}"),
+        Finding::None => "none".to_owned(),
+        Finding::Refused(number) => format!("refused {number} 0"),
+    }
+}

@@ -8,7 +8,7 @@ use native.Mathlib.Decide.{ℕ-discrete}
 use native.Mathlib.Nat.{zero-add, suc-add, zero-mul, suc-mul, add-comm, mod-lt}
 use lib.IntN.{ℤ, pos, negℤ}
 use Rattle.ints.proofs.Int.{up, dn, neg-is, same-is}
-use Rattle.cyclotomic.specs.Zomega.{Zω, mk, zeroω, addω, subω, turn1, turn}
+use Rattle.cyclotomic.specs.Zomega.{Zω, mk, zeroω, addω, subω, turn1, turn, TurnsAdd}
 use Rattle.cyclotomic.proofs.Four.{same4, addE, turnE, X, Y, of1, of2}
 
 pub turn-turn : (p q : ℕ) (x : Zω) → turn p (turn q x) ≡ turn (p + q) x
@@ -34,6 +34,10 @@ turn-mod p x =
 -- omega^p · omega^q = omega^((p + q) mod 8)
 pub turn-sum : (p q : ℕ) (x : Zω) → turn p (turn q x) ≡ turn ((p + q) % 8) x
 turn-sum p q x = turn-turn p q x ∙ sym (turn-mod (p + q) x)
+
+-- the law of the paper's turns, for the powers from 0 to 7
+pub turns-add : TurnsAdd
+turns-add = record { adds = λ p q _ _ x. turn-sum q p x ∙ ap (λ (k : ℕ). turn (k % 8) x) (add-comm q p) }
 
 pub turn-comm : (p q : ℕ) (x : Zω) → turn p (turn q x) ≡ turn q (turn p x)
 turn-comm p q x = turn-turn p q x ∙ ap (λ (n : ℕ). turn n x) (add-comm p q) ∙ sym (turn-turn q p x)

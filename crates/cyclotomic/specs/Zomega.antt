@@ -1,8 +1,9 @@
 -- Z[omega], the ring of the matrices' entries: a + b omega + c omega² + d omega³, with omega⁴ = −1 (SPECIFICATION 1.1). The coefficients here
 -- are integers of any size. The record is the struct `Cyclotomic`, whose fields a contract reads as integers; what fits in the struct is said
 -- apart. The operations are names that do not unfold by themselves: proofs/ has their laws, which the crates above use. Assumes nothing.
+use mathlib.Core.Path.{_≡_}
 use mathlib.Core.Bool.{Bool, true, false, _&&_}
-use Prim.Native.Nat.{ℕ, zero, suc, _+_, _*_, _%_, _≤_}
+use Prim.Native.Nat.{ℕ, zero, suc, _+_, _*_, _%_, _<_, _≤_}
 use lib.IntN.{ℤ, pos, natAbs, negℤ, _+ℤ_, _-ℤ_, _*ℤ_}
 use lib.Signed.{ltZ, quotZ}
 use lib.Dec.{eqb, leb, ltb}
@@ -56,6 +57,10 @@ turn1 x = mk (negℤ (x .d)) (x .a) (x .b) (x .c)
 unfoldable pub turn : ℕ → Zω → Zω
 turn zero x = x
 turn (suc p) x = turn1 (turn p x)
+
+-- for powers p and q from 0 to 7, turning any entry by p, then by q, is turning it by the remainder of p + q by 8 (SPECIFICATION 1.2)
+pub record TurnsAdd : Type 0 where
+  pub adds : (p q : ℕ) → p < 8 → q < 8 → (x : Zω) → turn q (turn p x) ≡ turn ((p + q) % 8) x
 
 -- √2 = omega − omega³, times x
 unfoldable pub sqrt2 : Zω → Zω

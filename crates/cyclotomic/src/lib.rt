@@ -232,65 +232,36 @@ impl Cyclotomic {
         }
     }
 
-    // omega to the power, times this. A turn by 8 changes nothing, so any power is taken.
-    pub fn times_omega(self, power: u8) -> Cyclotomic
+    // One turn: omega times this. The paper has no other turn, so turns by powers are worked by this alone.
+    pub fn turned(self) -> Cyclotomic
         requires { ⌜ Small self ⌝ }
-        ensures { λ r. ⌜ r ≡ turn power self ⌝ }
+        ensures { λ r. ⌜ r ≡ turn 1 self ⌝ }
     {
         let a = self.a;
         let b = self.b;
         let c = self.c;
         let d = self.d;
-        let minus_a = negated(a);
-        let minus_b = negated(b);
-        let minus_c = negated(c);
         let minus_d = negated(d);
-        let p = power % 8;
-        match p {
-            0 => self,
-            1 => Cyclotomic {
-                a: minus_d,
-                b: a,
-                c: b,
-                d: c,
-            },
-            2 => Cyclotomic {
-                a: minus_c,
-                b: minus_d,
-                c: a,
-                d: b,
-            },
-            3 => Cyclotomic {
-                a: minus_b,
-                b: minus_c,
-                c: minus_d,
-                d: a,
-            },
-            4 => Cyclotomic {
-                a: minus_a,
-                b: minus_b,
-                c: minus_c,
-                d: minus_d,
-            },
-            5 => Cyclotomic {
-                a: d,
-                b: minus_a,
-                c: minus_b,
-                d: minus_c,
-            },
-            6 => Cyclotomic {
-                a: c,
-                b: d,
-                c: minus_a,
-                d: minus_b,
-            },
-            _ => Cyclotomic {
-                a: b,
-                b: c,
-                c: d,
-                d: minus_a,
-            },
+        Cyclotomic {
+            a: minus_d,
+            b: a,
+            c: b,
+            d: c,
         }
+    }
+
+    // omega to the power, times this: that many single turns.
+    pub fn times_omega(self, power: u8) -> Cyclotomic
+        requires { ⌜ Small self ⌝ }
+        ensures { λ r. ⌜ r ≡ turn power self ⌝ }
+    {
+        let mut z = self;
+        let mut i: u8 = 0;
+        while i < power {
+            z = z.turned();
+            i += 1;
+        }
+        z
     }
 
     // Whether this is sqrt(2) times an element.

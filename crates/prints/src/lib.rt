@@ -27,16 +27,17 @@ fn first_nonzero(m: &[Coefficient], size: usize) -> usize
     size
 }
 
-// The power 0 to 7 whose turn of an entry is least, in the order of SPECIFICATION 1.11.
+// The power 0 to 7 whose turn of an entry is least, in the order of SPECIFICATION 1.11. Each turn is made of the one before.
 fn least_power(z: Cyclotomic) -> u8
     requires { ⌜ Small z ⌝ }
     ensures { λ r. ⌜ r ≡ phase z ⌝ }
 {
     let mut least: u8 = 0;
     let mut best = z;
+    let mut turned = z;
     let mut power: u8 = 1;
     while power < 8 {
-        let turned = z.times_omega(power);
+        turned = turned.turned();
         if turned.less_than(best) {
             least = power;
             best = turned;
@@ -62,6 +63,7 @@ pub fn canonical_phase_power(m: &[Coefficient], n: usize) -> u8
 }
 
 // Whether two matrices of width n are equal up to phase: their exponents are equal, and so are all entries once each is phased (SPECIFICATION 1.12).
+// Turns by p and by q differ by p and 7 times q together, so the left entries alone are turned.
 pub fn equivalent_up_to_global_phase(
     left: &[Coefficient],
     right: &[Coefficient],
@@ -79,12 +81,13 @@ pub fn equivalent_up_to_global_phase(
     }
     let p = canonical_phase_power(left, n);
     let q = canonical_phase_power(right, n);
+    let turns = (p + 7 * q) % 8;
     let size = places::area(n);
     let mut e = 0;
     while e < size {
         if !places::get(left, e)
-            .times_omega(p)
-            .equals(places::get(right, e).times_omega(q)) {
+            .times_omega(turns)
+            .equals(places::get(right, e)) {
             return false;
         }
         e += 1;

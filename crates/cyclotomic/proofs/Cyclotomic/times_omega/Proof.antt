@@ -1,88 +1,52 @@
--- `times_omega` meets its contract: each arm is that many turns, and a turn's power counts by its remainder by 8. Assumes nothing.
-use mathlib.Core.Path.{_≡_, sym, ap, _∙_}
-use Prim.Native.Nat.{ℕ, _≤_, _%_}
+-- `times_omega` meets its contract: after i single turns it is the turn by i. Assumes nothing.
+use borrow.Author.Needs.{needs}
+use mathlib.Core.Path.{_≡_, refl, sym, ap, _∙_, subst}
+use Prim.Native.Nat.{ℕ, suc, _+_, _-_, _≤_}
 use native.Mathlib.Omega.{arith}
-use lib.IntN.{negℤ, negℤ-negℤ}
-use mir.Val.{toZ, ofZ}
-use Rattle.ints.proofs.Machine.{said}
-use Rattle.cyclotomic.specs.Zomega.{near, turn}
-use Rattle.cyclotomic.proofs.Number.{SizeKept, kept, each, past}
-use Rattle.cyclotomic.proofs.Turns.{turn-mod}
+use Rattle.cyclotomic.specs.Zomega.{Zω, turn, Small}
+use Rattle.cyclotomic.proofs.Turns.{turn-turn, turn-none}
+use Rattle.cyclotomic.proofs.Squares.{small-turn}
 use Rattle.cyclotomic.proofs.Cyclotomic.times_omega.Statement.{statement}
 use Rattle.cyclotomic.proofs.Cyclotomic.times_omega.Tie as tie
 
--- the turn by an arm's number is the turn by the power
-arm : (c : tie.Start) (k : ℕ) → c .args .power % 8 ≡ k → turn k (c .args .self) ≡ turn (c .args .power) (c .args .self)
-arm c k e = rw (sym e) (turn-mod (c .args .power) (c .args .self))
+record Turning (power : ℕ) (z₀ z : Zω) (i : ℕ) : Type 0 where
+  within : i ≤ power
+  is : z ≡ turn i z₀
+  small : Small z
 
-seventh : (p : ℕ) → 7 ≤ p % 8 → p % 8 ≡ 7
-seventh p h = omega arith
+one-more : {power : ℕ} {z₀ z w : Zω} {i : ℕ} → Turning power z₀ z i → suc i ≤ power → w ≡ turn 1 z → Turning power z₀ w (i + 1)
+one-more {z₀} {z} {i = i} t h e = record {
+  within = omega arith;
+  is = e ∙ ap (turn 1) (t .is) ∙ turn-turn 1 i z₀ ∙ (let q : 1 + i ≡ i + 1 = omega arith in ap (λ (j : ℕ). turn j z₀) q);
+  small = subst Small (sym e) (small-turn 1 z (t .small));
+}
 
-own : (c : tie.Start) → SizeKept (c .args .self)
-own c = kept (c .good .0 .1 .1)
+abbrev Inv-loop : tie.InvT-loop
+Inv-loop power z₀ i₀ z i = Turning power z₀ z i
 
--- the coefficients of the argument, where the match is
-self : (c : tie.After-negated4) → SizeKept (c .before .before .before .before .before .before .before .before .args .self)
-self c = own (c .before .before .before .before .before .before .before .before)
+abbrev μ-loop : tie.MeasureT-loop
+μ-loop power z₀ i₀ z i = power - i
 
--- the four negated coefficients
-minus-a : (c : tie.After-negated4) → toZ near (ofZ near (c .before .before .before .negated .result)) ≡ negℤ (c .before .before .before .before .before .before .before .before .args .self .a)
-minus-a c = let q = c .before .before .before .negated in said near (q .ok) (q .ensures) ∙ ap negℤ (self c .a-kept)
+loop-holds : tie.Need-loop-holds Inv-loop μ-loop
+loop-holds c = record { within = omega arith; is = sym (turn-none _); small = c .pre }
 
-minus-b : (c : tie.After-negated4) → toZ near (ofZ near (c .before .before .negated2 .result)) ≡ negℤ (c .before .before .before .before .before .before .before .before .args .self .b)
-minus-b c = let q = c .before .before .negated2 in said near (q .ok) (q .ensures) ∙ ap negℤ (self c .b-kept)
+turned-requires : tie.Need-turned-requires Inv-loop μ-loop
+turned-requires c κs = c .before .loop .inv .small
 
-minus-c : (c : tie.After-negated4) → toZ near (ofZ near (c .before .negated3 .result)) ≡ negℤ (c .before .before .before .before .before .before .before .before .args .self .c)
-minus-c c = let q = c .before .negated3 in said near (q .ok) (q .ensures) ∙ ap negℤ (self c .c-kept)
+add-i : tie.Need-add-i Inv-loop μ-loop
+add-i c = search needs
 
-minus-d : (c : tie.After-negated4) → toZ near (ofZ near (c .negated4 .result)) ≡ negℤ (c .before .before .before .before .before .before .before .before .args .self .d)
-minus-d c = let q = c .negated4 in said near (q .ok) (q .ensures) ∙ ap negℤ (self c .d-kept)
+loop-less : tie.Need-loop-less Inv-loop μ-loop
+loop-less c = let t = c .before .loop-test .taken in omega (arith, c .before .before .loop .inv .within)
 
-returns : tie.Need-returns
-unfolding turn
-returns c = arm (c .before .before .before .before .before .before .before .before .before) 0 (c .match .keys1)
+loop-again : tie.Need-loop-again Inv-loop μ-loop
+loop-again c = one-more (c .before .before .loop .inv) (c .before .loop-test .taken) (c .turned .ensures)
 
-returns-2 : tie.Need-returns-2
-unfolding turn
-returns-2 c = each (minus-d (c .before)) (self (c .before) .a-kept) (self (c .before) .b-kept) (self (c .before) .c-kept) ∙ arm (c .before .before .before .before .before .before .before .before .before) 1 (c .match .keys2)
-
-returns-3 : tie.Need-returns-3
-unfolding turn
-returns-3 c = each (minus-c (c .before)) (minus-d (c .before)) (self (c .before) .a-kept) (self (c .before) .b-kept) ∙ arm (c .before .before .before .before .before .before .before .before .before) 2 (c .match .keys3)
-
-returns-4 : tie.Need-returns-4
-unfolding turn
-returns-4 c = each (minus-b (c .before)) (minus-c (c .before)) (minus-d (c .before)) (self (c .before) .a-kept) ∙ arm (c .before .before .before .before .before .before .before .before .before) 3 (c .match .keys4)
-
-returns-5 : tie.Need-returns-5
-unfolding turn
-returns-5 c = each (minus-a (c .before)) (minus-b (c .before)) (minus-c (c .before)) (minus-d (c .before)) ∙ arm (c .before .before .before .before .before .before .before .before .before) 4 (c .match .keys5)
-
-returns-6 : tie.Need-returns-6
-unfolding turn
-returns-6 c = each (rw negℤ-negℤ (self (c .before) .d-kept)) (minus-a (c .before)) (minus-b (c .before)) (minus-c (c .before)) ∙ arm (c .before .before .before .before .before .before .before .before .before) 5 (c .match .keys6)
-
-returns-7 : tie.Need-returns-7
-unfolding turn
-returns-7 c = each (rw negℤ-negℤ (self (c .before) .c-kept)) (rw negℤ-negℤ (self (c .before) .d-kept)) (minus-a (c .before)) (minus-b (c .before)) ∙ arm (c .before .before .before .before .before .before .before .before .before) 6 (c .match .keys7)
-
-returns-8 : tie.Need-returns-8
-unfolding turn
-returns-8 c = each (rw negℤ-negℤ (self (c .before) .b-kept)) (rw negℤ-negℤ (self (c .before) .c-kept)) (rw negℤ-negℤ (self (c .before) .d-kept)) (minus-a (c .before)) ∙ arm (c .before .before .before .before .before .before .before .before .before) 7 (seventh _ (past _ 7 (c .match .rest)))
+returns : tie.Need-returns Inv-loop μ-loop
+returns c =
+    let t = c .before .loop .inv in
+    let e : c .before .loop .i ≡ c .before .before .args .power = omega (arith, t .within, c .loop-test .left) in
+    t .is ∙ ap (λ (j : ℕ). turn j (c .before .before .args .self)) e
 
 pub times-omega-spec : {M : Type 1} → statement M
-times-omega-spec =
-    tie.close
-    (tie.spec
-    (λ c κs. let s = c .before .before .before .before in rw (own s .a-kept) (s .pre .a-small))
-    (λ c κs. let s = c .before .before .before .before .before in rw (own s .b-kept) (s .pre .b-small))
-    (λ c κs. let s = c .before .before .before .before .before .before in rw (own s .c-kept) (s .pre .c-small))
-    (λ c κs. let s = c .before .before .before .before .before .before .before in rw (own s .d-kept) (s .pre .d-small))
-    returns
-    returns-2
-    returns-3
-    returns-4
-    returns-5
-    returns-6
-    returns-7
-    returns-8)
+times-omega-spec = tie.close (tie.spec Inv-loop μ-loop loop-holds turned-requires add-i loop-less loop-again returns)

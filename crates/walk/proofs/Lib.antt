@@ -1,7 +1,6 @@
 pub mod Grown
 pub mod Laws
 pub mod Nodewise
-pub mod Modes
 pub mod WidthDemand
 pub mod Sequences
 pub mod Candidates

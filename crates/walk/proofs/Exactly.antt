@@ -40,7 +40,7 @@ use Rattle.walk.proofs.Nodes.{fresh}
 module _ (n : ℕ) where
   -- ---- one fingerprint
 
-  print-same : (x y : Exact) → samePrint n x y ≡ true → fingerprint n x ≡ fingerprint n y
+  pub print-same : (x y : Exact) → samePrint n x y ≡ true → fingerprint n x ≡ fingerprint n y
   unfolding samePrint
   print-same x y e = eqb-true (fingerprint n x) (fingerprint n y) e
 

@@ -26,3 +26,4 @@ pub mod Chaining
 pub mod Rechecked
 pub mod Meaning
 pub mod Held
+pub mod Holding

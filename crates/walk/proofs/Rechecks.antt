@@ -60,6 +60,10 @@ module _ (n : ℕ) where
         (λ i. fit-steps l i && stepFits n (gateOf n g) (sym (product-is mode n basis small l) i))
         ∙ sym (ok-snoc identity (reverse l) g) ∙ ap (λ (z : List ℕ). ok (stepsFrom n identity z)) (sym (reverse-cons g l))
 
+    -- every step of a list that is newest gate first fits, and so of the list as callers have it
+    pub steps-fit : (l : List ℕ) → stepsFit (atWidth mode n basis) l ≡ true → steps n (reverse l) ≡ allFit
+    steps-fit l e = ok-true (steps n (reverse l)) (sym (fit-steps l) ∙ e)
+
     -- of a list as callers have it, oldest gate first
     pub recheck-exactly : (l : List ℕ) (x : Exact)
         → (recheck (atWidth mode n basis) (reverse l) x ≡ true) ↔ ((steps n l ≡ allFit) × (upToPhase n (product n l) x ≡ true))

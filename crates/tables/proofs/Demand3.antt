@@ -41,7 +41,7 @@ not-unitary t a q out h u = by (decided t a q out)
 
 -- ---- a larger built table
 
-module _ (t t′ : Table) (a a′ : Arrays) (b : Built t a) (b′ : Built t′ a′) (x : FilledFrom t a) (x′ : FilledFrom t′ a′) (s : NoSmaller (t .limits) (t′ .limits))
+module _ (t t′ : Table) (a a′ : Arrays) (b : Built mode t a) (b′ : Built mode t′ a′) (x : FilledFrom t a) (x′ : FilledFrom t′ a′) (s : NoSmaller (t .limits) (t′ .limits))
     (q : Query) where
   -- it has the widths of the other, and gives the same lists there
   same-list : (out′ l : List ℕ) → notAWidth t (q .width) ≡ false → rowOfAnswer t′ a′ q out′ ≡ 0
@@ -74,7 +74,7 @@ module _ (t t′ : Table) (a a′ : Arrays) (b : Built t a) (b′ : Built t′ a
 
 -- ---- a built table
 
-module _ (t : Table) (a : Arrays) (b : Built t a) where
+module _ (t : Table) (a : Arrays) (b : Built mode t a) where
   -- (c), from the walk's answers
   answers-complete : FilledFrom t a → (q : Query) → (q .width ≤ 5 → WidthComplete (q .width) (t .limits .basis) (t .limits .gates) (t .limits .entries))
       → Complete t a q

@@ -134,13 +134,13 @@ module _ (t : Table) (a : Arrays) where
 
 -- ---- a build
 
-module _ (l : Limits) (a b : Arrays) (t : Table) (n : buildOf l a ≡ left (table t) b) where
-  build-same : buildOf l (scanned a) ≡ left (table t) (scanned b)
+module _ (l : Limits) (a b : Arrays) (t : Table) (n : buildOf mode l a ≡ left (table t) b) where
+  build-same : buildOf mode l (scanned a) ≡ left (table t) (scanned b)
   build-same =
       let (e, u, x) = build-returned l a b t n in
       let (g, h, i) = build-passed l a e in
       build-fills l (scanned a) (rows-none l (scanned a) g h refl)
-      ∙ (λ k. left (table (u k)) (arraysBy scan (x k .prints) (x k .parents) (x k .codes) (scan-leaves l (printsOf l) (λ v. length (walkOf l v .nodes)) [] k)))
+      ∙ (λ k. left (table (u k)) (arraysBy scan (x k .prints) (x k .parents) (x k .codes) (scan-leaves l (printsOf mode l) (λ v. length (walkOf mode l v .nodes)) [] k)))
 
   build-filled : a .by ≡ indexed → fillOf t b ≡ fillLeft filled (b .index)
   unfolding firstRow
@@ -157,8 +157,8 @@ module _ (l : Limits) (a b : Arrays) (t : Table) (n : buildOf l a ≡ left (tabl
 
   build-leaves : a .by ≡ scan → b .index ≡ a .index
   build-leaves e =
-      sym (ap (λ (y : Arrays). y .index) (build-returned l a b t n .2)) ∙ ap (λ (y : By). indexTo l y (l .qubits) (a .index)) e
-      ∙ scan-leaves l (printsOf l) (λ v. length (walkOf l v .nodes)) (a .index)
+      sym (ap (λ (y : Arrays). y .index) (build-returned l a b t n .2)) ∙ ap (λ (y : By). indexTo mode l y (l .qubits) (a .index)) e
+      ∙ scan-leaves l (printsOf mode l) (λ v. length (walkOf mode l v .nodes)) (a .index)
 
 pub either-lookup : EitherLookup
 either-lookup = record {

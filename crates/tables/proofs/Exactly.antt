@@ -33,10 +33,10 @@ buildPosition (table t) = 0
 buildPosition (refusal r p) = p
 
 module _ (l : Limits) (a : Arrays) where
-  build : (b : Arrays) (r p : ℕ) → (buildOf l a ≡ left (refusal r p) b) ↔ (First r p (buildCauses l a) × (b ≡ a))
+  build : (b : Arrays) (r p : ℕ) → (buildOf mode l a ≡ left (refusal r p) b) ↔ (First r p (buildCauses l a) × (b ≡ a))
   build b r p = (λ n. to n (firstRow (buildRows l a)) refl, from)
     where
-      to : buildOf l a ≡ left (refusal r p) b → (s : ℕ) → firstRow (buildRows l a) ≡ s → First r p (buildCauses l a) × (b ≡ a)
+      to : buildOf mode l a ≡ left (refusal r p) b → (s : ℕ) → firstRow (buildRows l a) ≡ s → First r p (buildCauses l a) × (b ≡ a)
       to n zero f = absurd (omega (arith, ap (λ (z : Left). buildNumber (z .reply)) (sym (build-fills l a f) ∙ n)))
       to n (suc s) f =
           let z = sym (build-refusal l a (suc s) (omega arith) f) ∙ n in
@@ -47,15 +47,15 @@ module _ (l : Limits) (a : Arrays) where
             sym (ap (λ (y : Left). y .arrays) z),
           )
 
-      from : First r p (buildCauses l a) × (b ≡ a) → buildOf l a ≡ left (refusal r p) b
+      from : First r p (buildCauses l a) × (b ≡ a) → buildOf mode l a ≡ left (refusal r p) b
       from (f, z) =
           let (x, h, y) = first-from (build-in-words l a) r p f in
           build-refusal l a r h x ∙ (λ k. left (refusal r (sym y k)) (sym z k))
 
-  built : (buildOf l a ≡ left (table (recordOf l)) (builtTo l (l .qubits) a)) ↔ NoCause (buildCauses l a)
+  built : (buildOf mode l a ≡ left (table (recordOf mode l)) (builtTo mode l (l .qubits) a)) ↔ NoCause (buildCauses l a)
   built = (λ n. to n (firstRow (buildRows l a)) refl, λ n. build-fills l a (none-from (build-in-words l a) n))
     where
-      to : buildOf l a ≡ left (table (recordOf l)) (builtTo l (l .qubits) a) → (s : ℕ) → firstRow (buildRows l a) ≡ s → NoCause (buildCauses l a)
+      to : buildOf mode l a ≡ left (table (recordOf mode l)) (builtTo mode l (l .qubits) a) → (s : ℕ) → firstRow (buildRows l a) ≡ s → NoCause (buildCauses l a)
       to n zero f = none-to (build-in-words l a) f
       to n (suc s) f = absurd (omega (arith, ap (λ (z : Left). buildNumber (z .reply)) (sym (build-refusal l a (suc s) (omega arith) f) ∙ n)))
 

@@ -219,12 +219,12 @@ module _ (t : Table) (a : Arrays) (q : Query) where
         (λ e. y .0 (x .0 e), λ e. x .1 (y .1 e));
   }
 
-  never-13 : Built t a → FindRefuses t a q 13 → ⊥
+  never-13 : Built mode t a → FindRefuses t a q 13 → ⊥
   never-13 b n = demand .never-13 t a b q (longList t) (refused-same t a q (longList t) (long-enough t) 13 .0 n)
 
 -- ---- a larger built table
 
-module _ (t t′ : Table) (a a′ : Arrays) (b : Built t a) (b′ : Built t′ a′) (x : FilledFrom t a) (x′ : FilledFrom t′ a′) (s : NoSmaller (t .limits) (t′ .limits))
+module _ (t t′ : Table) (a a′ : Arrays) (b : Built mode t a) (b′ : Built mode t′ a′) (x : FilledFrom t a) (x′ : FilledFrom t′ a′) (s : NoSmaller (t .limits) (t′ .limits))
     (q : Query) (k m : ℕ) (h : Finds t a q k m) where
   -- its answer with a list that is long enough
   larger-node : (l : List ℕ) × (length l ≡ m) × Gives t a q (longList t) l × ((k′ : ℕ) × Finds t′ a′ q k′ (length l) × Writes t′ a′ (q .width) k′ (longList t′) l)
@@ -260,11 +260,11 @@ module _ (t t′ : Table) (a a′ : Arrays) (b : Built t a) (b′ : Built t′ a
 
 -- ---- the nodes of a built table
 
-node-written : (t : Table) (a : Arrays) → Built t a → (w k : ℕ) → k < countAt t w → (out : List ℕ) → t .limits .gates ≤ length out → (l : List ℕ) × Writes t a w k out l
+node-written : (t : Table) (a : Arrays) → Built mode t a → (w k : ℕ) → k < countAt t w → (out : List ℕ) → t .limits .gates ≤ length out → (l : List ℕ) × Writes t a w k out l
 node-written t a b w k h out room =
     let (p, c, z) = counted t w h in
     let e = chain-at t a b w p c k (omega (arith, h, z)) in (
-      reverse (listAt (walkOf (t .limits) w .nodes) k),
+      reverse (listAt (walkOf mode (t .limits) w .nodes) k),
       write-passed t a w k out (rows-passed t a w k out (good-record t a b) (b .room) h (le-ltb (length out) (t .limits .gates) room))
           ∙ written-good (limitsAt (t .limits) w) (partAt t a w) k out e,
     )

@@ -111,8 +111,8 @@ all-anew l prints count index other e p h =
     (λ w xs ys z. ap (λ (n : ℕ). filled (prints w) n (count w)) z) (l .qubits) other index (omega (arith, s .large)) (s .in-all ∙ sym h) h
 
 -- what a build does to an index up to width w keeps its length
-pub index-to-length : (l : Limits) (by : By) (w : ℕ) (index : List ℕ) → w ≤ l .qubits → length (indexTo l by w index) ≡ length index
-index-to-length l by = kept-to-length l by (printsOf l) (λ v. length (walkOf l v .nodes))
+pub index-to-length : (l : Limits) (by : By) (w : ℕ) (index : List ℕ) → w ≤ l .qubits → length (indexTo mode l by w index) ≡ length index
+index-to-length l by = kept-to-length l by (printsOf mode l) (λ v. length (walkOf mode l v .nodes))
 
 -- ---- an index filled from a table, whatever the table holds
 
@@ -162,22 +162,22 @@ module _ (t : Table) (a : Arrays) where
 
 -- ---- a built table
 
-module _ (t : Table) (a : Arrays) (b : Built t a) where
+module _ (t : Table) (a : Arrays) (b : Built mode t a) where
   -- the fingerprints of a width's part are those of its nodes
-  pub prints-at : (w : ℕ) → 0 < w → w ≤ t .limits .qubits → (j : ℕ) → j < length (walkOf (t .limits) w .nodes)
-      → getD (partOf w (t .limits .entries) (a .prints)) j 0 ≡ getD (printsOf (t .limits) w) j 0
+  pub prints-at : (w : ℕ) → 0 < w → w ≤ t .limits .qubits → (j : ℕ) → j < length (walkOf mode (t .limits) w .nodes)
+      → getD (partOf w (t .limits .entries) (a .prints)) j 0 ≡ getD (printsOf mode (t .limits) w) j 0
   unfolding printsOf
   prints-at w p h j l =
       let c = walk-count (t .limits) w (accepted (t .limits) (b .accepted) .some) .1 in
       getD-take (t .limits .entries) (drop ((w - 1) * t .limits .entries) (a .prints)) j 0 (omega (arith, c))
-      ∙ getD-drop ((w - 1) * t .limits .entries) (a .prints) j 0 ∙ b .nodes w p h j l .print ∙ sym (map-at (printOf w) (walkOf (t .limits) w .nodes) j l)
+      ∙ getD-drop ((w - 1) * t .limits .entries) (a .prints) j 0 ∙ b .nodes w p h j l .print ∙ sym (map-at (printOf w) (walkOf mode (t .limits) w .nodes) j l)
 
   -- a fill leaves what a build of the limits leaves
-  pub fill-is-build : filledIndex t a ≡ indexTo (t .limits) indexed (t .limits .qubits) (a .index)
+  pub fill-is-build : filledIndex t a ≡ indexTo mode (t .limits) indexed (t .limits .qubits) (a .index)
   unfolding filledIndex
   fill-is-build =
       parts-cong (λ w. kept indexed (partOf w (t .limits .entries) (a .prints)) (countAt t w))
-      (λ w. kept indexed (printsOf (t .limits) w) (length (walkOf (t .limits) w .nodes))) (partSize (t .limits) (length (a .index))) (t .limits .qubits) (a .index)
+      (λ w. kept indexed (printsOf mode (t .limits) w) (length (walkOf mode (t .limits) w .nodes))) (partSize (t .limits) (length (a .index))) (t .limits .qubits) (a .index)
       (λ v h xs. let c = count-at t a b (suc v) (omega arith) h in
       ap (λ (m : ℕ). kept indexed (partOf (suc v) (t .limits .entries) (a .prints)) m xs) c
-      ∙ kept-cong indexed _ _ xs (length (walkOf (t .limits) (suc v) .nodes)) (prints-at (suc v) (omega arith) h))
+      ∙ kept-cong indexed _ _ xs (length (walkOf mode (t .limits) (suc v) .nodes)) (prints-at (suc v) (omega arith) h))

@@ -88,7 +88,7 @@ abbrev isBad : Chain → ℕ
 isBad (good l) = 0
 isBad bad = 1
 
-module _ (t : Table) (a : Arrays) (b : Built t a) where
+module _ (t : Table) (a : Arrays) (b : Built mode t a) where
   -- its basis and its limits
   abbrev B : ℕ
   B = t .limits .basis
@@ -120,11 +120,11 @@ module _ (t : Table) (a : Arrays) (b : Built t a) where
     part-size : (xs : List ℕ) → placesOf (t .limits) ≤ length xs → length (partOf w E xs) ≡ E
     part-size xs r = part-length ((w - 1) * E) E xs (omega (arith, room-at (w - 1) Q E (omega arith)))
 
-    few : length (walkOf (t .limits) w .nodes) ≤ E
+    few : length (walkOf mode (t .limits) w .nodes) ≤ E
     few = walk-count (t .limits) w (accepted (t .limits) (b .accepted) .some) .1
 
     -- the parts hold the nodes of the walk
-    holding : Holding w B (walkOf (t .limits) w .nodes) (partOf w E (a .prints)) (partOf w E (a .parents)) (partOf w E (a .codes))
+    holding : Holding w B (walkOf mode (t .limits) w .nodes) (partOf w E (a .prints)) (partOf w E (a .parents)) (partOf w E (a .codes))
     holding =
         let r = roomy (t .limits) a (b .room) in
         record {
@@ -137,7 +137,7 @@ module _ (t : Table) (a : Arrays) (b : Built t a) where
         }
 
     -- a node's chain is its list
-    pub chain-at : (k : ℕ) → k < widthAt t w .count → chainAt (limitsAt (t .limits) w) (partAt t a w) k ≡ good (reverse (listAt (walkOf (t .limits) w .nodes) k))
+    pub chain-at : (k : ℕ) → k < widthAt t w .count → chainAt (limitsAt (t .limits) w) (partAt t a w) k ≡ good (reverse (listAt (walkOf mode (t .limits) w .nodes) k))
     chain-at k l = chain-held w B (widths-small w h) G E holding k (omega (arith, l, ap (λ (v : Width). v .count) (width-is t a b w p h)))
 
     -- it answers as the walk does, where the index was filled from it

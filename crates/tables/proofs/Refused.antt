@@ -71,7 +71,7 @@ module _ (t : Table) (a : Arrays) (q : Query) (out : List ℕ) where
 
   -- ---- a built table whose index 17 does not refuse: the query's rows and the list's are all
 
-  pub refused-built : Built t a → partsRow (t .limits) a .holds ≡ false → (r : ℕ) → Refuses t a q out r ↔ First r 0 (queryCauses q ++ (cause 12 (length out < t .limits .gates) ∷ []))
+  pub refused-built : Built mode t a → partsRow (t .limits) a .holds ≡ false → (r : ℕ) → Refuses t a q out r ↔ First r 0 (queryCauses q ++ (cause 12 (length out < t .limits .gates) ∷ []))
   refused-built b i r = (
     (λ n. let (h, e) = to n (refused-by r n) in first-to words r h (sym (rows-are t a b i q out) ∙ e)),
     (λ w. let (e, h, z) = first-from words r 0 w in row-refuses t a q out r h (rows-are t a b i q out ∙ e)),
@@ -85,7 +85,7 @@ module _ (t : Table) (a : Arrays) (q : Query) (out : List ℕ) where
       to n (chain-bad z e w x) = absurd (demand .never-13 t a b q out (n ∙ ap (λ (s : ℕ). outcome (refused s 0) out) z))
 
   -- a query that none of these rows refuses is not refused
-  pub never-refused : Built t a → partsRow (t .limits) a .holds ≡ false → firstRow (queryRows (q .width) (q .exponent) (q .bytes) ++ (listRow t out ∷ [])) ≡ 0 → NotRefused t a q out
+  pub never-refused : Built mode t a → partsRow (t .limits) a .holds ≡ false → firstRow (queryRows (q .width) (q .exponent) (q .bytes) ++ (listRow t out ∷ [])) ≡ 0 → NotRefused t a q out
   never-refused b i e r n = by (refused-by r n)
     where
       by : Refusal r → ⊥

@@ -12,11 +12,15 @@ ghost use Rattle.index.specs.Told.{toldBy};
 use synthesis_arena::Found;
 use synthesis_arena::MARK;
 
-// Where a probe begins: the one division of a probe.
+// Where a probe begins. A part of an index has a power of two of places, and then no division is needed.
 fn first_place(size: usize, fingerprint: u64) -> usize
     requires some { ⌜ 0 < size ⌝ }
     ensures first { λ r. ⌜ r ≡ placeOf size fingerprint 0 ⌝ }
 {
+    let last = size as u64 - 1;
+    if size as u64 & last == 0 {
+        return (fingerprint & last) as usize;
+    }
     (fingerprint % size as u64) as usize
 }
 

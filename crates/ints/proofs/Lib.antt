@@ -5,3 +5,4 @@ pub mod Bools
 pub mod Bits
 pub mod Tables
 pub mod Runs
+pub mod Powers

@@ -9,6 +9,7 @@ use borrow.Author.Tests.{lt-ltb, le-ltb, ltb-false}
 use lib.ListN.{length, drop, replicate, length-replicate}
 use Rattle.exact.specs.Unitary.{Unitary}
 use Rattle.walk.specs.Walk.{listAt}
+use Rattle.walk.specs.Modes.{Mode}
 use Rattle.walk.specs.Chains.{Chain, good, bad}
 use Rattle.walk.specs.Finds.{Finding, node, chainAt}
 use Rattle.walk.specs.Finds as f
@@ -219,18 +220,18 @@ module _ (t : Table) (a : Arrays) (q : Query) where
         (λ e. y .0 (x .0 e), λ e. x .1 (y .1 e));
   }
 
-  never-13 : Built mode t a → FindRefuses t a q 13 → ⊥
-  never-13 b n = demand .never-13 t a b q (longList t) (refused-same t a q (longList t) (long-enough t) 13 .0 n)
+  never-13 : {mode : Mode} → Built mode t a → FindRefuses t a q 13 → ⊥
+  never-13 {mode} b n = demand .never-13 mode t a b q (longList t) (refused-same t a q (longList t) (long-enough t) 13 .0 n)
 
 -- ---- a larger built table
 
-module _ (t t′ : Table) (a a′ : Arrays) (b : Built mode t a) (b′ : Built mode t′ a′) (x : FilledFrom t a) (x′ : FilledFrom t′ a′) (s : NoSmaller (t .limits) (t′ .limits))
+module _ {mode : Mode} (t t′ : Table) (a a′ : Arrays) (b : Built mode t a) (b′ : Built mode t′ a′) (x : FilledFrom t a) (x′ : FilledFrom t′ a′) (s : NoSmaller (t .limits) (t′ .limits))
     (q : Query) (k m : ℕ) (h : Finds t a q k m) where
   -- its answer with a list that is long enough
   larger-node : (l : List ℕ) × (length l ≡ m) × Gives t a q (longList t) l × ((k′ : ℕ) × Finds t′ a′ q k′ (length l) × Writes t′ a′ (q .width) k′ (longList t′) l)
   larger-node =
       let (l, z, w, g) = found-written t a q (longList t) (long-enough t) k m h in
-      (l, z, g, by l (demand .larger t t′ a a′ b b′ x x′ s q (longList t) (longList t′) l g))
+      (l, z, g, by l (demand .larger mode t t′ a a′ b b′ x x′ s q (longList t) (longList t′) l g))
     where
       by : (l : List ℕ) → Gives t′ a′ q (longList t′) l ⊎ Refuses t′ a′ q (longList t′) 12 → (k′ : ℕ) × Finds t′ a′ q k′ (length l) × Writes t′ a′ (q .width) k′ (longList t′) l
       by l (inl g) = given-found t′ a′ q (longList t′) (long-enough t′) l g
@@ -252,7 +253,7 @@ module _ (t t′ : Table) (a a′ : Arrays) (b : Built mode t a) (b′ : Built m
           by (inl c) = inr (found-short t′ a′ q k′ m h′ out′ c .0)
           by (inr c) =
               let (l′, z, v, g′) = found-written t′ a′ q out′ c k′ m h′ in
-              inl (subst (Writes t′ a′ (q .width) k′ out′) (one l′ g′ (demand .larger t t′ a a′ b b′ x x′ s q out out′ l (answered t a q k m h out l w .1))) v)
+              inl (subst (Writes t′ a′ (q .width) k′ out′) (one l′ g′ (demand .larger mode t t′ a a′ b b′ x x′ s q out out′ l (answered t a q k m h out l w .1))) v)
             where
               one : (l′ : List ℕ) → Gives t′ a′ q out′ l′ → Gives t′ a′ q out′ l ⊎ Refuses t′ a′ q out′ 12 → l′ ≡ l
               one l′ g′ (inl e) = one-list l′ l out′ (sym g′ ∙ e)
@@ -260,8 +261,8 @@ module _ (t t′ : Table) (a a′ : Arrays) (b : Built mode t a) (b′ : Built m
 
 -- ---- the nodes of a built table
 
-node-written : (t : Table) (a : Arrays) → Built mode t a → (w k : ℕ) → k < countAt t w → (out : List ℕ) → t .limits .gates ≤ length out → (l : List ℕ) × Writes t a w k out l
-node-written t a b w k h out room =
+node-written : {mode : Mode} (t : Table) (a : Arrays) → Built mode t a → (w k : ℕ) → k < countAt t w → (out : List ℕ) → t .limits .gates ≤ length out → (l : List ℕ) × Writes t a w k out l
+node-written {mode} t a b w k h out room =
     let (p, c, z) = counted t w h in
     let e = chain-at t a b w p c k (omega (arith, h, z)) in (
       reverse (listAt (walkOf mode (t .limits) w .nodes) k),
@@ -280,8 +281,8 @@ find-write = record {
   refused-same = λ t a q out room. refused-same t a q out room;
   right = λ t a q k m h out l w. let (z, g) = answered t a q k m h out l w in let r = demand .right t a q out l g in (z, r .0, r .1, r .2);
   unitary = unitary;
-  larger = larger;
+  larger = λ mode. larger;
   complete = find-complete;
-  never-13 = λ t a b q n. never-13 t a q b n;
-  node-written = node-written;
+  never-13 = λ mode t a b q n. never-13 t a q b n;
+  node-written = λ mode. node-written;
 }

@@ -12,7 +12,7 @@ use Rattle.exact.specs.Matrix.{Exact}
 use Rattle.exact.specs.Fingerprint.{fingerprint}
 use Rattle.walk.specs.Modes.{Mode}
 use Rattle.walk.specs.Index.{By, scan, indexed}
-use Rattle.walk.specs.Lookup.{Lookup, found, lowestFrom}
+use Rattle.walk.specs.Lookup.{Lookup, found}
 use Rattle.walk.specs.Lookup as lookup
 use Rattle.walk.specs.Chains.{chainOf}
 use Rattle.walk.specs.Finds.{WidthLimits, Part, Finding, byChain, byLookup, lookedIn, findFrom, findBy}
@@ -22,7 +22,6 @@ use Rattle.tables.specs.Tables.{Table, walkOf, printsOf, indexTo, table,
 use Rattle.tables.specs.Tables.{filledIndex, FillReply, filled, not-filled, FillLeft, fillLeft, fillOf, findRows, foundIn, writtenIn, answerRows, repliedBy, synthesized}
 use Rattle.tables.specs.Built.{FilledFrom}
 use Rattle.tables.specs.EitherLookup.{scanned, through, EitherLookup}
-use Rattle.tables.proofs.InWords.{not-both}
 use Rattle.tables.proofs.Counts.{a-width, good-record}
 use Rattle.tables.proofs.Accepted.{record-limits}
 use Rattle.tables.proofs.Indexes.{part-sizes, indexed-parts, all-again, all-anew, scan-leaves, index-to-length, fill-keeps, looks-scan}

@@ -1,26 +1,26 @@
 -- A find and a write beside an answer: the statements of specs/FindWrite. Assumes nothing.
 use mathlib.Core.Path.{_≡_, refl, sym, ap, _∙_, subst}
 use mathlib.Core.Logic.{_↔_, _⊎_, inl, inr}
-use mathlib.Core.Bool.{Bool, true, false}
-use mathlib.Core.List.{List, [], _∷_, _++_, reverse}
+use mathlib.Core.Bool.{true, false}
+use mathlib.Core.List.{List, [], _∷_, reverse}
 use Prim.Native.Nat.{ℕ, zero, suc, _≤_, _<_}
 use native.Mathlib.Omega.{arith}
 use borrow.Author.Tests.{lt-ltb, le-ltb, ltb-false}
-use lib.ListN.{length, drop, replicate, length-replicate}
+use lib.ListN.{length, replicate, length-replicate}
 use Rattle.exact.specs.Unitary.{Unitary}
 use Rattle.walk.specs.Walk.{listAt}
 use Rattle.walk.specs.Modes.{Mode}
 use Rattle.walk.specs.Chains.{Chain, good, bad}
 use Rattle.walk.specs.Finds.{Finding, node, chainAt}
 use Rattle.walk.specs.Finds as f
-use Rattle.walk.specs.Answers.{none, refused, Outcome, outcome, written, writeOf, thenWrite}
+use Rattle.walk.specs.Answers.{none, refused, thenWrite}
 use Rattle.walk.specs.Meaning.{FoundBy}
 use Rattle.walk.proofs.Sequences.{lt-or}
 use Rattle.walk.proofs.Chaining.{good-by}
-use Rattle.walk.proofs.Meaning.{kind, kind-of, found-kind, found-first, find-means, found-below, written-good, written-bad}
+use Rattle.walk.proofs.Meaning.{kind-of, found-kind, found-first, find-means, found-below, written-good, written-bad}
 use Rattle.tables.specs.Checks.{firstRow, Arrays, roomRow}
-use Rattle.tables.specs.Tables.{Table, widthAt, countAt, walkOf, Query, matrixOf, recordRow, listRow, nodeRow, limitsAt, partAt, findRows, foundIn, writeRows, writtenIn}
-use Rattle.tables.specs.Tables.{answerRows, synthesized}
+use Rattle.tables.specs.Tables.{Table, countAt, walkOf, Query, matrixOf, recordRow, listRow, nodeRow, limitsAt, partAt, findRows, foundIn, writeRows, writtenIn}
+use Rattle.tables.specs.Tables.{synthesized}
 use Rattle.tables.specs.Built.{Built, FilledFrom}
 use Rattle.tables.specs.Demand3.{Gives, GivesNone, Refuses, NoSmaller, Complete}
 use Rattle.tables.specs.FindWrite.{Finds, FindsNone, FindRefuses, FindDecided, a-node, no-node, a-refusal, FindComplete}
@@ -28,7 +28,7 @@ use Rattle.tables.specs.FindWrite.{Writes, WriteRefuses, WriteDecided, a
 use Rattle.tables.proofs.Rows.{Numbers, index-number, first-number, first-here, first-past, first-none, firstRow-append}
 use Rattle.tables.proofs.Counts.{good-record}
 use Rattle.tables.proofs.Asked.{numbered-find, passed, good-table, rows-passed, partFound, find-passed, find-refused, write-passed, write-refused, answer-refused, followed}
-use Rattle.tables.proofs.Replies.{rowOfAnswer, number-of, not-given, one-list, gives-asked}
+use Rattle.tables.proofs.Replies.{number-of, not-given, one-list, gives-asked}
 use Rattle.tables.proofs.OfBuilt.{counted, chain-at}
 use Rattle.tables.proofs.Demand3.{demand}
 

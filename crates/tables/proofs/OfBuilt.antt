@@ -24,15 +24,14 @@ use Rattle.walk.proofs.Holding.{Holding, held-chain, not-bad}
 use Rattle.walk.specs.Answers.{given, refused, outcome, answerOf}
 use Rattle.walk.specs.Answers as a
 use Rattle.walk.proofs.Meaning.{kind-of, at-below}
-use Rattle.tables.specs.Checks.{firstRow, Arrays, placesOf, roomRow, partsRow, queryRows}
-use Rattle.tables.specs.Tables.{Table, Width, widthAt, walkOf, Query, query, matrixOf, recordRow, listRow, partSize, partOf, notAWidth, synthesized, limitsAt, partAt}
+use Rattle.tables.specs.Checks.{firstRow, Arrays, roomRow, partsRow, queryRows}
+use Rattle.tables.specs.Tables.{Table, Width, widthAt, walkOf, Query, query, matrixOf, recordRow, listRow, partOf, notAWidth, synthesized, limitsAt, partAt}
 use Rattle.tables.specs.Built.{Built, FilledFrom}
 use Rattle.tables.specs.Demand3.{Gives}
 use Rattle.tables.proofs.Rows.{index-number, first-number, first-past}
 use Rattle.tables.proofs.Causes.{is-true, fails, none-to}
 use Rattle.tables.proofs.InWords.{query-in-words}
-use Rattle.tables.proofs.Accepted.{accepted, roomy}
-use Rattle.tables.proofs.Filled.{part-length, room-at}
+use Rattle.tables.proofs.Accepted.{accepted}
 pub use Rattle.tables.proofs.Counts.{has-width, a-width, counted}
 use Rattle.tables.proofs.Counts.{walk-count, count-at, width-is, good-record}
 use Rattle.tables.proofs.Indexes.{looks-scan}

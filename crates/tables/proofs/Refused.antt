@@ -11,7 +11,7 @@ use Rattle.walk.specs.Answers.{refused, outcome}
 use Rattle.walk.specs.Meaning.{AnsweredBy, NoList, BadFound}
 use Rattle.walk.proofs.Meaning.{kind-of}
 use Rattle.tables.specs.Checks.{firstRow, Arrays, partsRow, queryRows}
-use Rattle.tables.specs.Tables.{Table, widthAt, Query, matrixOf, listRow, partOf, notAWidth, limitsAt, partAt}
+use Rattle.tables.specs.Tables.{Table, Query, matrixOf, listRow, notAWidth, limitsAt, partAt}
 use Rattle.tables.specs.Built.{Built}
 use Rattle.tables.specs.Demand3.{Gives, GivesNone, Refuses, NotRefused}
 use Rattle.tables.specs.Exactly.{cause, First, queryCauses}

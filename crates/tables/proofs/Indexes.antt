@@ -113,7 +113,7 @@ all-anew l prints count index other e p h =
 
 -- what a build does to an index up to width w keeps its length
 pub index-to-length : (mode : Mode) (l : Limits) (by : By) (w : ℕ) (index : List ℕ) → w ≤ l .qubits → length (indexTo mode l by w index) ≡ length index
-index-to-length mode l by = kept-to-length l by (printsOf mode l) (λ v. length (walkOf mode l v .nodes))
+index-to-length mode l by = kept-to-length l by (printsOf mode l) _
 
 -- ---- an index filled from a table, whatever the table holds
 

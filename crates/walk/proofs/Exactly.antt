@@ -17,7 +17,6 @@ use Rattle.generators.proofs.Generated.{lists}
 use Rattle.exact.specs.Matrix.{Exact, Lowest, PowerOf}
 use Rattle.exact.specs.Rows.{gateOf}
 use Rattle.exact.specs.Lists.{product}
-use Rattle.exact.specs.Phase.{upToPhase}
 use Rattle.exact.specs.Fingerprint.{fingerprint}
 use Rattle.exact.proofs.Values.{equal-same}
 use Rattle.exact.proofs.Acts.{act-lowest, act-swap, act-back, power-of, power-refl, power-sym, power-trans, act-power}
@@ -52,7 +51,7 @@ module _ (n basis : ℕ) where
   -- in every mode what counts as known has the fingerprint
   known-print : (mode : Mode) (x y : Exact) → knownIn mode (plainAt n basis) x y ≡ true → samePrint n x y ≡ true
   known-print byPrint x y e = e
-  known-print keeping x y e = and-left (samePrint n x y) (upToPhase n x y) e
+  known-print keeping x y e = and-left (samePrint n x y) (plainAt n basis .equal x y) e
 
 -- the product of a list, oldest gate first, is the walk's of the same list, newest first; and so a node's fingerprint
 module _ (mode : Mode) (n basis : ℕ) where

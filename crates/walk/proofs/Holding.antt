@@ -1,6 +1,6 @@
 -- Arrays that hold the nodes of a walk, in any mode: a node's chain is its list, so no chain is bad, and a look-up that finds the scan's node finds for a
 -- matrix the lowest node that answers it. Assumes nothing.
-use mathlib.Core.Path.{_≡_, refl, sym, ap, _∙_, subst}
+use mathlib.Core.Path.{_≡_, refl, sym, ap, _∙_}
 use mathlib.Core.Bool.{Bool, true, false}
 use mathlib.Core.List.{List, reverse}
 use Prim.Native.Nat.{ℕ, _≤_, _<_}
@@ -13,18 +13,17 @@ use Rattle.ints.specs.Lists.{pick}
 use Rattle.ints.proofs.Bools.{clash, and-left, and-right, and-both}
 use Rattle.exact.specs.Matrix.{Exact}
 use Rattle.exact.specs.Lists.{product}
-use Rattle.exact.specs.Fits.{allFit, steps}
 use Rattle.exact.specs.Phase.{upToPhase}
 use Rattle.exact.specs.Fingerprint.{fingerprint}
 use Rattle.walk.specs.Walk.{Rules, Node, root, gate, listAt, any, prod}
 use Rattle.walk.specs.Modes.{Mode}
 use Rattle.walk.specs.AtWidth.{samePrint, printOf, parentOf, atWidth}
 use Rattle.walk.specs.Chains.{Chain, good, bad}
-use Rattle.walk.specs.Finds.{WidthLimits, Part, Finding, node, none, chainAt, findOf, isNode}
-use Rattle.walk.specs.Meaning.{Gates, Passed, not-equal, BadFound, AsScan, ScanMeans, HasPrint}
+use Rattle.walk.specs.Finds.{WidthLimits, Part, node, none, chainAt, findOf, isNode}
+use Rattle.walk.specs.Meaning.{Passed, not-equal, BadFound, AsScan, HasPrint}
 use Rattle.walk.proofs.Grown.{Grown}
 use Rattle.walk.proofs.Nodewise.{lowest, answersTo}
-use Rattle.walk.proofs.Sequences.{bool, any-true, any-at}
+use Rattle.walk.proofs.Sequences.{any-true, any-at}
 use Rattle.walk.proofs.Nodes.{fit}
 use Rattle.walk.proofs.Answers.{lowest-passes, lowest-least}
 use Rattle.walk.proofs.Exactly.{print-same, same-print, print-is, product-is}

@@ -24,6 +24,13 @@ module _ (R : Rules) (Same : R .Mat → R .Mat → Type 0) where
 -- ---- a mode meets the laws that its rules meet
 
 module _ (R : Rules) (Same : R .Mat → R .Mat → Type 0) (W : Laws R Same) where
+  -- what answers is the same in every mode, and what is known where clashing nodes are kept
+  pub answers-same : (mode : Mode) (x y : R .Mat) → inMode mode R .answers x y ≡ true → Same x y
+  answers-same mode x y e = W .equal-same x y (and-right (R .answers x y) (R .equal x y) e)
+
+  known-same : (x y : R .Mat) → knownIn keeping R x y ≡ true → Same x y
+  known-same x y e = W .equal-same x y (and-right (R .known x y) (R .equal x y) e)
+
   pub same-known-in : (mode : Mode) (x y : R .Mat) → W .Lowest x → W .Lowest y → Same x y → knownIn mode R x y ≡ true
   same-known-in byPrint x y l m s = W .same-known l m s
   same-known-in keeping x y l m s = and-both (R .known x y) (R .equal x y) (W .same-known l m s) (W .same-equal l m s)
@@ -31,8 +38,7 @@ module _ (R : Rules) (Same : R .Mat → R .Mat → Type 0) (W : Laws R Same) whe
   pub known-then-in : (mode : Mode) (x y z : R .Mat) → W .Lowest x → W .Lowest y → W .Lowest z → knownIn mode R x y ≡ true → Same y z
       → knownIn mode R x z ≡ true
   known-then-in byPrint x y z l m o e s = W .known-then l m o e s
-  known-then-in keeping x y z l m o e s =
-      same-known-in keeping x z l o (W .same-trans (W .equal-same x y (and-right (R .known x y) (R .equal x y) e)) s)
+  known-then-in keeping x y z l m o e s = same-known-in keeping x z l o (W .same-trans (known-same x y e) s)
 
   unfoldable pub laws-in : (mode : Mode) → Laws (inMode mode R) Same
   laws-in mode = record {
@@ -48,8 +54,7 @@ module _ (R : Rules) (Same : R .Mat → R .Mat → Type 0) (W : Laws R Same) whe
     same-known = λ {x} {y} l m s. same-known-in mode x y l m s;
     known-then = λ {x} {y} {z} l m o e s. known-then-in mode x y z l m o e s;
     same-answers = λ {x} {y} l m s. and-both (R .answers x y) (R .equal x y) (W .same-answers l m s) (W .same-equal l m s);
-    answers-known = λ {x} {y} {z} l m o e s.
-        same-known-in mode x y l m (W .same-trans (W .equal-same x z (and-right (R .answers x z) (R .equal x z) e)) (W .same-sym s));
+    answers-known = λ {x} {y} {z} l m o e s. same-known-in mode x y l m (W .same-trans (answers-same mode x z e) (W .same-sym s));
     equal-same = W .equal-same;
     same-equal = λ l m s. W .same-equal l m s;
     bound = W .bound;
@@ -61,5 +66,4 @@ module _ (R : Rules) (Same : R .Mat → R .Mat → Type 0) (W : Laws R Same) whe
   present-keeping ns d k g l m s p f a =
       let c : R .Mat = candidate (inMode keeping R) ns k g in
       let r = any-true (knows (inMode keeping R) c) root ns a in
-      let x : R .Mat = prod (inMode keeping R) (listAt ns (r .0)) in
-      (r .0, r .1, W .equal-same x c (and-right (R .known x c) (R .equal x c) (r .2)))
+      (r .0, r .1, known-same (prod (inMode keeping R) (listAt ns (r .0))) c (r .2))

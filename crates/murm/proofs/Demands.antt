@@ -1,4 +1,5 @@
 -- The demands hold of what the public entries answer. Assumes nothing.
+use Rattle.walk.proofs.Meaning.{find-rule}
 use Rattle.tables.proofs.Demand2.{demand-2}
 use Rattle.tables.proofs.Demand3.{demand, beside}
 use Rattle.tables.proofs.FindWrite.{find-write}
@@ -14,4 +15,5 @@ demands = record {
   apart = find-write;
   either = either-lookup;
   beside = beside;
+  rule = find-rule;
 }

@@ -6,6 +6,7 @@
 use mathlib.Core.List.{List}
 use Prim.Native.Nat.{ℕ}
 use lib.IntN.{ℤ}
+use Rattle.walk.specs.Meaning.{FindRule}
 use Rattle.tables.specs.Demand2 as lists
 use Rattle.tables.specs.Demand3.{Demand3}
 use Rattle.tables.specs.FindWrite.{FindWrite}
@@ -17,7 +18,8 @@ use Rattle.tables.specs.Exactly.{Exactly}
 abbrev pub Demand2 : ℕ → List ℕ → List ℤ → Type 0
 Demand2 n codes bytes = lists.Demand2 n codes bytes
 
--- demand 3: the record `Demand3` of tables/specs/Demand3.antt, with `Built` and `FilledFrom` of tables/specs/Built.antt; of a find and a write: `FindWrite`
+-- demand 3: the record `Demand3` of tables/specs/Demand3.antt, with `Built` and `FilledFrom` of tables/specs/Built.antt; of a find and a write: `FindWrite`; which
+-- node is found: `FindRule` of walk/specs/Meaning.antt
 pub record Demands : Type 0 where
   pub refusals : Exactly
   pub second : (n : ℕ) (codes : List ℕ) (bytes : List ℤ) → Demand2 n codes bytes
@@ -25,3 +27,4 @@ pub record Demands : Type 0 where
   pub apart : FindWrite
   pub either : EitherLookup
   pub beside : Beside
+  pub rule : FindRule

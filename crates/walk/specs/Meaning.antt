@@ -178,7 +178,7 @@ module _ (limits : WidthLimits) (part : Part) (x : Exact) where
         → (answerOf limits part x out ≡ outcome (refused a i) after) ↔ (BadFound × (a ≡ 13) × (i ≡ 0) × (after ≡ out))
 
 -- the find, by the document's words
-pub record FindRule : Type 1 where
+pub record FindRule : Type 0 where
   -- whatever part is lent
   pub means : (limits : WidthLimits) (part : Part) (x : Exact) → FindMeans limits part x
   -- the lowest node with the fingerprint whose product is equal up to phase; a bad chain before it refuses by 13

@@ -13,7 +13,7 @@ use Rattle.walk.specs.Modes.{Mode}
 use Rattle.walk.specs.Chains.{Chain, good, bad}
 use Rattle.walk.specs.Finds.{Finding, node, chainAt}
 use Rattle.walk.specs.Finds as f
-use Rattle.walk.specs.Answers.{none, refused, thenWrite}
+use Rattle.walk.specs.Answers.{thenWrite}
 use Rattle.walk.specs.Meaning.{FoundBy}
 use Rattle.walk.proofs.Sequences.{lt-or}
 use Rattle.walk.proofs.Chaining.{good-by}

@@ -39,11 +39,12 @@ module _ (mode : Mode) (limits : WidthLimits) (small : limits .width ≤ 5) wher
   abbrev ns : List Node
   ns = built mode (limits .width) (limits .basis) (limits .gates) (limits .entries) .nodes
 
+  shape : Shape R (limits .gates) (limits .entries) (built mode (limits .width) (limits .basis) (limits .gates) (limits .entries))
+  shape = walk-shape R (limits .gates) (limits .entries)
+
   module _ (part : Part) (all : part .count ≡ length ns) (h : Holding (limits .width) ns (part .fingerprints) (part .parents) (part .codes)) (x : Exact)
       (same : AsScan limits part x) (out : List ℕ) where
-    shape : Shape R (limits .gates) (limits .entries) (built mode (limits .width) (limits .basis) (limits .gates) (limits .entries))
-    shape = walk-shape R (limits .gates) (limits .entries)
-
+    -- the node that answers, and its list told where its recheck passes
     abbrev k : ℕ
     k = lowest (answersTo R x) ns
 

@@ -108,7 +108,7 @@ module _ {mode : Mode} (t : Table) (a : Arrays) (b : Built mode t a) where
   -- ---- a width that it has
 
   module _ (w : ℕ) (p : 0 < w) (h : w ≤ Q) where
-    -- a place of the width's part, and how many there are
+    -- a place of the width's part
     in-part : (xs : List ℕ) (j : ℕ) → j < E → getD (partOf w E xs) j 0 ≡ getD xs ((w - 1) * E + j) 0
     in-part xs j l = getD-take E (drop ((w - 1) * E) xs) j 0 l ∙ getD-drop ((w - 1) * E) xs j 0
 
@@ -132,7 +132,7 @@ module _ {mode : Mode} (t : Table) (a : Arrays) (b : Built mode t a) where
         held-chain mode (limitsAt (t .limits) w) (widths-small w h) (shape .layered .grown) (shape .limit) (partAt t a w) (count-at t a b w p h) holding k
         (omega (arith, l, ap (λ (v : Width). v .count) (width-is t a b w p h)))
 
-    -- and none is bad
+    -- and none that is looked at is bad
     good-chains : (x : Exact) → BadFound (limitsAt (t .limits) w) (partAt t a w) x → ⊥
     good-chains =
         not-bad mode (limitsAt (t .limits) w) (widths-small w h) (shape .layered .grown) (shape .limit) (partAt t a w) (count-at t a b w p h) holding

@@ -44,7 +44,7 @@ use Rattle.walk.proofs.Nodes.{first}
 use Rattle.walk.proofs.Layers.{walk-shape}
 use Rattle.walk.proofs.Known.{present-no-clash}
 use Rattle.walk.proofs.Exactly.{no-clash}
-use Rattle.walk.proofs.NotEmpty.{no-shared, unsaturated}
+use Rattle.walk.proofs.NotEmpty.{no-shared}
 use Rattle.walk.specs.Finds.{rechecked, findFrom, findBy}
 use Rattle.walk.specs.Finds as f
 use Rattle.walk.specs.Answers.{writeOf}
@@ -95,6 +95,7 @@ zero-not-unitary : Unitary 1 (matrixOf askZero) → ⊥
 unfolding inner conj mulω addω zeroω entry
 zero-not-unitary u = clash (ap (λ (z : Zω). eqZ (z .a) (pos 1)) (u .own 0 (omega arith))) refl
 
+-- what holds in each of the two modes
 each-mode : (P : Mode → Type 0) → P byPrint → P keeping → (mode : Mode) → P mode
 each-mode P p k byPrint = p
 each-mode P p k keeping = k
@@ -236,6 +237,7 @@ module _ {mode : Mode} (l : Limits) (a : Arrays) (b : Built mode (recordOf mode 
       row-refuses (recordOf mode l) a q out 12 (omega arith)
       (only-12 ∙ first-here (listRow (recordOf mode l) out) [] (lt-ltb (length out) (l .gates) h))
 
+-- X alone, in either mode
 module _ (mode : Mode) (a : Arrays) (p : Places xLimits a) where
   a-table : Built mode (recordOf mode xLimits) (builtTo mode xLimits 1 a)
   a-table = left-by mode xLimits a (computed .x-limits) p .0
@@ -270,6 +272,7 @@ module _ (mode : Mode) (a : Arrays) (p : Places xLimits a) where
       not-refusal (answered mode 1 2 8 2 (matrixOf askZero)) r out
       (sym (told xLimits (builtTo mode xLimits 1 a) a-table a-filled askZero out (computed .zero-passes) h (omega arith) (omega arith)) ∙ n)
 
+-- (c): where a fingerprint alone makes known, by the condition; where clashing nodes are kept, without one
 complete : (a : Arrays) → Places xLimits a → (q : Query) → q .width ≡ 1 → Complete (recordOf byPrint xLimits) (builtTo byPrint xLimits 1 a) q
 unfolding recordOf
 complete a p q e =

@@ -91,8 +91,8 @@ module _ (limits : WidthLimits) (part : Part) (y : ℕ) (x : Exact) where
         let z : k + 1 ≡ suc k = omega arith in
         record {
           rest =
-            ap (findFrom limits part y x (left - 1)) z
-            ∙ sym (goes-on (limits .width) x k (findFrom limits part y x (left - 1) (suc k)) (chainAt limits part k) (sym (w .is) ∙ n)) ∙ turned e;
+              ap (findFrom limits part y x (left - 1)) z
+              ∙ sym (goes-on (limits .width) x k (findFrom limits part y x (left - 1) (suc k)) (chainAt limits part k) (sym (w .is) ∙ n)) ∙ turned e;
         }
 
 -- by the case that the answer is

@@ -8,8 +8,7 @@ use Rattle.next_node.proofs.append.Tie as tie
 
 is-known-requires : tie.Need-is-known-requires
 is-known-requires c κs =
-    let p = c .before .before .before .before .before .before .before .before .pre .0 in
-    (
+    let p = c .before .before .before .before .before .before .before .before .pre .0 in (
       (p .narrow, p .short),
       ((omega (arith, p .few, p .long .in-f), omega (arith, p .few, p .long .in-u), omega (arith, p .few, p .long .in-c)), c .before .before .before .before .before .before .before .before .pre .1),
     )

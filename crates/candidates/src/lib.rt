@@ -52,7 +52,7 @@ fn try_candidate(
             saturated: false,
         };
     }
-    let Candidate::Print(print, k) = node_matrix::candidate_print(
+    let Candidate::Print(print, after) = node_matrix::candidate_print(
         limits.width as usize,
         gate,
         exponent,
@@ -72,7 +72,7 @@ fn try_candidate(
         node,
         gate,
         print,
-        k,
+        after,
         fingerprints,
         parents,
         codes,

@@ -108,7 +108,7 @@ queryCauses q =
     ∷ cause 10 (Below (q .bytes))
     ∷ cause 11 ((0 < q .exponent) × (allDivisible (q .width) (read (q .width) (q .bytes)) ≡ true)) ∷ []
 
--- the table has the width, and the way from the node found in its part meets a fault (SPECIFICATION 7.5)
+-- the table has the width, and the way from a node of its part that is looked at meets a fault (SPECIFICATION 7.5)
 pub record BadChain (t : Table) (a : Arrays) (q : Query) : Type 0 where
   pub some : 0 < q .width
   pub has : q .width ≤ t .limits .qubits
@@ -122,7 +122,7 @@ tableCauses t a = cause 13 (BadRecord t) ∷ cause 5 (Short (t .limits) a) ∷ [
 abbrev pub lookCauses : Table → By → Arrays → List Cause
 lookCauses t by a = tableCauses t a ++ (cause 17 (NotInParts (t .limits) by (length (a .index))) ∷ [])
 
--- then 6, 9, 10, 11, 12, 13 of the chain found: the order of an answer
+-- then 6, 9, 10, 11, 12, 13 of a chain: the order of an answer
 abbrev pub answerCauses : Table → Arrays → Query → List ℕ → List Cause
 answerCauses t a q out = lookCauses t (a .by) a ++ (queryCauses q ++ (cause 12 (length out < t .limits .gates) ∷ cause 13 (BadChain t a q) ∷ []))
 

@@ -12,7 +12,7 @@ use Rattle.exact.proofs.Words.{Equal}
 use Rattle.exact.specs.Lists.{product}
 use Rattle.exact.specs.Unitary.{Unitary}
 use Rattle.exact.specs.Fingerprint.{fingerprint}
-use Rattle.walk.specs.Modes.{Mode, byPrint, keeping}
+use Rattle.walk.specs.Modes.{byPrint, keeping}
 use Rattle.walk.specs.AtWidth.{NoSharedPrint}
 use Rattle.walk.specs.Known.{SkippedRightly}
 use Rattle.walk.specs.Index.{scan, indexed}

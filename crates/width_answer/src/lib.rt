@@ -80,10 +80,10 @@ fn find_node(
         node,
         list,
     ) else {
-        return Find::BadChain;
+        return Find::BadChain; // 13
     };
     if !recheck(&list[0..size], limits.width as usize, exponent, query) {
-        return Find::Nothing;
+        return Find::Nothing; // its list does not pass
     }
     Find::Node(node, size)
 }
@@ -125,7 +125,7 @@ pub fn find_print(
             }
             Find::Nothing => {}
             Find::BadChain => {
-                return Find::BadChain;
+                return Find::BadChain; // nothing past it is looked at
             }
         }
         from = node + 1;

@@ -474,7 +474,7 @@ fn find_passed(
     ))
 }
 
-// The node that answers a matrix is found (SPECIFICATION 7.10): 13 of the record, then 5, 17, 6, 9, 10, 11, then 13 of the chain found.
+// The node that answers a matrix is found (SPECIFICATION 7.10): 13 of the record, then 5, 17, 6, 9, 10, 11, then 13 of a chain that is met.
 pub fn find_by(
     by: LookupBy,
     table: Murm,

@@ -177,7 +177,7 @@ module _ (limits : WidthLimits) (part : Part) (x : Exact) where
     pub is-refused : (a i : ℕ) (after : List ℕ)
         → (answerOf limits part x out ≡ outcome (refused a i) after) ↔ (BadFound × (a ≡ 13) × (i ≡ 0) × (after ≡ out))
 
--- the find, by the document's words
+-- which node a find comes to (SPECIFICATION 7.4 to 7.6, 7.15)
 pub record FindRule : Type 0 where
   -- whatever part is lent
   pub means : (limits : WidthLimits) (part : Part) (x : Exact) → FindMeans limits part x

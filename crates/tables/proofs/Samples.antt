@@ -65,6 +65,8 @@ use Rattle.tables.proofs.Replies.{rowOfAnswer, row-refuses}
 use Rattle.tables.proofs.OfBuilt.{has-width, not-refusal, rows-are, told-walk}
 use Rattle.tables.proofs.Demand3.{demand}
 use Rattle.tables.proofs.FindWrite.{find-write}
+use Rattle.tables.specs.AnswerRule.{firstFoundIn, firstSynthesized}
+use Rattle.walk.specs.Answers as ans
 use Rattle.tables.specs.FindWrite.{Finds, FindsNone, FindRefuses, Writes, WriteRefuses}
 
 -- ---- computed
@@ -147,13 +149,14 @@ record Computed : Type 0 where
   clashing-find : Finds (recordOf byPrint xLimits) clashing askX 1 1
   clashing-fill : fillOf (recordOf byPrint xLimits) (through clashing (0 ∷ 0 ∷ 0 ∷ 0 ∷ [])) ≡ fillLeft filled (mark ∷ 0 ∷ 1 ∷ mark ∷ [])
   clashing-filled : Gives (recordOf byPrint xLimits) (through clashing (mark ∷ 0 ∷ 1 ∷ mark ∷ [])) askX lent (4096 ∷ [])
+  clashing-first : (firstFoundIn (recordOf byPrint xLimits) clashing askX ≡ f.none) × (firstSynthesized (recordOf byPrint xLimits) clashing askX lent ≡ ans.outcome ans.none lent)
   bad-before : Refuses three (alike 1 0) askX lent 13 × FindRefuses three (alike 1 0) askX 13
   bad-behind : Gives three (alike 0 2) askX lent (4096 ∷ []) × Finds three (alike 0 2) askX 1 1
   -- X is of the basis
   x-of : ListOf 1 2 (4096 ∷ [])
 
 computed : Computed
-unfolding ofTables buildOf fillOf filledIndex partsTo index.filled inserted freeOf synthesized foundIn writtenIn recordOf firstRow inParts subset anyBelow findBy findFrom writeOf lowestFrom probed probeOf chainOf marked rechecked steps answerBy recheck upToPhase eqω product walk depths deeper layer tryAll try skipped samePrint fingerprint mix fold Words.product rotated word pivot phaseOf leastUpTo less turn zeroω oneω isZero gateOf column flip lower stepFits fits valid validFor placed rises all elem distinct range each kept generators kindAt arity sorted isKind number dual inverse qubits disjoint bit entry
+unfolding firstFoundIn firstSynthesized ofTables buildOf fillOf filledIndex partsTo index.filled inserted freeOf synthesized foundIn writtenIn recordOf firstRow inParts subset anyBelow findBy findFrom writeOf lowestFrom probed probeOf chainOf marked rechecked steps answerBy recheck upToPhase eqω product walk depths deeper layer tryAll try skipped samePrint fingerprint mix fold Words.product rotated word pivot phaseOf leastUpTo less turn zeroω oneω isZero gateOf column flip lower stepFits fits valid validFor placed rises all elem distinct range each kept generators kindAt arity sorted isKind number dual inverse qubits disjoint bit entry
 computed = record {
   ch-limits = λ a. refl;
   x-limits = refl;
@@ -195,6 +198,7 @@ computed = record {
   clashing-find = refl;
   clashing-fill = refl;
   clashing-filled = refl;
+  clashing-first = (refl, refl);
   bad-before = (refl, refl);
   bad-behind = (refl, refl);
   x-of = refl;
@@ -446,6 +450,7 @@ samples = record {
   clashing-find = computed .clashing-find;
   clashing-fill = computed .clashing-fill;
   clashing-filled = computed .clashing-filled;
+  clashing-first = computed .clashing-first;
   bad-before = computed .bad-before;
   bad-behind = computed .bad-behind;
 }

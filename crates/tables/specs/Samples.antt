@@ -21,6 +21,9 @@ use Rattle.tables.specs.Tables.{Table, widthAt, rowOf, walkOf, recordOf,
 use Rattle.tables.specs.Built.{Built, FilledFrom}
 use Rattle.tables.specs.Demand3.{Gives, GivesNone, Refuses, NotRefused, NoSmaller, Reaches, Complete}
 use Rattle.tables.specs.EitherLookup.{through}
+use Rattle.tables.specs.AnswerRule.{firstFoundIn, firstSynthesized}
+use Rattle.walk.specs.Finds as f
+use Rattle.walk.specs.Answers.{none, outcome}
 use Rattle.tables.specs.FindWrite.{Finds, FindsNone, FindRefuses, Writes, WriteRefuses}
 
 -- ---- limits and arrays
@@ -232,6 +235,8 @@ pub record Samples : Type 0 where
   pub clashing-find : Finds (recordOf byPrint xLimits) clashing askX 1 1
   pub clashing-fill : fillOf (recordOf byPrint xLimits) (through clashing (0 ∷ 0 ∷ 0 ∷ 0 ∷ [])) ≡ fillLeft filled (mark ∷ 0 ∷ 1 ∷ mark ∷ [])
   pub clashing-filled : Gives (recordOf byPrint xLimits) (through clashing (mark ∷ 0 ∷ 1 ∷ mark ∷ [])) askX lent (4096 ∷ [])
+  -- the rule of the first node alone misses it
+  pub clashing-first : (firstFoundIn (recordOf byPrint xLimits) clashing askX ≡ f.none) × (firstSynthesized (recordOf byPrint xLimits) clashing askX lent ≡ outcome none lent)
   -- a bad chain before the match is refused by 13; one behind it is not walked
   pub bad-before : Refuses three (alike 1 0) askX lent 13 × FindRefuses three (alike 1 0) askX 13
   pub bad-behind : Gives three (alike 0 2) askX lent (4096 ∷ []) × Finds three (alike 0 2) askX 1 1

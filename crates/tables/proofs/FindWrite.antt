@@ -261,14 +261,12 @@ module _ {mode : Mode} (t t′ : Table) (a a′ : Arrays) (b : Built mode t a) (
 
 -- ---- the nodes of a built table
 
-node-written : {mode : Mode} (t : Table) (a : Arrays) → Built mode t a → (w k : ℕ) → k < countAt t w → (out : List ℕ) → t .limits .gates ≤ length out → (l : List ℕ) × Writes t a w k out l
+node-written : {mode : Mode} (t : Table) (a : Arrays) → Built mode t a → (w k : ℕ) → k < countAt t w → (out : List ℕ) → t .limits .gates ≤ length out → Writes t a w k out (reverse (listAt (walkOf mode (t .limits) w .nodes) k))
 node-written {mode} t a b w k h out room =
     let (p, c, z) = counted t w h in
-    let e = chain-at t a b w p c k (omega (arith, h, z)) in (
-      reverse (listAt (walkOf mode (t .limits) w .nodes) k),
-      write-passed t a w k out (rows-passed t a w k out (good-record t a b) (b .room) h (le-ltb (length out) (t .limits .gates) room))
-          ∙ written-good (limitsAt (t .limits) w) (partAt t a w) k out e,
-    )
+    let e = chain-at t a b w p c k (omega (arith, h, z)) in
+    write-passed t a w k out (rows-passed t a w k out (good-record t a b) (b .room) h (le-ltb (length out) (t .limits .gates) room))
+    ∙ written-good (limitsAt (t .limits) w) (partAt t a w) k out e
 
 pub find-write : FindWrite
 find-write = record {

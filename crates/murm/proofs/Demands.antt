@@ -3,6 +3,7 @@ use Rattle.walk.proofs.Meaning.{find-rule}
 use Rattle.tables.proofs.Demand2.{demand-2}
 use Rattle.tables.proofs.Demand3.{demand, beside}
 use Rattle.tables.proofs.FindWrite.{find-write}
+use Rattle.tables.proofs.AnswerRule.{answer-rule}
 use Rattle.tables.proofs.EitherLookup.{either-lookup}
 use Rattle.tables.proofs.Exactly.{exactly}
 use Rattle.murm.specs.Demands.{Demands}
@@ -16,4 +17,5 @@ demands = record {
   either = either-lookup;
   beside = beside;
   rule = find-rule;
+  answers = answer-rule;
 }

@@ -1,6 +1,7 @@
 // The public entries: none asks anything of its caller, and each decides every input (SPECIFICATION 8.1). murm.rs of the original:
 // `library_circuit_matrix`, `Murm::build`, `Murm::synthesize`; matrix.rs: `unitary_fingerprint`. `find` and `write` are the parts of `synthesize`.
-// The entries that end in `_by` take how nodes are looked up, and an index for it; those without are by the scan.
+// The entries that end in `_by` take how nodes are looked up, and an index for it; those without are by the scan. `build_by` takes a mode too; `build`
+// is by the fingerprint.
 ghost use mathlib.Core.Path.{_≡_};
 ghost use mathlib.Core.Bool.{false, _&&_};
 ghost use Prim.Native.Nat.{_+_, _*_, _^_, _≤_, _<_};

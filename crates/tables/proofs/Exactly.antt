@@ -98,7 +98,7 @@ module _ (t : Table) (a : Arrays) where
 -- ---- an answer
 
 module _ (t : Table) (a : Arrays) (q : Query) (out : List ℕ) where
-  -- the last row: the chain found
+  -- the last row: a chain that is met
   abbrev chain : Cause
   chain = cause 13 (BadChain t a q)
 

@@ -32,7 +32,7 @@ module _ (t : Table) (a : Arrays) (q : Query) (out : List ℕ) where
   abbrev NoPart : Type 0
   NoPart = NoList (limitsAt (t .limits) (q .width)) (partAt t a (q .width)) (matrixOf q)
 
-  -- a refusal comes from the first row that holds, or is 13 for the chain found
+  -- a refusal comes from the first row that holds, or is 13 for a chain that is met
   data Refusal (r : ℕ) : Type 0 where
     row-holds : 0 < r → rowOfAnswer t a q out ≡ r → Refusal r
     chain-bad : r ≡ 13 → rowOfAnswer t a q out ≡ 0 → notAWidth t (q .width) ≡ false → BadPart → Refusal r

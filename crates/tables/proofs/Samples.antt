@@ -445,6 +445,7 @@ samples = record {
   keeping-complete = keeping-complete;
   keeping-unsaturated = computed .unsaturated keeping;
   keeping-x = λ a p out h. gives-x keeping a p out h;
+  keeping-none-t = λ a p out h. none-t keeping a p out h;
   keeping-no-t = λ a p. no-t keeping a p (keeping-complete a p askT);
   clashing-x = computed .clashing-x;
   clashing-find = computed .clashing-find;

@@ -229,6 +229,7 @@ pub record Samples : Type 0 where
   pub keeping-complete : (a : Arrays) → Places xLimits a → (q : Query) → Complete (recordOf keeping xLimits) (builtTo keeping xLimits 1 a) q
   pub keeping-unsaturated : walkOf keeping xLimits 1 .saturated ≡ false
   pub keeping-x : (a : Arrays) → Places xLimits a → (out : List ℕ) → 8 ≤ length out → Gives (recordOf keeping xLimits) (builtTo keeping xLimits 1 a) askX out (4096 ∷ [])
+  pub keeping-none-t : (a : Arrays) → Places xLimits a → (out : List ℕ) → 8 ≤ length out → GivesNone (recordOf keeping xLimits) (builtTo keeping xLimits 1 a) askT out
   pub keeping-no-t : (a : Arrays) → Places xLimits a → (m : List ℕ) → Reaches (recordOf keeping xLimits) askT m → length m ≤ 8 → ⊥
   -- the first node with the fingerprint is passed and the second answers, by either look-up
   pub clashing-x : Gives (recordOf byPrint xLimits) clashing askX lent (4096 ∷ [])

@@ -28,15 +28,16 @@ use Rattle.walk.specs.Modes.{byPrint, keeping, inMode}
 use Rattle.walk.specs.AtWidth.{samePrint, built}
 use Rattle.walk.proofs.Laws.{actBy}
 
-abbrev eqb01 : ℕ → ℕ
-eqb01 x = pick (eqb x 0) 1 0
+-- 0 and 1 exchanged
+abbrev other : ℕ → ℕ
+other x = pick (eqb x 0) 1 0
 
 -- one generator, which undoes itself, and one fingerprint for both products
 abbrev pub alike : Rules
 alike = record {
   Mat = ℕ;
   one = 0;
-  act = λ g x. eqb01 x;
+  act = λ g x. other x;
   fits = λ g x. true;
   known = λ x y. true;
   answers = λ x y. true;

@@ -84,7 +84,8 @@ findFrom limits part y x (suc m) from = byLookup limits part x (λ next. findFro
 unfoldable pub findBy : WidthLimits → Part → ℕ → Exact → Finding
 findBy limits part y x = findFrom limits part y x (part .count) 0
 
--- by its own fingerprint: the lowest node that has it and whose list passes the recheck (SPECIFICATION 7.4 to 7.6, 7.15)
+-- by its own fingerprint. Where the look-up finds the scan's node this is the lowest node that has it and whose list passes the recheck, but for a bad
+-- chain before it (SPECIFICATION 7.4 to 7.6, 7.15; Meaning has the words)
 abbrev pub findOf : WidthLimits → Part → Exact → Finding
 findOf limits part x = findBy limits part (fingerprint (limits .width) x) x
 

@@ -1,5 +1,5 @@
 -- Hypothesis K, from which completeness follows too: what the walk skipped as known is present up to a power of omega. It follows from there
--- being no clash, and speaks of the nodes at hand alone (SPECIFICATION 8.14). Lists are newest gate first. Assumes nothing.
+-- being no clash, holds by itself where clashing nodes are kept, and speaks of the nodes at hand alone (SPECIFICATION 8.14, 8.17). Lists are newest gate first. Assumes nothing.
 use mathlib.Core.Path.{_≡_}
 use mathlib.Core.Bool.{true, false}
 use mathlib.Core.List.{List, List·Memᴰ}

@@ -135,7 +135,7 @@ module _ (limits : WidthLimits) (part : Part) (x : Exact) where
 
   -- ---- where the look-up finds the scan's node: nodes with the fingerprint, rising (SPECIFICATION 7.4)
 
-  -- as the scan does, and an index that was filled from the fingerprints
+  -- as the scan does, and an index with a place for each node that was filled from the fingerprints
   abbrev pub AsScan : Type 0
   AsScan = (from y : ℕ) → lookedIn part from y ≡ lowestFrom (part .fingerprints) (part .count) from y
 

@@ -1,7 +1,7 @@
 -- The walk of one width: node 0 is the empty list, and depth by depth each node of the last layer tries each generator (SPECIFICATION 6.4).
 -- Steps on states: one candidate, one node, one depth, a width. What the walk is handed is a parameter: its laws hold for other tests too.
 -- Why layers: each list of d gates is dealt with before any list of d + 1; so the first list found for a product is a shortest one, if no
--- fingerprints clash. Why the two skip rules lose no product (SPECIFICATION 6.13): a list that ends in a gate and its inverse has the product of
+-- fingerprints clash or clashing nodes are kept. Why the two skip rules lose no product (SPECIFICATION 6.13): a list that ends in a gate and its inverse has the product of
 -- a list two gates shorter, with which an earlier depth has dealt; and last gates that share no qubit can be exchanged without changing the
 -- product. Of the two orders the one with rising codes is kept: it ends in the greater code, and codes are bounded, so that exchanging comes to
 -- an end. proofs/Completeness shows it. Assumes nothing.

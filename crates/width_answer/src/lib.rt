@@ -1,5 +1,5 @@
 // The node that answers a matrix in one width's part of a lent table, whatever its three arrays hold (SPECIFICATION 7.4 to 7.6). murm.rs of the
-// original, `Murm::synthesize`, below the public entries: no row up to 11 has refused.
+// original, `Murm::synthesize`, below the public entries. A build that keeps clashing nodes asks it too (crate `known`).
 ghost use mathlib.Core.Path.{_≡_};
 ghost use mathlib.Core.Bool.{true};
 ghost use mathlib.Core.List.{_++_};
@@ -88,8 +88,8 @@ fn find_node(
     Find::Node(node, size)
 }
 
-// The lowest node of a width's part with a fingerprint whose list passes the recheck against a matrix (SPECIFICATION 7.4, 7.15). Nodes with the
-// fingerprint are looked at rising: one whose list does not pass is passed over, and a bad chain ends the search. Each lies past the one before, so no
+// The node of a width's part with a fingerprint whose list passes the recheck against a matrix: by the scan the lowest (SPECIFICATION 7.4, 7.15). Nodes
+// with the fingerprint are looked at rising: one whose list does not pass is passed over, and a bad chain ends the search. Each lies past the one before, so no
 // more are looked at than there are. The list of the node found is left in the first places of `list`; what `list` holds where none is found is not told.
 pub fn find_print(
     by: LookupBy,

@@ -8,7 +8,7 @@ use std::io::{self, Write};
 use super::bench::race;
 use super::indexes::sizes;
 use super::lists::Parts;
-use super::port::{By, Lookup, Reply, Table};
+use super::port::{By, Lookup, Mode, Reply, Table};
 use super::random::Random;
 use super::tables::{Limits, nodes_of};
 use crate::circuit::GateSet;
@@ -111,7 +111,7 @@ pub(super) fn built(limits: Limits, by: By) -> (Table, Vec<u32>) {
         By::Index => qubits * sizes(limits.entries)[0],
     };
     let mut index = vec![0; places];
-    let refusal = table.build_by(by, &mut index);
+    let refusal = table.build_by(Mode::ByPrint, by, &mut index);
     assert_eq!(refusal, 0, "the limits are not refused");
     (table, index)
 }
@@ -143,7 +143,7 @@ pub(super) fn time_build(limits: Limits, by: By) -> (usize, (f64, f64)) {
             black_box(black_box(limits).build());
         },
         || {
-            black_box(table.build_by(by, &mut index));
+            black_box(table.build_by(Mode::ByPrint, by, &mut index));
         },
     );
     (count, times)

@@ -7,6 +7,7 @@
 use std::io::{self, Write};
 
 use super::altered::{Place, places, values};
+use super::clashes;
 use super::indexes;
 use super::orders;
 use super::port::{Finding, Reply, Table};
@@ -14,6 +15,7 @@ use super::random::Random;
 use super::rules::{Asked, Matrix, times_root, turned, written};
 use super::tables::Limits;
 use super::tally::Tally;
+use super::weakened;
 
 /// Q, G, E and B of the tables that are altered.
 pub(super) const TABLES: [[u32; 4]; 14] = [
@@ -42,8 +44,18 @@ pub(super) const MOST: usize = 64;
 /// The code of T on qubit 0.
 pub(super) const T: u32 = 20480;
 
-pub(super) fn run(_: &[String], out: &mut dyn Write) -> io::Result<()> {
+pub(super) fn run(arguments: &[String], out: &mut dyn Write) -> io::Result<()> {
     let mut tally = Tally::new();
+    let words: Vec<&str> = arguments.iter().map(String::as_str).collect();
+    match words[..] {
+        [] => (),
+        ["clashes"] => {
+            clashes::run(&mut tally);
+            weakened::run(&mut tally, out)?;
+            return tally.report_part(out);
+        }
+        _ => return Err(io::Error::other("usage: oracle damage [clashes]")),
+    }
     refused_builds(&mut tally);
     for limits in TABLES {
         damage(limits_of(limits), &mut tally);
@@ -52,6 +64,8 @@ pub(super) fn run(_: &[String], out: &mut dyn Write) -> io::Result<()> {
     planted(&mut tally);
     long_chain(&mut tally);
     indexes::run(&mut tally);
+    clashes::run(&mut tally);
+    weakened::run(&mut tally, out)?;
     tally.report(out)
 }
 

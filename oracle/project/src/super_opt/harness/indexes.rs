@@ -11,7 +11,7 @@ use super::tables::Limits;
 use super::tally::Tally;
 
 /// Tables of the widths above 3, beside those that are altered.
-const WIDE: [[u32; 4]; 4] = [
+pub(super) const WIDE: [[u32; 4]; 4] = [
     [4, 2, 14, 3967],
     [4, 8, 16, 2],
     [5, 1, 9, 3967],

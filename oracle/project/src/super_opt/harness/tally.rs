@@ -36,7 +36,7 @@ const CHAIN: &str = "13 of a chain";
 /// What must come among them: two causes together, lists that only one of find
 /// and write is about, what an index may lead to, and what several nodes with one
 /// fingerprint come to.
-const AMONG: [&str; 30] = [
+const AMONG: [&str; 31] = [
     SHORT_FIRST,
     PASSED_OVER,
     NO_NODE_SHORT,
@@ -45,7 +45,8 @@ const AMONG: [&str; 30] = [
     JUST_ENOUGH,
     UNBUILT_COUNT,
     MISSED,
-    FOUND_MORE,
+    MISSED_BAD,
+    ONLY_BAD,
     OTHER_NODE,
     ABOVE_COUNT,
     ROUND,
@@ -79,7 +80,9 @@ const UNBUILT_COUNT: &str =
     "writes refused by 16 at a width above Q whose count in the record is larger";
 
 const MISSED: &str = "finds of none through an index where the scan finds a node";
-const FOUND_MORE: &str = "finds of a node through an index where the scan finds none";
+const MISSED_BAD: &str = "finds of a node through an index where the scan is refused by 13";
+const ONLY_BAD: &str =
+    "finds refused by 13 of a chain through an index where the scan finds a node";
 const OTHER_NODE: &str = "finds through an index of another node than by the scan";
 const ABOVE_COUNT: &str =
     "nodes that a probe leads to past a number at or above the count that is not empty";
@@ -202,6 +205,14 @@ fn build_kind(number: u64) -> &'static str {
     }
 }
 
+/// Altered tables, altered indexes, questions, and what came among them.
+struct Sums {
+    tables: usize,
+    indexes: usize,
+    questions: usize,
+    among: Vec<usize>,
+}
+
 pub(super) struct Tally {
     pub(super) tables: usize,
     pub(super) indexes: usize,
@@ -217,6 +228,8 @@ pub(super) struct Tally {
     keeping_index_builds: Counts,
     among: Counts,
     differences: usize,
+    /// What the part with clashes came to.
+    part: Option<Sums>,
     /// Questions by number, and lists that give them. It is emptied with each
     /// new choice of questions.
     exact: HashSet<(usize, Vec<u32>)>,
@@ -239,8 +252,36 @@ impl Tally {
             keeping_index_builds: Counts::new(&INDEX_BUILDS),
             among: Counts::new(&AMONG),
             differences: 0,
+            part: None,
             exact: HashSet::new(),
         }
+    }
+
+    fn sums(&self) -> Sums {
+        Sums {
+            tables: self.tables,
+            indexes: self.indexes,
+            questions: self.answers.total() + self.index_answers.total(),
+            among: self.among.counts.clone(),
+        }
+    }
+
+    /// The part with clashes begins.
+    pub(super) fn begin_part(&mut self) {
+        self.part = Some(self.sums());
+    }
+
+    /// It ends.
+    pub(super) fn end_part(&mut self) {
+        let now = self.sums();
+        let before = self.part.take().expect("a part that began");
+        let among = now.among.iter().zip(&before.among);
+        self.part = Some(Sums {
+            tables: now.tables - before.tables,
+            indexes: now.indexes - before.indexes,
+            questions: now.questions - before.questions,
+            among: among.map(|(now, before)| now - before).collect(),
+        });
     }
 
     /// Other questions follow, numbered anew.
@@ -426,7 +467,12 @@ impl Tally {
         }
         match (expected, find(table, SCAN, asked)) {
             (Finding::None, Finding::Node(..)) => _ = self.among.add(MISSED),
-            (Finding::Node(..), Finding::None) => _ = self.among.add(FOUND_MORE),
+            (Finding::Node(..), Finding::Refused(13)) => _ = self.among.add(MISSED_BAD),
+            (Finding::Refused(13), Finding::Node(..)) => _ = self.among.add(ONLY_BAD),
+            // Every node with the fingerprint was passed.
+            (Finding::Node(..), Finding::None) => {
+                self.differs("a find of a node where the scan finds none".to_owned());
+            }
             (Finding::Node(node, _), Finding::Node(lowest, _)) if *node != lowest => {
                 self.among.add(OTHER_NODE);
             }
@@ -612,6 +658,44 @@ impl Tally {
         exact
     }
 
+    /// What the part with clashes came to.
+    fn write_part(&self, out: &mut dyn Write) -> io::Result<()> {
+        let Some(part) = &self.part else {
+            return Ok(());
+        };
+        let Sums {
+            tables,
+            indexes,
+            questions,
+            among,
+        } = part;
+        writeln!(
+            out,
+            "with clashes: {tables} altered tables, {indexes} indexes, {questions} questions"
+        )?;
+        for (name, count) in self.among.names.iter().zip(among) {
+            if *count > 0 {
+                writeln!(out, "  {count} {name}")?;
+            }
+        }
+        out.flush()
+    }
+
+    /// That part alone; an error where there are differences.
+    pub(super) fn report_part(&self, out: &mut dyn Write) -> io::Result<()> {
+        self.write_part(out)?;
+        writeln!(out, "{} differences", self.differences)?;
+        out.flush()?;
+        self.end()
+    }
+
+    fn end(&self) -> io::Result<()> {
+        match self.differences {
+            0 => Ok(()),
+            _ => Err(io::Error::other("the port says something else")),
+        }
+    }
+
     /// All counts; an error where there are differences, or where a kind of
     /// outcome never came.
     pub(super) fn report(&self, out: &mut dyn Write) -> io::Result<()> {
@@ -647,6 +731,7 @@ impl Tally {
         for (name, count) in self.among.names.iter().zip(&self.among.counts) {
             writeln!(out, "{count} {name}")?;
         }
+        self.write_part(out)?;
         out.flush()?;
         let among = ("among them", &self.among);
         let missing: Vec<String> = all
@@ -660,10 +745,7 @@ impl Tally {
                 missing.join("; ")
             )));
         }
-        match self.differences {
-            0 => Ok(()),
-            _ => Err(io::Error::other("the port says something else")),
-        }
+        self.end()
     }
 }
 

@@ -8,6 +8,8 @@ mod bench;
 #[cfg(feature = "port")]
 mod bench_index;
 #[cfg(feature = "port")]
+mod bench_modes;
+#[cfg(feature = "port")]
 mod bench_tables;
 mod circuits;
 #[cfg(feature = "port")]

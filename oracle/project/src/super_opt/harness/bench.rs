@@ -169,18 +169,21 @@ fn check<G>(width: usize, case: &Case<G>) {
 
 /// The least times of one pass over the work, by the original and by the port.
 pub(super) fn race(mut original: impl FnMut(), mut port: impl FnMut()) -> (f64, f64) {
-    let times = turns(&mut [&mut original, &mut port]);
+    let start = Instant::now();
+    let clock = || start.elapsed().as_secs_f64();
+    let times = turns(&mut [&mut original, &mut port], clock);
     (times[0], times[1])
 }
 
-/// The least times of one pass over each work, one after the other in each round.
-pub(super) fn turns(works: &mut [&mut dyn FnMut()]) -> Vec<f64> {
+/// The least times of one pass over each work, one after the other in each round, by a
+/// clock that tells seconds.
+pub(super) fn turns(works: &mut [&mut dyn FnMut()], clock: impl Fn() -> f64) -> Vec<f64> {
     let pass = |work: &mut dyn FnMut(), times: usize| {
-        let start = Instant::now();
+        let start = clock();
         for _ in 0..times {
             work();
         }
-        start.elapsed().as_secs_f64() / times as f64
+        (clock() - start) / times as f64
     };
     let once: Vec<f64> = works.iter_mut().map(|work| pass(work, 1)).collect();
     let times = |once: &f64| (ROUND.as_secs_f64() / once.max(1e-7)) as usize + 1;

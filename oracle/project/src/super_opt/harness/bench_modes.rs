@@ -1,6 +1,7 @@
 //! Part of the mode `bench`: builds of the port through an index in each mode, by
 //! fingerprint and keeping clashes, in turns. Parts have the least size that is
-//! allowed.
+//! allowed. Some builds take a second, which others interrupt: the time is that in which
+//! the processor worked for this thread.
 
 use std::hint::black_box;
 use std::io::{self, Write};
@@ -11,6 +12,31 @@ use super::indexes::same;
 use super::port::{By, Mode, Table};
 use super::tables::Limits;
 
+/// The seconds and nanoseconds of a clock, on Linux.
+#[repr(C)]
+struct Time {
+    seconds: i64,
+    nanoseconds: i64,
+}
+
+/// The clock of a thread's processor time.
+const THREAD: i32 = 3;
+
+unsafe extern "C" {
+    fn clock_gettime(clock: i32, time: *mut Time) -> i32;
+}
+
+/// How long the processor worked for this thread, in seconds.
+fn worked() -> f64 {
+    let mut time = Time {
+        seconds: 0,
+        nanoseconds: 0,
+    };
+    let told = unsafe { clock_gettime(THREAD, &mut time) };
+    assert_eq!(told, 0, "the clock of a thread");
+    time.seconds as f64 + time.nanoseconds as f64 * 1e-9
+}
+
 /// E of tables that are full.
 const ENTRIES: [u32; 2] = [12_000, 100_000];
 
@@ -18,7 +44,10 @@ const ENTRIES: [u32; 2] = [12_000, 100_000];
 /// and the ratio of the two; then the same of the last width alone, whose time is that of
 /// Q without that of Q - 1.
 pub(super) fn run(out: &mut dyn Write) -> io::Result<()> {
-    writeln!(out, "nanoseconds for each entry, through an index")?;
+    writeln!(
+        out,
+        "nanoseconds of the processor for each entry, through an index"
+    )?;
     writeln!(
         out,
         "Q limits entries by-print keeping ratio, of width Q: entries by-print keeping ratio"
@@ -77,7 +106,7 @@ fn time(out: &mut dyn Write, name: &str, limits: Limits) -> io::Result<()> {
         .iter_mut()
         .map(|work| work as &mut dyn FnMut())
         .collect();
-    let times = turns(&mut works);
+    let times = turns(&mut works, worked);
     let of_width = match entries.len() {
         4 => (
             entries[0] - entries[2],

@@ -118,7 +118,7 @@ fn lines(out: &mut dyn Write) -> io::Result<()> {
         let text = str::from_utf8(&line).unwrap_or_default();
         let (word, rest) = text.split_once(' ').unwrap_or_default();
         match (word, &both) {
-            ("table", _) => {
+            ("table" | "clashes", _) => {
                 let limits = Limits::of_numbers(rest);
                 both = limits.and_then(|limits| table(limits, &mut random, &mut counts));
             }

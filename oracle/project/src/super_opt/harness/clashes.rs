@@ -92,11 +92,29 @@ struct Asker<'a> {
 }
 
 impl Asker<'_> {
+    /// Asks with a lent list that is mostly long enough for any answer; what is found.
+    fn ask(&mut self, table: &Table, number: usize, asked: &Asked) -> Finding {
+        let gates = table.limits.gates as usize;
+        let room = match self.turn % 10 {
+            4 => gates,
+            7 => gates.saturating_sub(1),
+            _ => MOST,
+        };
+        self.ask_in(table, number, asked, room).1
+    }
+
     /// Asks by the scan, through an index that is filled from the table, which must
-    /// be the same, and through some altered ones. The number is the question's.
-    fn ask(&mut self, table: &Table, number: usize, asked: &Asked) -> (Reply, Finding) {
+    /// be the same, and through some altered ones, with a lent list of so many places.
+    /// The number is the question's.
+    fn ask_in(
+        &mut self,
+        table: &Table,
+        number: usize,
+        asked: &Asked,
+        room: usize,
+    ) -> (Reply, Finding) {
         self.tally.tables += 1;
-        let told = self.tally.ask(table, number, asked, MOST);
+        let told = self.tally.ask(table, number, asked, room);
         let size = self.random.one_of(&sizes(table.limits.entries)[..2]);
         let mut index = used(table.limits.qubits as usize * size, self.random);
         if !self.tally.fill(table, &mut index) {
@@ -104,7 +122,7 @@ impl Asker<'_> {
         }
         self.tally.indexes += 1;
         let lookup = through(&index);
-        let through_it = self.tally.ask_by(table, lookup, number, asked, MOST);
+        let through_it = self.tally.ask_by(table, lookup, number, asked, room);
         if through_it != told {
             let line = table.limits.line();
             self.tally.differs(format!(
@@ -115,7 +133,7 @@ impl Asker<'_> {
             let altered = self.altered(table, &index, asked);
             self.tally.indexes += 1;
             let lookup = through(&altered);
-            self.tally.ask_by(table, lookup, number, asked, MOST);
+            self.tally.ask_by(table, lookup, number, asked, room);
         }
         told
     }
@@ -240,7 +258,7 @@ fn worked(asker: &mut Asker) {
 fn expect_list(asker: &mut Asker, table: &Table, matrix: &Matrix, expected: Reply) {
     asker.tally.new_questions();
     for power in 0..8 {
-        let (reply, _) = asker.ask(table, power, &asked(matrix, power));
+        let (reply, _) = asker.ask_in(table, power, &asked(matrix, power), MOST);
         if reply != expected {
             asker.tally.differs(format!(
                 "the worked table: {reply:?}, expected {expected:?}"
@@ -361,15 +379,15 @@ impl<'a> Part<'a> {
             let question = &self.questions[node];
             for other in (0..self.count()).filter(|&other| other != node) {
                 let table = self.copied(node, [other]);
-                let (_, found) = asker.ask(&table, node, question);
+                let found = asker.ask(&table, node, question);
                 asker.expect(&table, "a copied fingerprint", &found, &self.node(node));
                 // What is asked for the other one has no node now.
-                let (_, found) = asker.ask(&table, other, &self.questions[other]);
+                let found = asker.ask(&table, other, &self.questions[other]);
                 asker.expect(&table, "a lost fingerprint", &found, &Finding::None);
                 for spoil in SPOILS {
                     let mut table = self.copied(node, [other]);
                     self.spoil(&mut table, other, spoil, node, asker.random);
-                    let (_, found) = asker.ask(&table, node, question);
+                    let found = asker.ask(&table, node, question);
                     let first = other < node && other > 0;
                     let expected = match spoil {
                         Spoil::Marks => Finding::Refused(13),
@@ -397,7 +415,7 @@ impl<'a> Part<'a> {
             }
             for group in groups.iter().filter(|group| !group.is_empty()) {
                 let table = self.copied(node, group.iter().copied());
-                let (_, found) = asker.ask(&table, node, &self.questions[node]);
+                let found = asker.ask(&table, node, &self.questions[node]);
                 asker.expect(&table, "a group", &found, &self.node(node));
                 for spoilt in 1..4 {
                     let mut table = table.clone();
@@ -421,7 +439,7 @@ impl<'a> Part<'a> {
         let limits = self.table.limits;
         for node in 0..self.count() {
             let table = self.copied(node, 0..self.count());
-            let (_, found) = asker.ask(&table, node, &self.questions[node]);
+            let found = asker.ask(&table, node, &self.questions[node]);
             asker.expect(&table, "one fingerprint", &found, &self.node(node));
             for size in sizes(limits.entries) {
                 let mut index = used(limits.qubits as usize * size, asker.random);
@@ -460,13 +478,13 @@ impl<'a> Part<'a> {
             let mut table = self.table.clone();
             table.fingerprints[self.start..][..self.count()].fill(print);
             let question = asked(&matrix, number);
-            let (_, found) = asker.ask(&table, self.count() + number, &question);
+            let found = asker.ask(&table, self.count() + number, &question);
             asker.expect(&table, "a stranger's fingerprint", &found, &Finding::None);
             // With one bad chain it is refused, whichever that is.
             for node in 1..self.count() {
                 let mut table = table.clone();
                 self.spoil(&mut table, node, Spoil::Parent, 0, asker.random);
-                let (_, found) = asker.ask(&table, self.count() + number, &question);
+                let found = asker.ask(&table, self.count() + number, &question);
                 let bad = Finding::Refused(13);
                 asker.expect(&table, "a stranger's, bad", &found, &bad);
             }
@@ -480,7 +498,7 @@ impl<'a> Part<'a> {
             for node in 0..self.count() {
                 let same = |other: &usize| self.prints[*other] % weak == self.prints[node] % weak;
                 let table = self.copied(node, (0..self.count()).filter(same));
-                let (_, found) = asker.ask(&table, node, &self.questions[node]);
+                let found = asker.ask(&table, node, &self.questions[node]);
                 asker.expect(&table, "a weakened fingerprint", &found, &self.node(node));
             }
         }
@@ -552,7 +570,7 @@ fn does_not_fit(width: u32, asker: &mut Asker) {
                 table.codes[start + node] = list[beginning - 1];
             };
             let mut expect = |table: &Table, what: &str, expected: Finding| {
-                let (_, found) = asker.ask(table, beginning, &question);
+                let found = asker.ask(table, beginning, &question);
                 asker.expect(table, what, &found, &expected);
             };
             let mut table = chain.clone();

@@ -238,7 +238,7 @@ fn table(limits: Limits, random: &mut Random, counts: &mut Counts) -> Option<Bot
         let before = used(length, random);
         let mut index = before.clone();
         for mode in Mode::BOTH {
-            // One build by the scan is enough to see that it keeps clashes.
+            // By the scan the index plays no part: once is enough.
             if mode == Mode::Keeping {
                 if round > 0 {
                     continue;

@@ -70,6 +70,7 @@ pub(super) fn run(tally: &mut Tally) {
             asker.tally.new_questions();
             let part = Part::of(&table, width);
             part.pairs(&mut asker);
+            part.twice(&mut asker);
             part.groups(&mut asker);
             part.one_print(&mut asker);
             part.strangers(&mut asker);
@@ -397,6 +398,39 @@ impl<'a> Part<'a> {
                     };
                     asker.expect(&table, "a bad chain", &found, &expected);
                 }
+            }
+        }
+    }
+
+    /// A node has the list of another too: the lower one is found; through an index in
+    /// which the two are exchanged the other.
+    fn twice(&self, asker: &mut Asker) {
+        let limits = self.table.limits;
+        for node in 1..self.count() {
+            for other in node + 1..self.count() {
+                let mut table = self.copied(node, [other]);
+                table.parents[self.start + other] = table.parents[self.start + node];
+                table.codes[self.start + other] = table.codes[self.start + node];
+                let found = asker.ask(&table, node, &self.questions[node]);
+                asker.expect(&table, "a list twice", &found, &self.node(node));
+                let size = asker.random.one_of(&sizes(limits.entries)[..2]);
+                let mut index = used(limits.qubits as usize * size, asker.random);
+                asker.tally.fill(&table, &mut index);
+                let part = &mut index[(self.width as usize - 1) * size..][..size];
+                for held in part {
+                    *held = match *held as usize {
+                        held if held == node => other as u32,
+                        held if held == other => node as u32,
+                        _ => *held,
+                    };
+                }
+                asker.tally.indexes += 1;
+                let (_, found) =
+                    asker
+                        .tally
+                        .ask_by(&table, through(&index), node, &self.questions[node], MOST);
+                let expected = Finding::Node(other, self.lists[node].len());
+                asker.expect(&table, "a list twice, exchanged", &found, &expected);
             }
         }
     }

@@ -174,12 +174,20 @@ static void answers(void) {
     CHECK(ask(&c) == 2);
     CHECK(list_stays(&c, 2));
 
-    /* No gates for the identity; none for T, for a width that the table does not have, for a count without Z, for another list's fingerprint. */
+    /* Two lower nodes with the fingerprint of Z are passed, and Z is answered. A bad one is met. */
+    c = fresh();
+    c.fingerprints[1] = c.fingerprints[2] = c.fingerprints[3];
+    CHECK(ask(&c) == 2);
+    CHECK(c.out[0] == 12288 && c.out[1] == 12288);
+    CHECK(list_stays(&c, 2));
+    AFTER((c.fingerprints[2] = c.fingerprints[3], c.codes[2] = 4096), refused(MURM_BAD_TABLE, 0));
+
+    /* No gates for the identity; none for T, for a width that the table does not have, for a count without Z, for Z without its fingerprint. */
     AFTER(c.matrix[12] = 1, 0);
     AFTER((c.matrix[12] = 0, c.matrix[13] = 1), MURM_NONE);
     AFTER((c.width = 0, c.matrix_len = 4), MURM_NONE);
     AFTER(c.counts[0] = 3, MURM_NONE);
-    AFTER(c.fingerprints[1] = c.fingerprints[3], MURM_NONE);
+    AFTER(c.fingerprints[3] = c.fingerprints[1], MURM_NONE);
 
     /* Each refusal. */
     AFTER(c.q = 0, refused(MURM_BAD_TABLE, 0));

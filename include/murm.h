@@ -47,7 +47,7 @@ enum murm_refusal {
     MURM_OUT_OF_RANGE = 10,     /* a coefficient of the matrix that is asked is -128 */
     MURM_NOT_LOWEST = 11,       /* the matrix that is asked is not in lowest denominator: its exponent is above 0, and all entries are divisible by sqrt(2) */
     MURM_LIST_TOO_SHORT = 12,   /* `out` has fewer than g places */
-    MURM_BAD_TABLE = 13         /* the limits or counts are not those of a table, or the parents or codes that the node found leads to are bad (9.3) */
+    MURM_BAD_TABLE = 13         /* the limits or counts are not those of a table, or parents or codes that an answer meets are bad (9.3) */
 };
 
 /* A list of gates becomes its matrix (chapter 4).
@@ -67,7 +67,7 @@ uint64_t murm_library_circuit_matrix(uint32_t width, const uint32_t *codes, size
      out                 at least g places for the list
    Returns the number of gates of a list, 0 to g, whose matrix is a power of omega times the one asked. The list's codes are then the first elements
    of `out`, the oldest gate first; the other elements are as they were. Or returns MURM_NONE, and all of `out` is as it was. Refused by 13 (limits
-   and counts), 5, 6, 9, 10, 11, 12, 13 (the node found), tried in this order. */
+   and counts), 5, 6, 9, 10, 11, 12, 13 (a node that is met), tried in this order. */
 uint64_t murm_synthesize(uint32_t q, uint32_t g, uint32_t e, uint32_t b,
                          size_t count1, size_t count2, size_t count3, size_t count4, size_t count5,
                          const uint64_t *fingerprints, size_t fingerprints_len,

@@ -34,7 +34,7 @@ pub enum Refusal {
     NotLowest,
     /// 12: the lent list has fewer than G places.
     ListTooShort,
-    /// 13: the record is bad, or the parents or codes that the node found leads to are
+    /// 13: the record is bad, or parents or codes that an answer meets are
     /// (SPECIFICATION 9.3). A table that was built and not altered never gives this.
     BadTable,
 }

@@ -59,7 +59,7 @@ pub struct Query<'a> {
 ///
 /// # Errors
 ///
-/// A [`Refusal`]: 13 of the record, 5, 6, 9, 10, 11, 12, 13 of the node found, tried in this order.
+/// A [`Refusal`]: 13 of the record, 5, 6, 9, 10, 11, 12, 13 of a node that is met, tried in this order.
 /// `out` is then as it was. With [`MAX_GATES`] places it is never refused by 12.
 ///
 /// ```

@@ -417,8 +417,18 @@ mod answers {
     /// A wrong table never gives a wrong list: each is multiplied out and compared.
     #[test]
     fn altered_table() {
-        // Z's fingerprint at the node of S, which is looked at first.
-        assert_eq!(after(|c| c.fingerprints[1] = c.fingerprints[3]), Ok(None));
+        // Z's fingerprint at the nodes of S and Sdg, which are looked at first and passed.
+        let clashes = after(|c| {
+            c.fingerprints[1] = c.fingerprints[3];
+            c.fingerprints[2] = c.fingerprints[3];
+        });
+        assert_eq!(clashes, found());
+        // A bad chain before the match is met.
+        let before = after(|c| {
+            c.fingerprints[2] = c.fingerprints[3];
+            c.codes[2] = Gate::x(0).code();
+        });
+        assert_eq!(before, Err(Refusal::BadTable));
         // A chain that is good, of another list.
         assert_eq!(after(|c| c.parents[3] = 2), Ok(None));
         assert_eq!(after(|c| c.codes[1] = Gate::sdg(0).code()), Ok(None));

@@ -6,6 +6,7 @@ use Prim.Native.Nat.{ℕ, _≤_, _<_}
 use borrow.Author.Tests.{lt-ltb, le-ltb}
 use lib.ListN.{length}
 use Rattle.ints.specs.Lists.{over}
+use Rattle.walk.specs.Modes.{Mode}
 use Rattle.walk.specs.Index.{By}
 use Rattle.tables.specs.Checks.{Limits, Arrays, arraysBy}
 use Rattle.tables.specs.Tables.{BuildReply, Left, left, buildOf}
@@ -46,19 +47,21 @@ refused-told old r e h = (
   ap (λ (x : Building). recorded (toldBuilding x) old) (sym e),
 )
 
--- by the same look-up, called otherwise
-pub by-built : (t : BuildReply) (l : Limits) (f u c i f′ u′ c′ i′ : List ℕ) {b b′ : By} → b ≡ b′
-    → left t (arraysBy b f′ u′ c′ i′) ≡ buildOf l (arraysBy b f u c i) → left t (arraysBy b′ f′ u′ c′ i′) ≡ buildOf l (arraysBy b′ f u c i)
-by-built t l f u c i f′ u′ c′ i′ e h = subst (λ (z : By). left t (arraysBy z f′ u′ c′ i′) ≡ buildOf l (arraysBy z f u c i)) e h
+-- in the same mode and by the same look-up, called otherwise
+pub by-built : (t : BuildReply) (l : Limits) (f u c i f′ u′ c′ i′ : List ℕ) {m m′ : Mode} {b b′ : By} → m ≡ m′ → b ≡ b′
+    → left t (arraysBy b f′ u′ c′ i′) ≡ buildOf m l (arraysBy b f u c i) → left t (arraysBy b′ f′ u′ c′ i′) ≡ buildOf m′ l (arraysBy b′ f u c i)
+by-built t l f u c i f′ u′ c′ i′ {m′ = m′} {b = b} d e h =
+    subst (λ (z : By). left t (arraysBy z f′ u′ c′ i′) ≡ buildOf m′ l (arraysBy z f u c i)) e
+    (h ∙ ap (λ (z : Mode). buildOf z l (arraysBy b f u c i)) d)
 
-pub short-built : (l : List ℕ) (a : Arrays) (numbers : List ℕ) → tooFew l numbers ≡ true → builtAs 99 a numbers ≡ benchBuilt l a numbers
+pub short-built : (mode : Mode) (l : List ℕ) (a : Arrays) (numbers : List ℕ) → tooFew l numbers ≡ true → builtAs 99 a numbers ≡ benchBuilt mode l a numbers
 unfolding benchBuilt
-short-built l a numbers h = rw h
+short-built mode l a numbers h = rw h
 
-pub long-built : (l : List ℕ) (a : Arrays) (numbers : List ℕ) (t : BuildReply) {l′ : Limits} {a′ : Arrays} {r : ℕ} {new : List ℕ} → tooFew l numbers ≡ false
-    → l′ ≡ limitsIn l → left t a′ ≡ buildOf l′ a → r ≡ buildNumber t → new ≡ recorded t numbers → builtAs r a′ new ≡ benchBuilt l a numbers
+pub long-built : (mode : Mode) (l : List ℕ) (a : Arrays) (numbers : List ℕ) (t : BuildReply) {l′ : Limits} {a′ : Arrays} {r : ℕ} {new : List ℕ} → tooFew l numbers ≡ false
+    → l′ ≡ limitsIn l → left t a′ ≡ buildOf mode l′ a → r ≡ buildNumber t → new ≡ recorded t numbers → builtAs r a′ new ≡ benchBuilt mode l a numbers
 unfolding benchBuilt
-long-built l a numbers t {a′} {new} h hl e hr hn =
+long-built mode l a numbers t {a′} {new} h hl e hr hn =
     rw h
     (ap (λ (z : ℕ). builtAs z a′ new) hr
-    ∙ (ap (builtAs (buildNumber t) a′) hn ∙ ap (λ (o : Left). builtBy o numbers) (e ∙ ap (λ (z : Limits). buildOf z a) hl)))
+    ∙ (ap (builtAs (buildNumber t) a′) hn ∙ ap (λ (o : Left). builtBy o numbers) (e ∙ ap (λ (z : Limits). buildOf mode z a) hl)))

@@ -4,6 +4,7 @@ use Prim.Native.Nat.{ℕ, _+_, _*_}
 use lib.Dec.{eqb, ltb}
 use Rattle.ints.specs.Lists.{pick}
 use Rattle.exact.specs.Answers.{Answer, given, refused}
+use Rattle.walk.specs.Modes.{Mode, byPrint, keeping}
 use Rattle.walk.specs.Index.{By, scan, indexed}
 use Rattle.walk.specs.Finds.{Finding, node, none}
 use Rattle.walk.specs.Finds as f
@@ -29,6 +30,10 @@ foundNumber (f.refused r p) = refusalNumber r p
 -- how nodes are looked up: 0 is the scan, any other number the index
 abbrev pub byNumber : ℕ → By
 byNumber k = pick (eqb k 0) scan indexed
+
+-- how what counts as known is told: 0 is by the fingerprint, every other number keeps clashing nodes
+abbrev pub modeNumber : ℕ → Mode
+modeNumber mode = pick (eqb mode 0) byPrint keeping
 
 -- a fill: 0, or the number of the refusal
 abbrev pub fillNumber : FillReply → ℕ

@@ -5,6 +5,7 @@ use Prim.Native.Nat.{ℕ}
 use lib.Dec.{ltb}
 use lib.ListN.{length, getD}
 use Rattle.ints.specs.Lists.{pick, over}
+use Rattle.walk.specs.Modes.{Mode}
 use Rattle.tables.specs.Checks.{Limits, limitsOf, Arrays}
 use Rattle.tables.specs.Tables.{Width, Table, BuildReply, table, refusal, Left, buildOf}
 use Rattle.circuits_text.specs.Writing.{digitOf}
@@ -55,5 +56,5 @@ abbrev pub tooFew : List ℕ → List ℕ → Bool
 tooFew limits numbers = ltb (length limits) 4 || ltb (length numbers) 15
 
 -- are told by 99
-unfoldable pub benchBuilt : List ℕ → Arrays → List ℕ → BuiltNumbers
-benchBuilt limits a numbers = pick (tooFew limits numbers) (builtAs 99 a numbers) (builtBy (buildOf (limitsIn limits) a) numbers)
+unfoldable pub benchBuilt : Mode → List ℕ → Arrays → List ℕ → BuiltNumbers
+benchBuilt mode limits a numbers = pick (tooFew limits numbers) (builtAs 99 a numbers) (builtBy (buildOf mode (limitsIn limits) a) numbers)

@@ -11,16 +11,18 @@ ghost use Rattle.exact.specs.Fingerprint.{fingerprint};
 ghost use Rattle.exact.specs.Places.{read, held};
 ghost use Rattle.walk.specs.Index.{indexed};
 ghost use Rattle.index.specs.Told.{toldBy};
+ghost use Rattle.known.specs.Known.{toldMode};
 ghost use Rattle.tables.specs.Checks.{limitsOf, arrays, arraysBy};
 ghost use Rattle.tables.specs.Tables.{query, fillOf, foundIn, writtenIn, synthesized};
 ghost use Rattle.murm_config.specs.Told.{toldConfig, toldWidth, toldMurm};
 ghost use Rattle.murm.specs.Entries.{fingerprinted, toldBuilding, toldFilling, toldFoundNode, toldWritten};
 ghost use Rattle.murm_c.specs.Numbers.{replyNumber, countsTable};
-ghost use Rattle.bench.specs.Numbers.{orElse, byNumber, nodeNumber, foundNumber, fillNumber};
+ghost use Rattle.bench.specs.Numbers.{orElse, byNumber, modeNumber, nodeNumber, foundNumber, fillNumber};
 ghost use Rattle.bench.specs.Tables.{limitsIn, widthNumbers, numbersOf, buildNumber, recorded, builtAs, benchBuilt};
 use circuit::GateSet;
 use cyclotomic::Coefficient;
 use index::LookupBy;
+use known::BuildMode;
 use murm::Building;
 use murm::Filling;
 use murm::Fingerprinted;
@@ -111,9 +113,20 @@ fn lookup_by(by: u32) -> LookupBy
     LookupBy::Index
 }
 
+// What makes a candidate known.
+fn mode_of(mode: u32) -> BuildMode
+    ensures { λ r. ⌜ toldMode r ≡ modeNumber mode ⌝ }
+{
+    if mode == 0 {
+        return BuildMode::ByPrint;
+    }
+    BuildMode::Keeping
+}
+
 // The entry for tables. 99 for less than four limits, or a record of less than 15 places.
 #[no_mangle]
 pub extern "C" fn bench_build(
+    mode: u32,
     by: u32,
     limits: &[u32],
     fingerprints: &mut [u64],
@@ -124,7 +137,7 @@ pub extern "C" fn bench_build(
 ) -> u64
     ensures { λ r. ⌜ builtAs r
         (arraysBy (byNumber by) (now (fingerprints .exit)) (now (parents .exit)) (now (codes .exit)) (now (index .exit))) (now (numbers .exit))
-        ≡ benchBuilt (now (limits .entry))
+        ≡ benchBuilt (modeNumber mode) (now (limits .entry))
         (arraysBy (byNumber by) (now (fingerprints .entry)) (now (parents .entry)) (now (codes .entry)) (now (index .entry))) (now (numbers .entry)) ⌝ }
 {
     if limits.len() < 4 {
@@ -134,6 +147,7 @@ pub extern "C" fn bench_build(
         return 99;
     }
     let building = murm::build_by(
+        mode_of(mode),
         lookup_by(by),
         config_of(limits),
         fingerprints,

@@ -9,6 +9,7 @@ use native.Mathlib.Omega.{arith}
 use lib.ListN.{length, getD, drop, drop-of-length-le}
 use lib.Seq.{drop-cons}
 use Rattle.generators.specs.Generators.{generators}
+use Rattle.walk.specs.Modes.{Mode}
 use Rattle.walk.specs.Index.{By}
 use Rattle.walk.specs.Walk.{Rules, Node, State, root, listAt, try, tryAll}
 use Rattle.walk.proofs.Sequences.{prefix-at}
@@ -17,9 +18,9 @@ use Rattle.synthesis_arena.specs.declared.WidthLimits.{WidthLimits}
 use Rattle.next_node.specs.Arrays.{rules, unsaturated, Columns, Long, Live, After}
 use Rattle.candidates.proofs.Keeping.{mem-at, TriedKept, kept-try, unfilled}
 
-module _ (by : By) (lim : WidthLimits) (k d : ℕ) (f0 u0 c0 i0 own : List ℕ) (goal : State) where
+module _ (mode : Mode) (by : By) (lim : WidthLimits) (k d : ℕ) (f0 u0 c0 i0 own : List ℕ) (goal : State) where
   abbrev R : Rules
-  R = rules lim
+  R = rules mode lim
 
   abbrev E : ℕ
   E = lim .entries
@@ -35,7 +36,7 @@ module _ (by : By) (lim : WidthLimits) (k d : ℕ) (f0 u0 c0 i0 own : List ℕ) 
     pub rest : tryAll R E (unsaturated ns) k (drop j gens) ≡ goal
 
   module _ {j : ℕ} {f u c i : List ℕ} {count : ℕ} (r : NodeRun j f u c i count) where
-    abbrev pub node-run-live : d ≤ 64 → Long by lim f0 u0 c0 i0 → Live by lim f u c i count k (suc k)
+    abbrev pub node-run-live : suc d ≤ lim .gates → Long by lim f0 u0 c0 i0 → Live mode by lim f u c i count k (suc k)
     node-run-live deep long = record {
       f0 = f0;
       u0 = u0;
@@ -94,8 +95,8 @@ module _ (by : By) (lim : WidthLimits) (k d : ℕ) (f0 u0 c0 i0 own : List ℕ) 
         let e : unsaturated (r .ns) ≡ goal = ap (tryAll R E (unsaturated (r .ns)) k) (sym (drop-of-length-le gens {i = j} l)) ∙ r .rest in
         subst (λ (t : State). After by lim f0 u0 c0 i0 t f u c i count false) e (record { columns = r .columns; full-is = refl })
 
-pub node-run-start : {by : By} {lim : WidthLimits} {k : ℕ} {f u c i : List ℕ} {count : ℕ} (h : Live by lim f u c i count k (suc k)) → k < count
-    → NodeRun by lim k (h .d) (h .f0) (h .u0) (h .c0) (h .i0) (listAt (h .ns) k) (tryAll (rules lim) (lim .entries) (unsaturated (h .ns)) k (generators (lim .width) (lim .basis))) 0 f u c i count
+pub node-run-start : {mode : Mode} {by : By} {lim : WidthLimits} {k : ℕ} {f u c i : List ℕ} {count : ℕ} (h : Live mode by lim f u c i count k (suc k)) → k < count
+    → NodeRun mode by lim k (h .d) (h .f0) (h .u0) (h .c0) (h .i0) (listAt (h .ns) k) (tryAll (rules mode lim) (lim .entries) (unsaturated (h .ns)) k (generators (lim .width) (lim .basis))) 0 f u c i count
 node-run-start h l = record {
   ns = h .ns;
   columns = h .columns;

@@ -9,10 +9,12 @@ ghost use Rattle.exact.specs.Places.{held};
 ghost use Rattle.places.specs.Places.{places};
 ghost use Rattle.matrix.specs.Step.{Ready};
 ghost use Rattle.index.specs.Told.{toldBy};
+ghost use Rattle.known.specs.Known.{toldMode};
 ghost use Rattle.next_node.specs.Arrays.{Room, Live};
 ghost use Rattle.candidates.specs.Tries.{CandidateTried, NodeTried};
 use cyclotomic::Coefficient;
 use index::LookupBy;
+use known::BuildMode;
 use matrix::UnitaryMatrix;
 use next_node::Tried;
 use node_matrix::Candidate;
@@ -20,6 +22,7 @@ use synthesis_arena::WidthLimits;
 
 // One candidate: a generator after a node, whose matrix is handed over.
 fn try_candidate(
+    mode: BuildMode,
     by: LookupBy,
     limits: WidthLimits,
     count: usize,
@@ -38,7 +41,7 @@ fn try_candidate(
     requires ready { ⌜ Ready (limits .width) exponent (now m) ⌝ }
     requires long { ⌜ length (now scratch) ≡ places ⌝ }
     requires room { ⌜ Room (toldBy by) limits count node (now fingerprints) (now parents) (now codes) (now index) ⌝ }
-    ensures tried { λ r. ⌜ CandidateTried (toldBy by) limits count node gate (held (limits .width) exponent (now (m .entry)))
+    ensures tried { λ r. ⌜ CandidateTried (toldMode mode) (toldBy by) limits count node gate (held (limits .width) exponent (now (m .entry)))
         (now (fingerprints .entry)) (now (parents .entry)) (now (codes .entry)) (now (index .entry))
         (now (fingerprints .exit)) (now (parents .exit)) (now (codes .exit)) (now (index .exit)) r ⌝ }
     ensures long { λ _. ⌜ length (now (scratch .exit)) ≡ places ⌝ }
@@ -49,7 +52,7 @@ fn try_candidate(
             saturated: false,
         };
     }
-    let Candidate::Print(print) = node_matrix::candidate_print(
+    let Candidate::Print(print, after) = node_matrix::candidate_print(
         limits.width as usize,
         gate,
         exponent,
@@ -62,21 +65,25 @@ fn try_candidate(
         };
     };
     next_node::append(
+        mode,
         by,
         limits,
         count,
         node,
         gate,
         print,
+        after,
         fingerprints,
         parents,
         codes,
         index,
+        scratch,
     )
 }
 
 // One node: each generator, in order.
 pub fn try_node(
+    mode: BuildMode,
     by: LookupBy,
     limits: WidthLimits,
     count: usize,
@@ -87,13 +94,14 @@ pub fn try_node(
     codes: &mut [u32],
     index: &mut [u32],
 ) -> Tried
-    requires bounds { ⌜ ((limits .width) ≤ 5) × (node < count) × ((limits .entries) ≤ 1000000) ⌝ }
+    requires bounds { ⌜ ((limits .width) ≤ 5) × (node < count) × ((limits .entries) ≤ 1000000) × ((limits .gates) ≤ 64) ⌝ }
     requires generators { ⌜ now gates ≡ generators (limits .width) (limits .basis) ⌝ }
-    requires live { ⌜ Live (toldBy by) limits (now fingerprints) (now parents) (now codes) (now index) count node (suc node) ⌝ }
-    ensures tried { λ r. ⌜ NodeTried (toldBy by) limits count node
+    requires live { ⌜ Live (toldMode mode) (toldBy by) limits (now fingerprints) (now parents) (now codes) (now index) count node (suc node) ⌝ }
+    ensures tried { λ r. ⌜ NodeTried (toldMode mode) (toldBy by) limits count node
         (now (fingerprints .entry)) (now (parents .entry)) (now (codes .entry)) (now (index .entry))
         (now (fingerprints .exit)) (now (parents .exit)) (now (codes .exit)) (now (index .exit)) r ⌝ }
 {
+    let how = mode;
     let lookup = by;
     let l = limits;
     let one = UnitaryMatrix::identity(l.width as usize);
@@ -104,6 +112,7 @@ pub fn try_node(
     let mut j = 0;
     while j < gates.len() {
         let t = try_candidate(
+            how,
             lookup,
             l,
             n,

@@ -29,6 +29,7 @@ use Rattle.walk.specs.Walk.{gate}
 use Rattle.walk.specs.AtWidth.{atWidth, ListOf, parentOf}
 use Rattle.walk.proofs.Held.{map-at}
 use Rattle.walk.proofs.Prefixes.{completed-unsaturated}
+use Rattle.walk.specs.Modes.{byPrint}
 use Rattle.tables.specs.Checks.{Limits, Arrays, byteCount, queryRows}
 use Rattle.tables.specs.Tables.{Table, Width, walkOf, widthAt, widthOf, parentsOf, codesOf, partOf, Query, query, listRow, synthesized}
 use Rattle.tables.specs.Built.{Built, FilledFrom}
@@ -131,7 +132,7 @@ own w asked = by-width (ltb 5 w) refl
 
 -- ---- a list whose matrix is asked
 
-module _ (t : Table) (m : Arrays) (b : Built t m) (i : FilledFrom t m) (w : ℕ) (asked : List ℕ) (k : ℕ) (bytes : List ℤ)
+module _ (t : Table) (m : Arrays) (b : Built byPrint t m) (i : FilledFrom t m) (w : ℕ) (asked : List ℕ) (k : ℕ) (bytes : List ℤ)
     (e : listed w asked (lentCoefficients w) ≡ outcome (given k) bytes) where
   abbrev q : Query
   q = query w k bytes
@@ -167,7 +168,7 @@ module _ (t : Table) (m : Arrays) (b : Built t m) (i : FilledFrom t m) (w : ℕ)
 
   complete : Condition (t .limits) w → Complete t m q
   complete c =
-      ⊎-elim (λ p. demand .complete t m b i (c .gates) q p) (λ p. beside .complete-rightly t m b i (c .gates) q p) (c .prints)
+      ⊎-elim (λ p. demand .complete byPrint t m b i (c .gates) q p) (λ p. beside .complete-rightly byPrint t m b i (c .gates) q p) (c .prints)
 
   -- its text
   text : listText t m w asked ≡ answerText (synthesized t m q lentList)
@@ -178,16 +179,16 @@ module _ (t : Table) (m : Arrays) (b : Built t m) (i : FilledFrom t m) (w : ℕ)
   given-text l g = text ∙ (ap answerText g ∙ ap answerLine (take-at l (drop (length l) lentList) (length l) refl))
 
 -- a larger table gives the same list
-module _ (t t′ : Table) (m m′ : Arrays) (b : Built t m) (b′ : Built t′ m′) (i : FilledFrom t m) (i′ : FilledFrom t′ m′) (s : NoSmaller (t .limits) (t′ .limits)) where
+module _ (t t′ : Table) (m m′ : Arrays) (b : Built byPrint t m) (b′ : Built byPrint t′ m′) (i : FilledFrom t m) (i′ : FilledFrom t′ m′) (s : NoSmaller (t .limits) (t′ .limits)) where
   larger-text : (w : ℕ) (asked : List ℕ) (k : ℕ) (bytes : List ℤ) → listed w asked (lentCoefficients w) ≡ outcome (given k) bytes → (l : List ℕ)
       → Gives t m (query w k bytes) lentList l → listText t′ m′ w asked ≡ answerLine l
   larger-text w asked k bytes e l g =
       ⊎-elim
       (λ (x : Gives t′ m′ (query w k bytes) lentList l). given-text t′ m′ b′ i′ w asked k bytes e l x)
       (λ (x : Refuses t′ m′ (query w k bytes) lentList 12). absurd (not-refused t′ m′ b′ i′ w asked k bytes e 12 x))
-      (demand .larger t t′ m m′ b b′ i i′ s (query w k bytes) lentList lentList l g)
+      (demand .larger byPrint t t′ m m′ b b′ i i′ s (query w k bytes) lentList lentList l g)
 
-module _ (t : Table) (m : Arrays) (b : Built t m) (i : FilledFrom t m) (w : ℕ) (asked : List ℕ) where
+module _ (t : Table) (m : Arrays) (b : Built byPrint t m) (i : FilledFrom t m) (w : ℕ) (asked : List ℕ) where
   matrix-means : (k : ℕ) (bytes : List ℤ) → listed w asked (lentCoefficients w) ≡ outcome (given k) bytes → LineMeans (t .limits) w asked (listText t m w asked)
   matrix-means k bytes e = by (demand .decided t m (query w k bytes) lentList)
     where
@@ -197,7 +198,7 @@ module _ (t : Table) (m : Arrays) (b : Built t m) (i : FilledFrom t m) (w : ℕ)
           let x = given-text t m b i w asked k bytes e l g in
           a-list l x (subst (ReadsAs l) (sym x) (answer-reads w (t .limits) l (r .1) (omega (arith, r .2, accepted (t .limits) (b .accepted) .gates))))
           (record { power = to t m b i w asked k bytes e l (r .0); of-basis = r .1 }) (r .2)
-          (λ l′ lent m′ t′ s f. let z = demand .build-built l′ lent m′ t′ f in
+          (λ l′ lent m′ t′ s f. let z = demand .build-built byPrint l′ lent m′ t′ f in
           larger-text t t′ m m′ b (z .0) i (z .2) (subst (NoSmaller (t .limits)) (sym (z .1)) s) w asked k bytes e l g ∙ sym x)
           (λ c o z. complete t m b i w asked k bytes e c .shortest lentList l g o (from t m b i w asked k bytes e o z))
       by (d.no-list g) =
@@ -222,20 +223,20 @@ module _ (t : Table) (m : Arrays) (b : Built t m) (i : FilledFrom t m) (w : ℕ)
 
 -- ---- a table's text: the nodes of the walk
 
-module _ (t : Table) (m : Arrays) (b : Built t m) (w : ℕ) (p : 0 < w) (u : w ≤ t .limits .qubits) where
+module _ (t : Table) (m : Arrays) (b : Built byPrint t m) (w : ℕ) (p : 0 < w) (u : w ≤ t .limits .qubits) where
   -- place j of a width's part is place (w - 1) × E + j of the array
   part-at : (xs : List ℕ) (j : ℕ) → j < t .limits .entries → getD (partOf w (t .limits .entries) xs) j 0 ≡ getD xs ((w - 1) * t .limits .entries + j) 0
   part-at xs j h =
       getD-take (t .limits .entries) (drop ((w - 1) * t .limits .entries) xs) j 0 h ∙ getD-drop ((w - 1) * t .limits .entries) xs j 0
 
-  nodes-are : nodeLines (partOf w (t .limits .entries) (m .parents)) (partOf w (t .limits .entries) (m .codes)) (length (walkOf (t .limits) w .nodes))
-      ≡ nodeLines (parentsOf (t .limits) w) (codesOf (t .limits) w) (length (walkOf (t .limits) w .nodes))
+  nodes-are : nodeLines (partOf w (t .limits .entries) (m .parents)) (partOf w (t .limits .entries) (m .codes)) (length (walkOf byPrint (t .limits) w .nodes))
+      ≡ nodeLines (parentsOf byPrint (t .limits) w) (codesOf byPrint (t .limits) w) (length (walkOf byPrint (t .limits) w .nodes))
   unfolding nodeLines parentsOf codesOf
   nodes-are =
-      each-same 0 (length (walkOf (t .limits) w .nodes)) _ _
-      (λ j _ h. let few = walk-count (t .limits) w (accepted (t .limits) (b .accepted) .some) .1 in
+      each-same 0 (length (walkOf byPrint (t .limits) w .nodes)) _ _
+      (λ j _ h. let few = walk-count byPrint (t .limits) w (accepted (t .limits) (b .accepted) .some) .1 in
       let n = b .nodes w p u j (omega (arith, h)) in
-      let ns = walkOf (t .limits) w .nodes in
+      let ns = walkOf byPrint (t .limits) w .nodes in
       let x : getD (partOf w (t .limits .entries) (m .parents)) j 0 ≡ getD (map parentOf ns) j 0 =
       part-at (m .parents) j (omega (arith, h, few)) ∙ (n .parent ∙ sym (map-at parentOf ns j (omega (arith, h)))) in
       let y : getD (partOf w (t .limits .entries) (m .codes)) j 0 ≡ getD (map gate ns) j 0 =
@@ -244,9 +245,9 @@ module _ (t : Table) (m : Arrays) (b : Built t m) (w : ℕ) (p : 0 < w) (u : w �
 
   width-text : widthText t (m .parents) (m .codes) w ≡ walkText (t .limits) w
   unfolding widthText rowText walkText
-  width-text = rw (width-is t m b w p u) (ap (λ (l : List ℕ). tableLine w (length (walkOf (t .limits) w .nodes)) (walkOf (t .limits) w .depth) (walkOf (t .limits) w .saturated) ++ l) nodes-are)
+  width-text = rw (width-is t m b w p u) (ap (λ (l : List ℕ). tableLine w (length (walkOf byPrint (t .limits) w .nodes)) (walkOf byPrint (t .limits) w .depth) (walkOf byPrint (t .limits) w .saturated) ++ l) nodes-are)
 
-table-text : (t : Table) (m : Arrays) → Built t m → tableText t (m .parents) (m .codes) ≡ each (range 1 (t .limits .qubits)) (walkText (t .limits))
+table-text : (t : Table) (m : Arrays) → Built byPrint t m → tableText t (m .parents) (m .codes) ≡ each (range 1 (t .limits .qubits)) (walkText (t .limits))
 unfolding widthTexts
 table-text t m b = each-same 1 (t .limits .qubits) _ _ (λ w p u. width-text t m b w (omega (arith, p)) (omega (arith, u)))
 
@@ -257,21 +258,21 @@ query-prints : (t : Table) (m : Arrays) {w : ℕ} {asked line : List ℕ} → Qu
 unfolding queryText lineReply listText
 query-prints t m h = ap (λ (q : Read AskedList). answerText (askedReply t m lentList q)) (query-asks h)
 
-row-is : (t : Table) (m : Arrays) → Built t m → (l : Limits) → t .limits ≡ l → (w : ℕ) → 0 < w → w ≤ l .qubits → widthAt t w ≡ widthOf (walkOf l w)
+row-is : (t : Table) (m : Arrays) → Built byPrint t m → (l : Limits) → t .limits ≡ l → (w : ℕ) → 0 < w → w ≤ l .qubits → widthAt t w ≡ widthOf (walkOf byPrint l w)
 row-is t m b l e w p u =
-    width-is t m b w p (subst (λ (k : Limits). w ≤ k .qubits) (sym e) u) ∙ ap (λ (k : Limits). widthOf (walkOf k w)) e
+    width-is t m b w p (subst (λ (k : Limits). w ≤ k .qubits) (sym e) u) ∙ ap (λ (k : Limits). widthOf (walkOf byPrint k w)) e
 
 pub program-demand-3 : ProgramDemand3
 unfolding output outputWith
 program-demand-3 = record {
   printed = λ input l ls t m x y.
-      let z = demand .build-built l lentArrays m t y in
+      let z = demand .build-built byPrint l lentArrays m t y in
       record {
         whole =
             ap (inputText lentArrays) x ∙ (sym (text-is l lentArrays ls (sym y))
             ∙ ap (λ (u : List ℕ). u ++ queryTexts t m ls) (table-text t m (z .0) ∙ ap (λ (k : Limits). each (range 1 (k .qubits)) (walkText k)) (z .1)));
         rows = λ w p u. row-is t m (z .0) l (z .1) w p u;
-        again = λ w. completed-unsaturated (atWidth w (l .basis)) (l .gates) (l .entries);
+        again = λ w. completed-unsaturated (atWidth byPrint w (l .basis)) (l .gates) (l .entries);
         prints = λ w asked line h. query-prints t m h;
         means = λ w asked. subst (λ (k : Limits). LineMeans k w asked (listText t m w asked)) (z .1) (line-means t m (z .0) (z .2) w asked);
       };

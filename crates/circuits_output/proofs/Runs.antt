@@ -8,6 +8,7 @@ use borrow.Author.Tests.{lt-ltb, le-ltb}
 use lib.ListN.{length, take, drop, length-drop}
 use lib.Seq.{take-all}
 use Rattle.ints.specs.Lists.{over}
+use Rattle.walk.specs.Modes.{byPrint}
 use Rattle.tables.specs.Checks.{Limits, Arrays}
 use Rattle.tables.specs.Tables.{BuildReply, left, buildOf}
 use Rattle.circuits_text.specs.Writing.{Put}
@@ -31,7 +32,7 @@ later-all input from = take-all (length input - from) (drop from input) (omega (
 -- what a build came to, and they, are put
 pub built-put :
     (l : Limits) (lent : Arrays) (input : List ℕ) (from : ℕ) {after : Arrays} {reply : BuildReply} {p : ℕ} {xs ys : List ℕ} →
-    left reply after ≡ buildOf l lent → Put 0 (replyThen reply after (linesOf (take (length input - from) (drop from input)))) p xs ys →
+    left reply after ≡ buildOf byPrint l lent → Put 0 (replyThen reply after (linesOf (take (length input - from) (drop from input)))) p xs ys →
     Put 0 (builtText lent (linesOf (drop from input)) l) p xs ys
 built-put l lent input from {after} {reply} e d =
     put-as (ap (λ (bs : List ℕ). replyThen reply after (linesOf bs)) (later-all input from) ∙ text-is l lent (linesOf (drop from input)) e) d

@@ -7,6 +7,7 @@ use Prim.Native.Nat.{ℕ, _+_, _*_, _≤_, min}
 use lib.Dec.{ltb}
 use lib.ListN.{length, replicate}
 use Rattle.ints.specs.Lists.{pick, over}
+use Rattle.walk.specs.Modes.{byPrint}
 use Rattle.tables.specs.Checks.{Limits, Arrays, arrays, placesOf}
 use Rattle.tables.specs.Tables.{BuildReply, table, refusal, buildOf, recordRow}
 use Rattle.circuits_lines.specs.Lines.{refusedLine}
@@ -28,7 +29,7 @@ Ready (refusal number position) parents codes = true ≡ true
 
 -- a table is built in the lent arrays
 unfoldable pub builtText : Arrays → List InputLine → Limits → List ℕ
-builtText a ls l = replyThen (buildOf l a .reply) (buildOf l a .arrays) ls
+builtText a ls l = replyThen (buildOf byPrint l a .reply) (buildOf byPrint l a .arrays) ls
 
 -- an input that is refused prints its refusal alone
 abbrev pub inputText : Arrays → Read Wanted → List ℕ
@@ -37,7 +38,7 @@ inputText a (refused number position) = refusedLine number position
 
 -- what the lent arrays then hold
 abbrev pub inputArrays : Arrays → Read Wanted → Arrays
-inputArrays a (gives w) = buildOf (w .limits) a .arrays
+inputArrays a (gives w) = buildOf byPrint (w .limits) a .arrays
 inputArrays a (refused number position) = a
 
 -- what is printed with these arrays lent

@@ -14,6 +14,7 @@ use Rattle.exact.specs.Paper.{paperProduct}
 use Rattle.exact.specs.Fits.{FirstPast}
 use Rattle.walk.specs.AtWidth.{ListOf, NoSharedPrint}
 use Rattle.walk.specs.Known.{SkippedRightly}
+use Rattle.walk.specs.Modes.{byPrint}
 use Rattle.tables.specs.Checks.{Limits, limitsOf, Arrays}
 use Rattle.tables.specs.Tables.{Table, walkOf, widthAt, widthOf, parentsOf, codesOf, table, left, buildOf}
 use Rattle.tables.specs.Demand3.{NoSmaller}
@@ -35,13 +36,13 @@ pub record SameUpToPower (l : Limits) (w : ℕ) (asked m : List ℕ) : Type 0 wh
 -- candidate of the completed depths that was skipped as known has a product that is a power of omega times some node's (SPECIFICATION 8.5, 8.14)
 pub record Condition (l : Limits) (w : ℕ) : Type 0 where
   pub gates : l .gates ≤ 13
-  pub prints : NoSharedPrint w (l .basis) (l .gates) ⊎ SkippedRightly w (l .basis) (l .gates) (l .entries)
+  pub prints : NoSharedPrint w (l .basis) (l .gates) ⊎ SkippedRightly byPrint w (l .basis) (l .gates) (l .entries)
 
 -- each table that a build with the same basis and no smaller limit leaves prints the same line. None refuses by 12, since the program lends
 -- 64 places for a list (SPECIFICATION 8.4, 8.12)
 abbrev pub SameInLarger : Limits → ℕ → List ℕ → List ℕ → Type 0
 SameInLarger l w asked text =
-    (l′ : Limits) (lent m : Arrays) (t : Table) → NoSmaller l l′ → buildOf l′ lent ≡ left (table t) m → listText t m w asked ≡ text
+    (l′ : Limits) (lent m : Arrays) (t : Table) → NoSmaller l l′ → buildOf byPrint l′ lent ≡ left (table t) m → listText t m w asked ≡ text
 
 -- the text is an allowed line and its newline; the line's numbers are how many gates m has, its T charge (SPECIFICATION 2.9) and its codes, and
 -- since an allowed line has one list of numbers, the text can be read in one way (SPECIFICATION 10.2, 10.6)
@@ -66,23 +67,23 @@ pub data LineMeans (l : Limits) (w : ℕ) (asked text : List ℕ) : Type 0 where
   -- none: under the condition, at a built width that is not saturated, no list o of the basis within the gate limit has such a product. Where
   -- there is one, the line is therefore not this one (SPECIFICATION 8.5)
   no-list : text ≡ noneLine
-      → (Condition l w → 0 < w → w ≤ l .qubits → walkOf l w .saturated ≡ false → (o : List ℕ) → SameUpToPower l w asked o → length o ≤ l .gates → ⊥)
+      → (Condition l w → 0 < w → w ≤ l .qubits → walkOf byPrint l w .saturated ≡ false → (o : List ℕ) → SameUpToPower l w asked o → length o ≤ l .gates → ⊥)
       → LineMeans l w asked text
   -- a refusal is the list's own: the table refuses no matrix of a list (SPECIFICATION 7.8, 10.9)
   refused : (number position : ℕ) → text ≡ refusedLine number position → ListRefused w asked number position → LineMeans l w asked text
 
 -- the lines of a width, its first line and one for each node, by the width's walk (SPECIFICATION 6.4, 10.5)
 unfoldable pub walkText : Limits → ℕ → List ℕ
-walkText l w = rowText w (widthOf (walkOf l w)) (parentsOf l w) (codesOf l w)
+walkText l w = rowText w (widthOf (walkOf byPrint l w)) (parentsOf byPrint l w) (codesOf byPrint l w)
 
 -- the output of an input whose line one has the limits l, and whose later lines are ls, where the build returned t and left m in the arrays
 pub record OutputMeans (input : List ℕ) (l : Limits) (ls : List InputLine) (t : Table) (m : Arrays) : Type 0 where
   -- first all widths from 1 to Q, then a line for each later line of the input (SPECIFICATION 10.5, 10.6)
   pub whole : output input ≡ each (range 1 (l .qubits)) (walkText l) ++ queryTexts t m ls
   -- the record's count, depth and saturated are the walk's
-  pub rows : (w : ℕ) → 0 < w → w ≤ l .qubits → widthAt t w ≡ widthOf (walkOf l w)
+  pub rows : (w : ℕ) → 0 < w → w ≤ l .qubits → widthAt t w ≡ widthOf (walkOf byPrint l w)
   -- with its completed depth as the gate limit, and the other limits as they are, a width is not saturated
-  pub again : (w : ℕ) → walkOf (limitsOf (l .qubits) (walkOf l w .depth) (l .entries) (l .basis)) w .saturated ≡ false
+  pub again : (w : ℕ) → walkOf byPrint (limitsOf (l .qubits) (walkOf byPrint l w .depth) (l .entries) (l .basis)) w .saturated ≡ false
   -- a query's line prints the text of its list, and this is what that means
   pub prints : (w : ℕ) (asked line : List ℕ) → QueryLine w asked line → queryText t m (ended line) ≡ listText t m w asked
   pub means : (w : ℕ) (asked : List ℕ) → LineMeans l w asked (listText t m w asked)
@@ -90,4 +91,4 @@ pub record OutputMeans (input : List ℕ) (l : Limits) (ls : List InputLine) (t 
 -- every input that is not refused as a whole, and every line of it
 pub record ProgramDemand3 : Type 0 where
   pub printed : (input : List ℕ) (l : Limits) (ls : List InputLine) (t : Table) (m : Arrays) → inputOf input ≡ gives (wanted l ls)
-      → buildOf l lentArrays ≡ left (table t) m → OutputMeans input l ls t m
+      → buildOf byPrint l lentArrays ≡ left (table t) m → OutputMeans input l ls t m

@@ -10,7 +10,7 @@ use borrow.Author.Tests.{eqb-true, eq-eqb}
 use lib.Dec.{eqb}
 use lib.Pow.{pow-pos, high, low}
 use Rattle.ints.specs.Lists.{pick}
-use Rattle.ints.proofs.Bools.{both-true, and-both}
+use Rattle.ints.proofs.Bools.{iff, both-true, and-both}
 use Rattle.cyclotomic.specs.Zomega.{eqω, Zω, mk, zeroω, turn, eqZ, isZero, less, leastUpTo, phase}
 use Rattle.cyclotomic.proofs.Turns.{turn-sum, turn-back, turn-zero}
 use Rattle.cyclotomic.proofs.Order
@@ -201,6 +201,12 @@ module _ (n : ℕ) where
 
   pub power-test : (p : ℕ) (x y : Exact) → p < 8 → Equal n (turned p x) y → upToPhase n x y ≡ true
   power-test p x y h w = phased-test x y (equal-trans n (equal-sym n (phased-turned p x)) (phased-equal w))
+
+  -- of equal matrices the test is the same
+  pub up-equal : (x : Exact) {y z : Exact} → Equal n y z → upToPhase n x y ≡ upToPhase n x z
+  up-equal x {y} {z} w =
+      iff (upToPhase n x y) (upToPhase n x z) (λ h. phased-test x z (equal-trans n (test-phased x y h) (phased-equal w)))
+      (λ h. phased-test x y (equal-trans n (test-phased x z h) (equal-sym n (phased-equal w))))
 
   pub up-to-phase-exactly : (x y : Exact) → (upToPhase n x y ≡ true) ↔ ((p : ℕ) × (p < 8) × Equal n (turned p x) y)
   up-to-phase-exactly x y = (test-power x y, λ t. power-test (t .0) x y (t .1) (t .2))

@@ -4,6 +4,7 @@
 //                                    in the order of the lent places, or `refused N P`
 //   table Q G E B                    builds in arrays of 100,000 places, and prints for each width `table WIDTH ENTRIES DEPTH SATURATED`
 //                                    and then its nodes, each a line `FINGERPRINT PARENT CODE`; or `refused N 0`
+//   clashes Q G E B                  as `table`, in the mode that keeps clashing nodes
 //   matrix WIDTH K COEFFICIENTS..    asks the table at hand, with a lent list of 64 places, and prints `FINGERPRINT none`,
 //                                    `FINGERPRINT COUNT CODES..` or `refused N 0`
 //   find WIDTH K COEFFICIENTS..      the node that the table at hand has for a matrix: prints `NODE COUNT`, the count that of its gates, `none`
@@ -16,7 +17,7 @@
 //   places                           the index of the table at hand: prints for each width `places WIDTH`, and then a line `PLACE NODE` for each
 //                                    place of its part that is not empty
 //   fill                             clears the index and fills it from the table at hand: prints `fill` or `refused N 0`
-// The table at hand is that of the last `table` line; with no such line, or if it was refused, a line that asks it prints `refused 14 0`. So
+// The table at hand is that of the last `table` or `clashes` line; with no such line, or if it was refused, a line that asks it prints `refused 14 0`. So
 // do `places` and `fill` while the scan is used.
 // Numbers and lines are those of the program `circuits`, and a line of another form prints `refused 14 0`. The COUNT of a list is up to
 // 256, K up to 65535. A coefficient is such a number, after a `-` or not, from -128 to 127; there are at most 4097. More than 1 MiB of input
@@ -34,6 +35,7 @@ use circuits_text::SPACE;
 use circuits_text::Word;
 use cyclotomic::Coefficient;
 use index::LookupBy;
+use known::BuildMode;
 use libc::STDIN_FILENO;
 use libc::STDOUT_FILENO;
 use murm::Building;
@@ -290,6 +292,7 @@ fn index_end(widths: u32, size: u32, places: usize) -> usize
 
 // A table is built, with its parts of the index.
 fn build(
+    mode: BuildMode,
     lookup: Lookup,
     config: MurmConfig,
     fingerprints: &mut [u64],
@@ -299,7 +302,15 @@ fn build(
 ) -> Building {
     let by = lookup.by;
     let end = index_end(config.max_qubits, lookup.size, index.len());
-    murm::build_by(by, config, fingerprints, parents, codes, &mut index[..end])
+    murm::build_by(
+        mode,
+        by,
+        config,
+        fingerprints,
+        parents,
+        codes,
+        &mut index[..end],
+    )
 }
 
 // The parts of every width are emptied.
@@ -803,7 +814,7 @@ fn put_asked(
 // What a line begins with; of `index` its M, and how many places that makes.
 enum First {
     List,
-    Table,
+    Table(BuildMode),
     Asks(Asks),
     Index(u32, u32),
     Scan,
@@ -843,7 +854,10 @@ fn first_word(word: &[u8], rest: &[u8]) -> First {
         return First::List;
     }
     if circuits_text::same_bytes(word, b"table") {
-        return First::Table;
+        return First::Table(BuildMode::ByPrint);
+    }
+    if circuits_text::same_bytes(word, b"clashes") {
+        return First::Table(BuildMode::Keeping);
     }
     if circuits_text::same_bytes(word, b"matrix") {
         return First::Asks(Asks::Matrix);
@@ -902,7 +916,7 @@ fn lookup_after(word: First, last: Lookup) -> Lookup {
     }
 }
 
-// The table after a line: what follows the word `table` and its space, Q G E B, builds one.
+// The table after a line: what follows the word `table` or `clashes` and its space, Q G E B, builds one.
 fn table_after(
     word: First,
     lookup: Lookup,
@@ -913,11 +927,11 @@ fn table_after(
     index: &mut [u32],
     rest: &[u8],
 ) -> Building {
-    let First::Table = word else {
+    let First::Table(mode) = word else {
         return last;
     };
     match circuits_input::read_line_one(rest) {
-        LineOne::Limits(config) => build(lookup, config, fingerprints, parents, codes, index),
+        LineOne::Limits(config) => build(mode, lookup, config, fingerprints, parents, codes, index),
         LineOne::Refused(r) => Building::Refused(r),
     }
 }
@@ -1020,7 +1034,7 @@ fn put_line(
     let filling = state.filling;
     match word {
         First::List => put_list_line(rest, out, at),
-        First::Table => put_table(table, fingerprints, parents, codes, out, at),
+        First::Table(_) => put_table(table, fingerprints, parents, codes, out, at),
         First::Asks(what) => put_asked(
             what,
             lookup,

@@ -7,6 +7,7 @@ use lib.ListN.{length}
 use Rattle.refusal.specs.Told.{Reason, numberOf, positionOf}
 use Rattle.refusal.specs.declared.Refusal.{Refusal}
 use Rattle.refusal.proofs.Numbers.{Refuses}
+use Rattle.walk.specs.Modes.{Mode}
 use Rattle.walk.specs.Index.{scan, indexed}
 use Rattle.tables.specs.Checks.{firstRow, Limits, Arrays, arrays, arraysBy}
 use Rattle.tables.specs.Tables.{Table, recordOf, printsOf, parentsOf, codesOf, filledTo, indexTo, BuildReply, table, refusal, left, buildRows, buildOf}
@@ -14,28 +15,28 @@ use Rattle.tables.specs.Tables.{lookRowsOf, filledIndex, filled, not-filled, fi
 use Rattle.tables.proofs.FromBuild.{build-refusal, build-fills}
 use Rattle.tables.proofs.Asked.{fill-passed, fill-refused}
 
-module _ (l : Limits) (a : Arrays) where
+module _ (mode : Mode) (l : Limits) (a : Arrays) where
   -- a row refuses
-  pub refused-build : {r : Refusal} → Refuses r (firstRow (buildRows l a)) → left (refusal (numberOf r) (positionOf r)) a ≡ buildOf l a
-  refused-build x = ap (λ (z : Reason). left (refusal (z .number) (z .position)) a) (x .told) ∙ sym (build-refusal l a _ (x .some) refl)
+  pub refused-build : {r : Refusal} → Refuses r (firstRow (buildRows l a)) → left (refusal (numberOf r) (positionOf r)) a ≡ buildOf mode l a
+  refused-build x = ap (λ (z : Reason). left (refusal (z .number) (z .position)) a) (x .told) ∙ sym (build-refusal mode l a _ (x .some) refl)
 
   -- none: the record, the three arrays filled up to Q, and the index
-  pub passed-build : firstRow (buildRows l a) ≡ 0 → (t : Table) (f u c i : List ℕ) → t ≡ recordOf l
-      → f ≡ filledTo (printsOf l) (l .entries) (l .qubits) (a .prints)
-      → u ≡ filledTo (parentsOf l) (l .entries) (l .qubits) (a .parents)
-      → c ≡ filledTo (codesOf l) (l .entries) (l .qubits) (a .codes)
-      → i ≡ indexTo l (a .by) (l .qubits) (a .index)
-      → left (table t) (arraysBy (a .by) f u c i) ≡ buildOf l a
-  passed-build e t f u c i et ef eu ec ei = rw (et, ef, eu, ec, ei) (sym (build-fills l a e))
+  pub passed-build : firstRow (buildRows l a) ≡ 0 → (t : Table) (f u c i : List ℕ) → t ≡ recordOf mode l
+      → f ≡ filledTo (printsOf mode l) (l .entries) (l .qubits) (a .prints)
+      → u ≡ filledTo (parentsOf mode l) (l .entries) (l .qubits) (a .parents)
+      → c ≡ filledTo (codesOf mode l) (l .entries) (l .qubits) (a .codes)
+      → i ≡ indexTo mode l (a .by) (l .qubits) (a .index)
+      → left (table t) (arraysBy (a .by) f u c i) ≡ buildOf mode l a
+  passed-build e t f u c i et ef eu ec ei = rw (et, ef, eu, ec, ei) (sym (build-fills mode l a e))
 
 -- an index of no places is none
 no-places : (i : List ℕ) → length i ≡ 0 → i ≡ []
 no-places [] e = refl
 no-places (x ∷ i) e = absurd (omega (arith, e))
 
-pub no-index : (l : Limits) (a : Arrays) (f u c i : List ℕ) {r : BuildReply} → length i ≡ 0 → left r (arraysBy scan f u c i) ≡ buildOf l a
-    → left r (arrays f u c) ≡ buildOf l a
-no-index l a f u c i {r} e h = ap (λ (z : List ℕ). left r (arraysBy scan f u c z)) (sym (no-places i e)) ∙ h
+pub no-index : (mode : Mode) (l : Limits) (a : Arrays) (f u c i : List ℕ) {r : BuildReply} → length i ≡ 0 → left r (arraysBy scan f u c i) ≡ buildOf mode l a
+    → left r (arrays f u c) ≡ buildOf mode l a
+no-index mode l a f u c i {r} e h = ap (λ (z : List ℕ). left r (arraysBy scan f u c z)) (sym (no-places i e)) ∙ h
 
 -- ---- a fill
 

@@ -1,7 +1,9 @@
 -- The demands hold of what the public entries answer. Assumes nothing.
+use Rattle.walk.proofs.Meaning.{find-rule}
 use Rattle.tables.proofs.Demand2.{demand-2}
 use Rattle.tables.proofs.Demand3.{demand, beside}
 use Rattle.tables.proofs.FindWrite.{find-write}
+use Rattle.tables.proofs.AnswerRule.{answer-rule}
 use Rattle.tables.proofs.EitherLookup.{either-lookup}
 use Rattle.tables.proofs.Exactly.{exactly}
 use Rattle.murm.specs.Demands.{Demands}
@@ -14,4 +16,6 @@ demands = record {
   apart = find-write;
   either = either-lookup;
   beside = beside;
+  rule = find-rule;
+  answers = answer-rule;
 }

@@ -1,6 +1,7 @@
 // The public entries: none asks anything of its caller, and each decides every input (SPECIFICATION 8.1). murm.rs of the original:
 // `library_circuit_matrix`, `Murm::build`, `Murm::synthesize`; matrix.rs: `unitary_fingerprint`. `find` and `write` are the parts of `synthesize`.
-// The entries that end in `_by` take how nodes are looked up, and an index for it; those without are by the scan.
+// The entries that end in `_by` take how nodes are looked up, and an index for it; those without are by the scan. `build_by` takes a mode too; `build`
+// is by the fingerprint.
 ghost use mathlib.Core.Path.{_≡_};
 ghost use mathlib.Core.Bool.{false, _&&_};
 ghost use Prim.Native.Nat.{_+_, _*_, _^_, _≤_, _<_};
@@ -15,7 +16,9 @@ ghost use Rattle.walk.specs.Answers.{outcome as replied};
 ghost use Rattle.tables.specs.Checks.{firstRow, queryRows, arrays, arraysBy, roomRow};
 ghost use Rattle.tables.specs.Tables.{left, buildOf, fillLeft, fillOf, query, recordRow, countAt, foundIn, writtenIn, synthesized};
 ghost use Rattle.walk.specs.Index.{indexed};
+ghost use Rattle.walk.specs.Modes.{byPrint};
 ghost use Rattle.index.specs.Told.{toldBy};
+ghost use Rattle.known.specs.Known.{toldMode};
 ghost use Rattle.tables.proofs.Asked.{partFound};
 ghost use Rattle.refusal.specs.Told.{toldCheck};
 ghost use Rattle.murm_config.specs.Told.{toldConfig, toldMurm};
@@ -27,6 +30,7 @@ use cyclotomic::Coefficient;
 use cyclotomic::LIMIT;
 use cyclotomic::Wide;
 use index::LookupBy;
+use known::BuildMode;
 use lists::Walked;
 use murm_config::Murm;
 use murm_config::MurmConfig;
@@ -174,9 +178,10 @@ pub enum Building {
     Refused(Refusal),
 }
 
-// A table is built (SPECIFICATION, chapter 6): rows 1, 2, 3, 4, 5, 17. A refusal leaves the three arrays and the index as they were; else widths 1
+// A table is built in a mode (SPECIFICATION, chapter 6): rows 1, 2, 3, 4, 5, 17. A refusal leaves the three arrays and the index as they were; else widths 1
 // to Q are filled, and all other places keep what they held. By the index, each part is cleared and kept up: it is left as `fill_index` would.
 pub fn build_by(
+    mode: BuildMode,
     by: LookupBy,
     config: MurmConfig,
     fingerprints: &mut [u64],
@@ -186,7 +191,7 @@ pub fn build_by(
 ) -> Building
     ensures { λ r. ⌜ left (toldBuilding r)
         (arraysBy (toldBy by) (now (fingerprints .exit)) (now (parents .exit)) (now (codes .exit)) (now (index .exit)))
-        ≡ buildOf (toldConfig config)
+        ≡ buildOf (toldMode mode) (toldConfig config)
         (arraysBy (toldBy by) (now (fingerprints .entry)) (now (parents .entry)) (now (codes .entry)) (now (index .entry))) ⌝ }
 {
     match murm_config::check_build(
@@ -198,14 +203,22 @@ pub fn build_by(
         index.len(),
     ) {
         Check::Passed => {
-            let table = murm_widths::build_widths(by, config, fingerprints, parents, codes, index);
+            let table = murm_widths::build_widths(
+                mode,
+                by,
+                config,
+                fingerprints,
+                parents,
+                codes,
+                index,
+            );
             Building::Table(table)
         }
         Check::Refused(r) => Building::Refused(r),
     }
 }
 
-// The same by the scan.
+// The same where a fingerprint alone makes known, by the scan.
 pub fn build(
     config: MurmConfig,
     fingerprints: &mut [u64],
@@ -213,10 +226,11 @@ pub fn build(
     codes: &mut [u32],
 ) -> Building
     ensures { λ r. ⌜ left (toldBuilding r) (arrays (now (fingerprints .exit)) (now (parents .exit)) (now (codes .exit)))
-        ≡ buildOf (toldConfig config) (arrays (now (fingerprints .entry)) (now (parents .entry)) (now (codes .entry))) ⌝ }
+        ≡ buildOf byPrint (toldConfig config) (arrays (now (fingerprints .entry)) (now (parents .entry)) (now (codes .entry))) ⌝ }
 {
     let mut none: [u32; 1] = [0; 1];
     build_by(
+        BuildMode::ByPrint,
         LookupBy::Scan,
         config,
         fingerprints,
@@ -461,7 +475,7 @@ fn find_passed(
     ))
 }
 
-// The node that answers a matrix is found (SPECIFICATION 7.10): 13 of the record, then 5, 17, 6, 9, 10, 11, then 13 of the chain found.
+// The node that answers a matrix is found (SPECIFICATION 7.10): 13 of the record, then 5, 17, 6, 9, 10, 11, then 13 of a chain that is met.
 pub fn find_by(
     by: LookupBy,
     table: Murm,

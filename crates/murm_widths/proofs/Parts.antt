@@ -6,6 +6,7 @@ use native.Mathlib.Omega.{arith}
 use lib.ListN.{length, getD, take, drop, length-map, List·getD-append}
 use borrow.Rule.Slice.PartMut.{midOf, putMid}
 use Rattle.ints.specs.Lists.{over}
+use Rattle.walk.specs.Modes.{Mode}
 use Rattle.walk.specs.Index.{By, kept}
 use Rattle.walk.proofs.Indexed.{kept-cong}
 use Rattle.walk.specs.Walk.{Node, Build, gate}
@@ -37,29 +38,29 @@ row-is r b p q s = rw (p, q, s)
 
 -- ---- the three arrays, the parts of a width lent to its build
 
-module _ (l : Limits) (w a n count : ℕ) (same : count ≡ length (walkOf l w .nodes)) (xs ys : List ℕ) where
-  pub prints-back : Column (printOf w) (midOf a (a + n - a) xs) (walkOf l w .nodes) ys count
-      → putMid a (a + n - a) xs ys ≡ within a n (over (printsOf l w)) xs
+module _ (mode : Mode) (l : Limits) (w a n count : ℕ) (same : count ≡ length (walkOf mode l w .nodes)) (xs ys : List ℕ) where
+  pub prints-back : Column (printOf w) (midOf a (a + n - a) xs) (walkOf mode l w .nodes) ys count
+      → putMid a (a + n - a) xs ys ≡ within a n (over (printsOf mode l w)) xs
   unfolding printsOf
-  prints-back c = part-back a n (over (printsOf l w)) xs ys (column-over _ _ _ _ _ same c)
+  prints-back c = part-back a n (over (printsOf mode l w)) xs ys (column-over _ _ _ _ _ same c)
 
-  pub parents-back : Column parentOf (midOf a (a + n - a) xs) (walkOf l w .nodes) ys count
-      → putMid a (a + n - a) xs ys ≡ within a n (over (parentsOf l w)) xs
+  pub parents-back : Column parentOf (midOf a (a + n - a) xs) (walkOf mode l w .nodes) ys count
+      → putMid a (a + n - a) xs ys ≡ within a n (over (parentsOf mode l w)) xs
   unfolding parentsOf
-  parents-back c = part-back a n (over (parentsOf l w)) xs ys (column-over _ _ _ _ _ same c)
+  parents-back c = part-back a n (over (parentsOf mode l w)) xs ys (column-over _ _ _ _ _ same c)
 
-  pub codes-back : Column gate (midOf a (a + n - a) xs) (walkOf l w .nodes) ys count
-      → putMid a (a + n - a) xs ys ≡ within a n (over (codesOf l w)) xs
+  pub codes-back : Column gate (midOf a (a + n - a) xs) (walkOf mode l w .nodes) ys count
+      → putMid a (a + n - a) xs ys ≡ within a n (over (codesOf mode l w)) xs
   unfolding codesOf
-  codes-back c = part-back a n (over (codesOf l w)) xs ys (column-over _ _ _ _ _ same c)
+  codes-back c = part-back a n (over (codesOf mode l w)) xs ys (column-over _ _ _ _ _ same c)
 
   -- the part of the index, where those of the fingerprints hold the width's column
-  pub index-back : (by : By) (f0 f : List ℕ) → Column (printOf w) f0 (walkOf l w .nodes) f count → ys ≡ kept by f count (midOf a (a + n - a) xs)
-      → putMid a (a + n - a) xs ys ≡ within a n (kept by (printsOf l w) (length (walkOf l w .nodes))) xs
+  pub index-back : (by : By) (f0 f : List ℕ) → Column (printOf w) f0 (walkOf mode l w .nodes) f count → ys ≡ kept by f count (midOf a (a + n - a) xs)
+      → putMid a (a + n - a) xs ys ≡ within a n (kept by (printsOf mode l w) (length (walkOf mode l w .nodes))) xs
   unfolding printsOf
   index-back by f0 f c e =
-      let ns = walkOf l w .nodes in
-      part-back a n (kept by (printsOf l w) (length ns)) xs ys
+      let ns = walkOf mode l w .nodes in
+      part-back a n (kept by (printsOf mode l w) (length ns)) xs ys
       (e ∙ kept-cong by f (map (printOf w) ns) (midOf a (a + n - a) xs) count
       (λ v h. ap (λ (z : List ℕ). getD z v 0) (c .is) ∙ List·getD-append (map (printOf w) ns) (drop count f0) 0 v (omega (arith, same, length-map ns (printOf w))))
       ∙ ap (λ (k : ℕ). kept by (map (printOf w) ns) k (midOf a (a + n - a) xs)) same)

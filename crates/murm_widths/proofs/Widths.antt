@@ -7,6 +7,7 @@ use native.Mathlib.Omega.{arith}
 use lib.Dec.{ltb}
 use lib.ListN.{length}
 use Rattle.ints.specs.Lists.{pick}
+use Rattle.walk.specs.Modes.{Mode}
 use Rattle.tables.specs.Checks.{Limits, limitsOf}
 use Rattle.tables.specs.Tables.{Width, Table, notBuilt, allWidths, walkOf, widthOf, recordOf, printsOf, parentsOf, codesOf, within, partsTo}
 use Rattle.murm_config.specs.Told.{emptyOf, withWidth}
@@ -14,31 +15,31 @@ use Rattle.murm_config.specs.Told.{emptyOf, withWidth}
 -- ---- the record
 
 -- the record after widths 1 to v were built
-unfoldable pub recordTo : Limits → ℕ → Table
-recordTo l v = record { limits = l; widths = map (λ (w : ℕ). pick (ltb v w) notBuilt (widthOf (walkOf l w))) allWidths }
+unfoldable pub recordTo : Mode → Limits → ℕ → Table
+recordTo mode l v = record { limits = l; widths = map (λ (w : ℕ). pick (ltb v w) notBuilt (widthOf (walkOf mode l w))) allWidths }
 
-pub record-none : (l : Limits) → emptyOf l ≡ recordTo l 0
+pub record-none : (mode : Mode) (l : Limits) → emptyOf l ≡ recordTo mode l 0
 unfolding recordTo
-record-none l = refl
+record-none mode l = refl
 
-one-more : (l : Limits) (v : ℕ) → v < 5 → withWidth (recordTo l v) (v + 1) (widthOf (walkOf l (v + 1))) ≡ recordTo l (v + 1)
+one-more : (mode : Mode) (l : Limits) (v : ℕ) → v < 5 → withWidth (recordTo mode l v) (v + 1) (widthOf (walkOf mode l (v + 1))) ≡ recordTo mode l (v + 1)
 unfolding recordTo
-one-more l zero h = refl
-one-more l (suc zero) h = refl
-one-more l (suc (suc zero)) h = refl
-one-more l (suc (suc (suc zero))) h = refl
-one-more l (suc (suc (suc (suc zero)))) h = refl
-one-more l (suc (suc (suc (suc (suc v))))) h = absurd (omega arith)
+one-more mode l zero h = refl
+one-more mode l (suc zero) h = refl
+one-more mode l (suc (suc zero)) h = refl
+one-more mode l (suc (suc (suc zero))) h = refl
+one-more mode l (suc (suc (suc (suc zero)))) h = refl
+one-more mode l (suc (suc (suc (suc (suc v))))) h = absurd (omega arith)
 
 -- the row of width v + 1 is stored
-pub record-more : (l : Limits) (v : ℕ) (t : Table) (x : Width) → v < 5 → t ≡ recordTo l v → x ≡ widthOf (walkOf l (v + 1))
-    → withWidth t (v + 1) x ≡ recordTo l (v + 1)
-record-more l v t x h e f =
-    ap (λ (z : Table). withWidth z (v + 1) x) e ∙ (ap (withWidth (recordTo l v) (v + 1)) f ∙ one-more l v h)
+pub record-more : (mode : Mode) (l : Limits) (v : ℕ) (t : Table) (x : Width) → v < 5 → t ≡ recordTo mode l v → x ≡ widthOf (walkOf mode l (v + 1))
+    → withWidth t (v + 1) x ≡ recordTo mode l (v + 1)
+record-more mode l v t x h e f =
+    ap (λ (z : Table). withWidth z (v + 1) x) e ∙ (ap (withWidth (recordTo mode l v) (v + 1)) f ∙ one-more mode l v h)
 
-pub record-all : (l m : Limits) (v : ℕ) (t : Table) → l ≡ m → v ≡ m .qubits → t ≡ recordTo l v → t ≡ recordOf m
+pub record-all : (mode : Mode) (l m : Limits) (v : ℕ) (t : Table) → l ≡ m → v ≡ m .qubits → t ≡ recordTo mode l v → t ≡ recordOf mode m
 unfolding recordTo recordOf
-record-all l m v t e f h = h ∙ (ap (λ (z : Limits). recordTo z v) e ∙ ap (recordTo m) f)
+record-all mode l m v t e f h = h ∙ (ap (λ (z : Limits). recordTo mode z v) e ∙ ap (recordTo mode m) f)
 
 -- ---- an array, or the index, whose parts of n places are worked by the g of their width
 
@@ -64,15 +65,15 @@ done-all g g′ n v q old xs e f p =
 
 -- ---- the width limit plays no part in a width's column
 
-module _ (l : Limits) (w : ℕ) where
-  pub prints-same : printsOf (limitsOf 0 (l .gates) (l .entries) (l .basis)) w ≡ printsOf l w
+module _ (mode : Mode) (l : Limits) (w : ℕ) where
+  pub prints-same : printsOf mode (limitsOf 0 (l .gates) (l .entries) (l .basis)) w ≡ printsOf mode l w
   unfolding printsOf
   prints-same = refl
 
-  pub parents-same : parentsOf (limitsOf 0 (l .gates) (l .entries) (l .basis)) w ≡ parentsOf l w
+  pub parents-same : parentsOf mode (limitsOf 0 (l .gates) (l .entries) (l .basis)) w ≡ parentsOf mode l w
   unfolding parentsOf
   parents-same = refl
 
-  pub codes-same : codesOf (limitsOf 0 (l .gates) (l .entries) (l .basis)) w ≡ codesOf l w
+  pub codes-same : codesOf mode (limitsOf 0 (l .gates) (l .entries) (l .basis)) w ≡ codesOf mode l w
   unfolding codesOf
   codes-same = refl

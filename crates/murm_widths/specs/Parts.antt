@@ -4,6 +4,7 @@ use mathlib.Core.List.{List}
 use Prim.Native.Nat.{ℕ, _+_, _*_}
 use lib.ListN.{length}
 use Rattle.ints.specs.Lists.{over}
+use Rattle.walk.specs.Modes.{Mode}
 use Rattle.walk.specs.Index.{By, kept}
 use Rattle.width_table.specs.declared.WidthTable.{WidthTable}
 use Rattle.tables.specs.Checks.{limitsOf}
@@ -13,10 +14,10 @@ use Rattle.murm_config.specs.Told.{toldWidth}
 -- The row r is that of width v + 1, and each array holds the width's column in the E places from v × E on; its other places keep what they held
 -- (SPECIFICATION 6.2, 6.11); and so it is with the width's `size` places of the index, which go with its nodes (7.14). f, u, c are the arrays of
 -- fingerprints, parents and codes and i the index before, f′, u′, c′, i′ after. The width limit, 0 here, plays no part in a width's walk
-pub record PartBuilt (by : By) (v gates entries basis size : ℕ) (f u c i f′ u′ c′ i′ : List ℕ) (r : WidthTable) : Type 0 where
-  pub row : toldWidth r ≡ widthOf (walkOf (limitsOf 0 gates entries basis) (v + 1))
-  pub prints : f′ ≡ within (v * entries) entries (over (printsOf (limitsOf 0 gates entries basis) (v + 1))) f
-  pub parents : u′ ≡ within (v * entries) entries (over (parentsOf (limitsOf 0 gates entries basis) (v + 1))) u
-  pub codes : c′ ≡ within (v * entries) entries (over (codesOf (limitsOf 0 gates entries basis) (v + 1))) c
+pub record PartBuilt (mode : Mode) (by : By) (v gates entries basis size : ℕ) (f u c i f′ u′ c′ i′ : List ℕ) (r : WidthTable) : Type 0 where
+  pub row : toldWidth r ≡ widthOf (walkOf mode (limitsOf 0 gates entries basis) (v + 1))
+  pub prints : f′ ≡ within (v * entries) entries (over (printsOf mode (limitsOf 0 gates entries basis) (v + 1))) f
+  pub parents : u′ ≡ within (v * entries) entries (over (parentsOf mode (limitsOf 0 gates entries basis) (v + 1))) u
+  pub codes : c′ ≡ within (v * entries) entries (over (codesOf mode (limitsOf 0 gates entries basis) (v + 1))) c
   pub index : i′ ≡ within (v * size) size
-      (kept by (printsOf (limitsOf 0 gates entries basis) (v + 1)) (length (walkOf (limitsOf 0 gates entries basis) (v + 1) .nodes))) i
+      (kept by (printsOf mode (limitsOf 0 gates entries basis) (v + 1)) (length (walkOf mode (limitsOf 0 gates entries basis) (v + 1) .nodes))) i

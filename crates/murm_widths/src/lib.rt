@@ -10,9 +10,11 @@ ghost use Rattle.walk.specs.Index.{indexed, kept};
 ghost use Rattle.tables.specs.Tables.{recordOf, printsOf, parentsOf, codesOf, filledTo, indexTo, recordRow, countAt, within, filledIndex};
 ghost use Rattle.tables.specs.Checks.{placesOf, arraysBy, indexRow};
 ghost use Rattle.index.specs.Told.{toldBy};
+ghost use Rattle.known.specs.Known.{toldMode};
 ghost use Rattle.murm_config.specs.Told.{toldConfig, toldMurm};
 ghost use Rattle.murm_widths.specs.Parts.{PartBuilt};
 use index::LookupBy;
+use known::BuildMode;
 use murm_config::Murm;
 use murm_config::MurmConfig;
 use synthesis_arena::WidthLimits;
@@ -20,6 +22,7 @@ use width_table::WidthTable;
 
 // The part of width v + 1, with its `size` places of the index.
 fn build_part(
+    mode: BuildMode,
     by: LookupBy,
     v: u32,
     gates: u32,
@@ -35,7 +38,7 @@ fn build_part(
     requires room { ⌜ (v * entries + entries ≤ length (now fingerprints)) × (v * entries + entries ≤ length (now parents))
         × (v * entries + entries ≤ length (now codes)) ⌝ }
     requires index { ⌜ (v * size + size ≤ length (now index)) × (toldBy by ≡ indexed → entries ≤ size) ⌝ }
-    ensures built { λ r. ⌜ PartBuilt (toldBy by) v gates entries basis size
+    ensures built { λ r. ⌜ PartBuilt (toldMode mode) (toldBy by) v gates entries basis size
         (now (fingerprints .entry)) (now (parents .entry)) (now (codes .entry)) (now (index .entry))
         (now (fingerprints .exit)) (now (parents .exit)) (now (codes .exit)) (now (index .exit)) r ⌝ }
 {
@@ -50,6 +53,7 @@ fn build_part(
         entries: e,
     };
     width_table::build_width(
+        mode,
         by,
         limits,
         &mut fingerprints[a..end],
@@ -61,6 +65,7 @@ fn build_part(
 
 // The widths 1 to Q, one after the other.
 pub fn build_widths(
+    mode: BuildMode,
     by: LookupBy,
     config: MurmConfig,
     fingerprints: &mut [u64],
@@ -73,15 +78,16 @@ pub fn build_widths(
     requires room { ⌜ (placesOf (toldConfig config) ≤ length (now fingerprints)) × (placesOf (toldConfig config) ≤ length (now parents))
         × (placesOf (toldConfig config) ≤ length (now codes)) ⌝ }
     requires index { ⌜ indexRow (toldConfig config) (toldBy by) (length (now index)) .holds ≡ false ⌝ }
-    ensures rows { λ r. ⌜ toldMurm r ≡ recordOf (toldConfig config) ⌝ }
-    ensures fingerprints { λ _. ⌜ now (fingerprints .exit) ≡ filledTo (printsOf (toldConfig config)) (config .«max_entries_per_qubit»)
+    ensures rows { λ r. ⌜ toldMurm r ≡ recordOf (toldMode mode) (toldConfig config) ⌝ }
+    ensures fingerprints { λ _. ⌜ now (fingerprints .exit) ≡ filledTo (printsOf (toldMode mode) (toldConfig config)) (config .«max_entries_per_qubit»)
         (config .«max_qubits») (now (fingerprints .entry)) ⌝ }
-    ensures parents { λ _. ⌜ now (parents .exit) ≡ filledTo (parentsOf (toldConfig config)) (config .«max_entries_per_qubit»)
+    ensures parents { λ _. ⌜ now (parents .exit) ≡ filledTo (parentsOf (toldMode mode) (toldConfig config)) (config .«max_entries_per_qubit»)
         (config .«max_qubits») (now (parents .entry)) ⌝ }
-    ensures codes { λ _. ⌜ now (codes .exit) ≡ filledTo (codesOf (toldConfig config)) (config .«max_entries_per_qubit»)
+    ensures codes { λ _. ⌜ now (codes .exit) ≡ filledTo (codesOf (toldMode mode) (toldConfig config)) (config .«max_entries_per_qubit»)
         (config .«max_qubits») (now (codes .entry)) ⌝ }
-    ensures index { λ _. ⌜ now (index .exit) ≡ indexTo (toldConfig config) (toldBy by) (config .«max_qubits») (now (index .entry)) ⌝ }
+    ensures index { λ _. ⌜ now (index .exit) ≡ indexTo (toldMode mode) (toldConfig config) (toldBy by) (config .«max_qubits») (now (index .entry)) ⌝ }
 {
+    let how = mode;
     let lookup = by;
     let q = config.max_qubits;
     let g = config.max_gates;
@@ -92,6 +98,7 @@ pub fn build_widths(
     let mut v = 0;
     while v < q {
         let row = build_part(
+            how,
             lookup,
             v,
             g,

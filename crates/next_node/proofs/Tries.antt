@@ -1,36 +1,42 @@
 -- One candidate: what the arrays hold after it, in each of the code's cases. Assumes nothing.
 use mathlib.Core.Path.{_≡_, refl, sym, ap, _∙_, subst}
-use mathlib.Core.Logic.{⊎-elim}
 use mathlib.Core.Bool.{Bool, true, false, _||_, _&&_}
 use mathlib.Core.List.{List, [], _∷_, _++_}
 use Prim.Native.Nat.{ℕ, zero, suc, _+_, _≤_, _<_}
 use native.Mathlib.Numerals.{add-one}
 use native.Mathlib.Omega.{arith}
-use borrow.Author.Tests.{lt-ltb, le-ltb, eq-eqb, eqb-true}
+use borrow.Author.Tests.{lt-ltb, le-ltb}
 use lib.Dec.{ltb}
 use lib.ListN.{length, getD, set}
 use Rattle.circuit.specs.Codes.{mark}
 use Rattle.circuit.specs.Pairs.{inverse, disjoint}
+use Rattle.exact.specs.Matrix.{Exact}
+use Rattle.exact.proofs.Words.{Equal}
 use Rattle.exact.specs.Fingerprint.{fingerprint}
 use Rattle.walk.specs.Lookup.{lowestFrom}
 use Rattle.walk.specs.Index.{By, lookedUp, keptUp, kept}
-use Rattle.walk.specs.Meaning.{LowestNode, Nowhere}
+use Rattle.walk.specs.Modes.{Mode}
+use Rattle.walk.specs.Finds.{Part, partWith}
 use Rattle.walk.specs.Walk.{Node, State, any, root, gate, listAt, prod, pruned, knows, candidate, skipped, child, try}
 use Rattle.walk.proofs.Grown.{parentAt}
-use Rattle.walk.specs.AtWidth.{samePrint, printOf}
+use Rattle.walk.specs.AtWidth.{printOf}
 use Rattle.walk.proofs.Laws.{fitsBy}
 use Rattle.walk.proofs.Grown.{Link}
 use Rattle.walk.proofs.Nodes.{first, link}
 use Rattle.walk.proofs.Candidates.{filled, grownBy}
 use Rattle.walk.proofs.Exactly.{print-is}
 use Rattle.walk.proofs.Indexed.{kept-looks-up, kept-more, kept-length}
-use Rattle.walk.proofs.Sequences.{bool, any-true, any-at, length-snoc}
+use Rattle.walk.proofs.Sequences.{length-snoc}
+use Rattle.walk.proofs.Holding.{Holding}
+use Rattle.synthesis_arena.specs.Limits.{toldLimits}
+use Rattle.known.specs.Known.{isKnown}
+use Rattle.known.proofs.Known.{known-alike, known-any}
 use Rattle.synthesis_arena.specs.declared.WidthLimits.{WidthLimits}
 use Rattle.next_node.specs.Arrays.{rules, unsaturated, Column, Long, Room, Live, After}
 use Rattle.next_node.specs.Append.{prunedAt}
 use Rattle.next_node.proofs.Columns.{column-at, column-length, column-snoc}
 
-module _ {by : By} {lim : WidthLimits} {f u c i : List ℕ} {count k top : ℕ} (h : Live by lim f u c i count k top) where
+module _ {mode : Mode} {by : By} {lim : WidthLimits} {f u c i : List ℕ} {count k top : ℕ} (h : Live mode by lim f u c i count k top) where
   pub live-count : count ≤ lim .entries
   live-count = omega (arith, h .few, h .columns .count-is)
 
@@ -44,14 +50,22 @@ module _ {by : By} {lim : WidthLimits} {f u c i : List ℕ} {count k top : ℕ} 
         in-i = λ e. omega (arith, ap length (h .columns .index), kept-length by f (h .i0) count, h .long .in-i e);
       }
 
-  pub live-room : k < count → lim .entries ≤ 1000000 → Room by lim count k f u c i
-  live-room l b = record { few = live-count; there = l; most = b; long = live-long }
+  pub live-room : k < count → lim .width ≤ 5 → lim .gates ≤ 64 → lim .entries ≤ 1000000 → Room by lim count k f u c i
+  live-room l n g b = record { narrow = n; short = g; few = live-count; there = l; most = b; long = live-long }
 
   -- either look-up finds the lowest node with the fingerprint
-  pub live-looks : lim .entries ≤ 1000000 → (y : ℕ) → lookedUp by i f count 0 y ≡ lowestFrom f count 0 y
-  live-looks b y =
-      ap (λ (x : List ℕ). lookedUp by x f count 0 y) (h .columns .index)
-      ∙ kept-looks-up by f (h .i0) count 0 y (λ e. (omega (arith, live-count, h .long .in-i e), omega (arith, live-count)))
+  pub live-looks : lim .entries ≤ 1000000 → (from y : ℕ) → lookedUp by i f count from y ≡ lowestFrom f count from y
+  live-looks b from y =
+      ap (λ (x : List ℕ). lookedUp by x f count from y) (h .columns .index)
+      ∙ kept-looks-up by f (h .i0) count from y (λ e. (omega (arith, live-count, h .long .in-i e), omega (arith, live-count)))
+
+  -- the arrays hold the nodes
+  pub live-holds : Holding (lim .width) (h .ns) f u c
+  live-holds = record {
+    prints = column-at (h .columns .prints) (h .columns .count-is);
+    parents = column-at (h .columns .parents) (h .columns .count-is);
+    codes = column-at (h .columns .gates) (h .columns .count-is);
+  }
 
   -- a node's gate and parent, by the arrays
   pub gate-at : (j : ℕ) → j < count → getD c j 0 ≡ gate (getD (h .ns) j root)
@@ -60,73 +74,57 @@ module _ {by : By} {lim : WidthLimits} {f u c i : List ℕ} {count k top : ℕ} 
   pub parent-at : (j : ℕ) → j < count → getD u j 0 ≡ parentAt (h .ns) j
   parent-at j l = column-at (h .columns .parents) (h .columns .count-is) j (omega (arith, h .columns .count-is))
 
-  pub pruned-is : (g j : ℕ) → j < count → prunedAt c j g ≡ pruned (rules lim) g (listAt (h .ns) j)
-  pruned-is g zero l = sym (ap (λ (v : Node). pruned (rules lim) g (v .list)) (first (rules lim) (h .grown) .1))
+  pub pruned-is : (g j : ℕ) → j < count → prunedAt c j g ≡ pruned (rules mode lim) g (listAt (h .ns) j)
+  pruned-is g zero l = sym (ap (λ (v : Node). pruned (rules mode lim) g (v .list)) (first (rules mode lim) (h .grown) .1))
   pruned-is g (suc j) l =
-      let i : Link (rules lim) (h .ns) (suc j) (getD (h .ns) (suc j) root) = link (rules lim) (h .grown) (suc j) (omega (arith, h .columns .count-is)) (omega arith) in
+      let i : Link (rules mode lim) (h .ns) (suc j) (getD (h .ns) (suc j) root) = link (rules mode lim) (h .grown) (suc j) (omega (arith, h .columns .count-is)) (omega arith) in
       let e : getD c (suc j) 0 ≡ i .code = gate-at (suc j) l ∙ ap (λ (z : List ℕ). getD z 0 mark) (i .is) in
-      ap (λ (z : ℕ). inverse g z || (disjoint g z && ltb g z)) e ∙ sym (ap (pruned (rules lim) g) (i .is))
+      ap (λ (z : ℕ). inverse g z || (disjoint g z && ltb g z)) e ∙ sym (ap (pruned (rules mode lim) g) (i .is))
 
   module _ (g : ℕ) where
     abbrev R-pruned : Bool
-    R-pruned = pruned (rules lim) g (listAt (h .ns) k)
+    R-pruned = pruned (rules mode lim) g (listAt (h .ns) k)
 
     abbrev R-fits : Bool
-    R-fits = fitsBy (lim .width) g (prod (rules lim) (listAt (h .ns) k))
+    R-fits = fitsBy (lim .width) g (prod (rules mode lim) (listAt (h .ns) k))
 
-    pub skip-pruned : R-pruned ≡ true → skipped (rules lim) (h .ns) k g ≡ true
+    pub skip-pruned : R-pruned ≡ true → skipped (rules mode lim) (h .ns) k g ≡ true
     unfolding skipped
     skip-pruned e = rw e
 
-    pub skip-unfit : R-pruned ≡ false → R-fits ≡ false → skipped (rules lim) (h .ns) k g ≡ true
+    pub skip-unfit : R-pruned ≡ false → R-fits ≡ false → skipped (rules mode lim) (h .ns) k g ≡ true
     unfolding skipped
     skip-unfit e q = rw (e, q)
 
-    skip-by : R-pruned ≡ false → R-fits ≡ true → (b : Bool) → any (knows (rules lim) (candidate (rules lim) (h .ns) k g)) (h .ns) ≡ b
-        → skipped (rules lim) (h .ns) k g ≡ b
+    skip-by : R-pruned ≡ false → R-fits ≡ true → (b : Bool) → any (knows (rules mode lim) (candidate (rules mode lim) (h .ns) k g)) (h .ns) ≡ b
+        → skipped (rules mode lim) (h .ns) k g ≡ b
     unfolding skipped
     skip-by e q b t = rw (e, q) t
 
-    module _ (y : ℕ) (ey : y ≡ fingerprint (lim .width) (candidate (rules lim) (h .ns) k g)) where
-      known-at : (j : ℕ) → j < count → getD f j 0 ≡ y → knows (rules lim) (candidate (rules lim) (h .ns) k g) (getD (h .ns) j root) ≡ true
-      unfolding samePrint
-      known-at j l e =
-          eq-eqb _ _ (sym (column-at (h .columns .prints) (h .columns .count-is) j (omega (arith, h .columns .count-is)) ∙ print-is (lim .width) (lim .basis) (getD (h .ns) j root)) ∙ e ∙ ey)
+    module _ (y : ℕ) (ey : y ≡ fingerprint (lim .width) (candidate (rules mode lim) (h .ns) k g)) where
+      -- known is what the walk's rule says, in each mode
+      pub skip-known : R-pruned ≡ false → R-fits ≡ true → Room by lim count k f u c i → {x : Exact} → Equal (lim .width) x (candidate (rules mode lim) (h .ns) k g)
+          → skipped (rules mode lim) (h .ns) k g ≡ isKnown mode (toldLimits lim) (partWith by f u c count i) y x
+      skip-known e q room {x} same =
+          let part : Part = partWith by f u c count i in
+          let z : Exact = candidate (rules mode lim) (h .ns) k g in
+          skip-by e q (isKnown mode (toldLimits lim) part y x)
+          (sym (known-alike (toldLimits lim) part y same mode ∙ ap (λ (v : ℕ). isKnown mode (toldLimits lim) part v z) ey
+          ∙ known-any (toldLimits lim) (room .narrow) part z (live-looks (room .most)) mode (h .grown)
+          (λ j l. omega (arith, h .short j l, h .deep)) (h .columns .count-is) live-holds))
 
-      at-known : (j : ℕ) → j < count → knows (rules lim) (candidate (rules lim) (h .ns) k g) (getD (h .ns) j root) ≡ true → getD f j 0 ≡ y
-      unfolding samePrint
-      at-known j l e =
-          column-at (h .columns .prints) (h .columns .count-is) j (omega (arith, h .columns .count-is)) ∙ print-is (lim .width) (lim .basis) (getD (h .ns) j root) ∙ eqb-true _ _ e ∙ sym ey
-
-      pub skip-found : R-pruned ≡ false → R-fits ≡ true → (j : ℕ) → LowestNode f count 0 y j → skipped (rules lim) (h .ns) k g ≡ true
-      skip-found e q j w =
-          skip-by e q true (any-at (knows (rules lim) (candidate (rules lim) (h .ns) k g)) root (h .ns) j
-          (omega (arith, w .below, h .columns .count-is)) (known-at j (w .below) (w .has)))
-
-      pub skip-not : R-pruned ≡ false → R-fits ≡ true → Nowhere f count 0 y → skipped (rules lim) (h .ns) k g ≡ false
-      skip-not e q w = skip-by e q false (⊎-elim (λ (t : found ≡ true). none t) (λ (t : found ≡ false). t) (bool found))
-        where
-          found : Bool
-          found = any (knows (rules lim) (candidate (rules lim) (h .ns) k g)) (h .ns)
-
-          none : found ≡ true → found ≡ false
-          none t =
-              let r = any-true (knows (rules lim) (candidate (rules lim) (h .ns) k g)) root (h .ns) t in
-              let l : r .0 < count = omega (arith, r .1, h .columns .count-is) in
-              absurd (w .none-has (r .0) (omega arith) l (at-known (r .0) l (r .2)))
-
-      pub grow : {i′ : List ℕ} → skipped (rules lim) (h .ns) k g ≡ false → count < lim .entries → i′ ≡ keptUp by i y count
-          → After by lim (h .f0) (h .u0) (h .c0) (h .i0) (try (rules lim) (lim .entries) (unsaturated (h .ns)) k g) (set f count y) (set u count k) (set c count g) i′ (count + 1) false
+      pub grow : {i′ : List ℕ} → skipped (rules mode lim) (h .ns) k g ≡ false → count < lim .entries → i′ ≡ keptUp by i y count
+          → After by lim (h .f0) (h .u0) (h .c0) (h .i0) (try (rules mode lim) (lim .entries) (unsaturated (h .ns)) k g) (set f count y) (set u count k) (set c count g) i′ (count + 1) false
       unfolding try
       grow {i′} s l kept-up =
           let q : count ≡ length (h .ns) = h .columns .count-is in
-          let m : Node = child (rules lim) (h .ns) k g in
-          let e : try (rules lim) (lim .entries) (unsaturated (h .ns)) k g ≡ grownBy (rules lim) (unsaturated (h .ns)) k g = rw (s, lt-ltb (length (h .ns)) (lim .entries) (omega arith)) in
+          let m : Node = child (rules mode lim) (h .ns) k g in
+          let e : try (rules mode lim) (lim .entries) (unsaturated (h .ns)) k g ≡ grownBy (rules mode lim) (unsaturated (h .ns)) k g = rw (s, lt-ltb (length (h .ns)) (lim .entries) (omega arith)) in
           subst (λ (z : State). After by lim (h .f0) (h .u0) (h .c0) (h .i0) z (set f count y) (set u count k) (set c count g) i′ (count + 1) false) (sym e)
           (record {
             columns = record {
               count-is = omega (arith, length-snoc (h .ns) m);
-              prints = subst (λ (v : ℕ). Column (printOf (lim .width)) (h .f0) (h .ns ++ (m ∷ [])) (set f count v) (count + 1)) (print-is (lim .width) (lim .basis) m ∙ sym ey) (column-snoc (h .columns .prints) q (omega (arith, h .long .in-f)) m);
+              prints = subst (λ (v : ℕ). Column (printOf (lim .width)) (h .f0) (h .ns ++ (m ∷ [])) (set f count v) (count + 1)) (print-is mode (lim .width) (lim .basis) m ∙ sym ey) (column-snoc (h .columns .prints) q (omega (arith, h .long .in-f)) m);
               parents = column-snoc (h .columns .parents) q (omega (arith, h .long .in-u)) m;
               gates = column-snoc (h .columns .gates) q (omega (arith, h .long .in-c)) m;
               index = kept-up ∙ ap (λ (x : List ℕ). keptUp by x y count) (h .columns .index) ∙ kept-more by f (h .i0) count y (omega (arith, live-long .in-f))
@@ -135,14 +133,14 @@ module _ {by : By} {lim : WidthLimits} {f u c i : List ℕ} {count k top : ℕ} 
             full-is = refl;
           })
 
-    pub keep : skipped (rules lim) (h .ns) k g ≡ true → After by lim (h .f0) (h .u0) (h .c0) (h .i0) (try (rules lim) (lim .entries) (unsaturated (h .ns)) k g) f u c i count false
+    pub keep : skipped (rules mode lim) (h .ns) k g ≡ true → After by lim (h .f0) (h .u0) (h .c0) (h .i0) (try (rules mode lim) (lim .entries) (unsaturated (h .ns)) k g) f u c i count false
     unfolding try
     keep s =
-        let e : try (rules lim) (lim .entries) (unsaturated (h .ns)) k g ≡ unsaturated (h .ns) = rw s in
+        let e : try (rules mode lim) (lim .entries) (unsaturated (h .ns)) k g ≡ unsaturated (h .ns) = rw s in
         subst (λ (z : State). After by lim (h .f0) (h .u0) (h .c0) (h .i0) z f u c i count false) (sym e) (record { columns = h .columns; full-is = refl })
 
-    pub fill : skipped (rules lim) (h .ns) k g ≡ false → lim .entries ≤ count → After by lim (h .f0) (h .u0) (h .c0) (h .i0) (try (rules lim) (lim .entries) (unsaturated (h .ns)) k g) f u c i count true
+    pub fill : skipped (rules mode lim) (h .ns) k g ≡ false → lim .entries ≤ count → After by lim (h .f0) (h .u0) (h .c0) (h .i0) (try (rules mode lim) (lim .entries) (unsaturated (h .ns)) k g) f u c i count true
     unfolding try
     fill s l =
-        let e : try (rules lim) (lim .entries) (unsaturated (h .ns)) k g ≡ filled (unsaturated (h .ns)) = rw (s, le-ltb (length (h .ns)) (lim .entries) (omega (arith, h .columns .count-is))) in
+        let e : try (rules mode lim) (lim .entries) (unsaturated (h .ns)) k g ≡ filled (unsaturated (h .ns)) = rw (s, le-ltb (length (h .ns)) (lim .entries) (omega (arith, h .columns .count-is))) in
         subst (λ (z : State). After by lim (h .f0) (h .u0) (h .c0) (h .i0) z f u c i count true) (sym e) (record { columns = h .columns; full-is = refl })

@@ -6,14 +6,15 @@ use mathlib.Core.List.{List, _++_, map}
 use Prim.Native.Nat.{ℕ, suc, _≤_, _<_}
 use lib.ListN.{length, drop}
 use Rattle.walk.specs.Walk.{Rules, Node, State, listAt, gate}
+use Rattle.walk.specs.Modes.{Mode}
 use Rattle.walk.specs.AtWidth.{printOf, parentOf, atWidth}
 use Rattle.walk.specs.Index.{By, indexed, kept}
 use Rattle.walk.proofs.Grown.{Grown, ParentsTo}
 use Rattle.synthesis_arena.specs.declared.WidthLimits.{WidthLimits}
 
--- what the walk is handed at the width and basis of the limits
-abbrev pub rules : WidthLimits → Rules
-rules lim = atWidth (lim .width) (lim .basis)
+-- what the walk is handed at the width and basis of the limits, in a mode
+abbrev pub rules : Mode → WidthLimits → Rules
+rules mode lim = atWidth mode (lim .width) (lim .basis)
 
 -- the first places of an array hold what p says of the nodes, and the others what they held (SPECIFICATION 6.11)
 pub record Column (p : Node → ℕ) (old : List ℕ) (ns : List Node) (new : List ℕ) (n : ℕ) : Type 0 where
@@ -35,8 +36,11 @@ pub record Long (by : By) (lim : WidthLimits) (f u c i : List ℕ) : Type 0 wher
   pub in-c : lim .entries ≤ length c
   pub in-i : by ≡ indexed → lim .entries ≤ length i
 
--- no more nodes than the entry limit, the node that is tried one of them, and room for all that the entry limit allows
+-- the limits are within what a table may have; no more nodes than the entry limit, the node that is tried one of them, and room for all that the
+-- entry limit allows
 pub record Room (by : By) (lim : WidthLimits) (count node : ℕ) (f u c i : List ℕ) : Type 0 where
+  pub narrow : lim .width ≤ 5
+  pub short : lim .gates ≤ 64
   pub few : count ≤ lim .entries
   pub there : node < count
   pub most : lim .entries ≤ 1000000
@@ -47,8 +51,8 @@ abbrev pub unsaturated : List Node → State
 unsaturated ns = record { nodes = ns; saturated = false }
 
 -- the arrays while node k is tried, or is the next to be: no parent is past it, no list of the nodes below top is longer than d, and none is
--- longer than d + 1
-pub record Live (by : By) (lim : WidthLimits) (f u c i : List ℕ) (count k top : ℕ) : Type 0 where
+-- longer than d + 1, which is within the gate limit
+pub record Live (mode : Mode) (by : By) (lim : WidthLimits) (f u c i : List ℕ) (count k top : ℕ) : Type 0 where
   pub f0 : List ℕ
   pub u0 : List ℕ
   pub c0 : List ℕ
@@ -56,12 +60,12 @@ pub record Live (by : By) (lim : WidthLimits) (f u c i : List ℕ) (count k top 
   pub ns : List Node
   pub d : ℕ
   pub columns : Columns by lim f0 u0 c0 i0 ns f u c i count
-  pub grown : Grown (rules lim) ns
+  pub grown : Grown (rules mode lim) ns
   pub low : ParentsTo k ns
   pub few : length ns ≤ lim .entries
   pub flat : (j : ℕ) → j < top → length (listAt ns j) ≤ d
   pub short : (j : ℕ) → j < length ns → length (listAt ns j) ≤ suc d
-  pub deep : d ≤ 64
+  pub deep : suc d ≤ lim .gates
   pub long : Long by lim f0 u0 c0 i0
 
 -- the arrays hold the nodes of the state s, which are count, and the width is saturated where s is

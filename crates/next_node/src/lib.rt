@@ -1,15 +1,19 @@
 // The nodes of a width, put into its arrays one by one: node 0, and a candidate, a generator after a node, where it is not skipped (SPECIFICATION 6.3,
-// 6.5, 6.7, 6.8). The order of the tests matters: a fingerprint is looked up before the count is held against the entry limit, so that a full width
-// is saturated only by a candidate that it lacks.
+// 6.5, 6.7, 6.8). The order of the tests matters: whether a candidate is known is asked before the count is held against the entry limit, so that a
+// full width is saturated only by a candidate that it lacks.
 ghost use mathlib.Core.Path.{_≡_};
 ghost use Prim.Native.Nat.{_<_};
 ghost use lib.ListN.{length};
+ghost use Rattle.exact.specs.Places.{held};
 ghost use Rattle.index.specs.Told.{toldBy};
+ghost use Rattle.width_answer.specs.Answers.{AskedPlaces};
+ghost use Rattle.known.specs.Known.{toldMode};
 ghost use Rattle.next_node.specs.Arrays.{Room};
 ghost use Rattle.next_node.specs.Append.{RootPut, prunedAt, Appended};
 use circuit::LibraryGate;
+use cyclotomic::Coefficient;
 use index::LookupBy;
-use synthesis_arena::Found;
+use known::BuildMode;
 use synthesis_arena::MARK;
 use synthesis_arena::WidthLimits;
 
@@ -59,31 +63,47 @@ pub fn is_pruned(node: usize, gate: u32, codes: &[u32]) -> bool
     gate < last
 }
 
-// A candidate that fits, by its fingerprint: a known one is skipped, an unknown one is appended, or saturates a width that is full.
+// A candidate that fits, by its fingerprint and its matrix: a known one is skipped, an unknown one is appended, or saturates a width that is full.
 pub fn append(
+    mode: BuildMode,
     by: LookupBy,
     limits: WidthLimits,
     count: usize,
     node: usize,
     gate: u32,
     print: u64,
+    exponent: u16,
     fingerprints: &mut [u64],
     parents: &mut [u32],
     codes: &mut [u32],
     index: &mut [u32],
+    candidate: &[Coefficient],
 ) -> Tried
     requires room { ⌜ Room (toldBy by) limits count node (now fingerprints) (now parents) (now codes) (now index) ⌝ }
-    ensures appended { λ r. ⌜ Appended (toldBy by) limits count node gate print
+    requires asked { ⌜ AskedPlaces (limits .width) (now candidate) ⌝ }
+    ensures appended { λ r. ⌜ Appended (toldMode mode) (toldBy by) limits count node gate print (held (limits .width) exponent (now (candidate .entry)))
         (now (fingerprints .entry)) (now (parents .entry)) (now (codes .entry)) (now (index .entry))
         (now (fingerprints .exit)) (now (parents .exit)) (now (codes .exit)) (now (index .exit)) r ⌝ }
 {
     let entries = limits.entries;
-    let Found::NotFound = index::look_up(by, index, fingerprints, count, 0, print) else {
+    if known::is_known(
+        mode,
+        by,
+        limits,
+        count,
+        print,
+        exponent,
+        fingerprints,
+        parents,
+        codes,
+        index,
+        candidate,
+    ) {
         return Tried {
             count,
-            saturated: false, // known, also at count E
+            saturated: false, // also at count E
         };
-    };
+    }
     if count == entries {
         return Tried {
             count,

@@ -16,12 +16,13 @@ use Rattle.exact.specs.Rows.{act, gateOf}
 use Rattle.exact.specs.Fits.{stepFits}
 use Rattle.exact.specs.Fingerprint.{fingerprint}
 use Rattle.exact.specs.Answers.{given, refused}
-use Rattle.exact.proofs.Keeps.{equal-lowest}
+use Rattle.exact.proofs.Keeps.{equal-lowest, act-equal'}
 use Rattle.exact.proofs.Phases.{flat-lt}
-use Rattle.exact.proofs.Values.{equal-sym}
+use Rattle.exact.proofs.Values.{equal-sym, equal-trans}
+use Rattle.exact.proofs.Coded.{proper}
 use Rattle.exact.specs.Places.{entry, read, held}
 use Rattle.places.specs.Places.{places}
-use Rattle.matrix.specs.Step.{Ready}
+use Rattle.matrix.specs.Step.{Holds, Ready}
 use Rattle.walk.proofs.Sequences.{lt-or}
 use Rattle.node_matrix.specs.Matrices.{Copied, printAfter}
 use Rattle.node_matrix.proofs.Prints.{given-print, refused-print, fits-alike, prints-alike}
@@ -69,6 +70,14 @@ module _ (n g k : ℕ) {from old new : List ℤ} (w : Copied from old new (4 * (
       → given f ≡ printAfter n g (held n k from)
   copied-given h e =
       given-print n g (held n k from) (sym (fits-alike n g (copied-equal n w k)) ∙ h) (e ∙ prints-alike n g (copied-equal n w k))
+
+  -- what the gate left is the matrix after it
+  pub copied-left : {j : ℕ} {l : List ℤ} → Holds n j l (act n (gateOf n g) (held n k new)) → Holds n j l (act n (gateOf n g) (held n k from))
+  copied-left h = record {
+    long = h .long;
+    equal = equal-trans n (h .equal) (act-equal' n (gateOf n g) (copied-equal n w k) (proper n g));
+    small = h .small;
+  }
 
   pub copied-refused : stepFits n (gateOf n g) (held n k new) ≡ false → refused doesNotFit 0 ≡ printAfter n g (held n k from)
   copied-refused h = refused-print n g (held n k from) (sym (fits-alike n g (copied-equal n w k)) ∙ h)

@@ -1,7 +1,9 @@
 -- The fingerprint of a candidate: what its answer says of the step. Assumes nothing.
-use mathlib.Core.Path.{_≡_, refl, sym, ap}
+use mathlib.Core.Path.{_≡_, refl, sym, ap, subst}
 use mathlib.Core.Bool.{Bool, true, false}
+use mathlib.Core.List.{List}
 use Prim.Native.Nat.{ℕ}
+use lib.IntN.{ℤ}
 use Rattle.ints.specs.Lists.{pick}
 use Rattle.ints.proofs.Bools.{clash}
 use Rattle.cyclotomic.specs.Told.{doesNotFit}
@@ -15,7 +17,12 @@ use Rattle.exact.proofs.Answered.{isGiven, number}
 use Rattle.exact.proofs.Coded.{proper}
 use Rattle.exact.proofs.Keeps.{step-equal, act-equal'}
 use Rattle.exact.proofs.Prints.{fingerprint-equal}
-use Rattle.node_matrix.specs.Matrices.{printAfter}
+use Rattle.exact.proofs.Values.{equal-trans}
+use Rattle.exact.specs.Places.{held}
+use Rattle.matrix.specs.Step.{Holds}
+use Rattle.node_matrix.specs.declared.Candidate.{Candidate}
+use Rattle.node_matrix.specs.declared.Candidate.the-variants.{Print}
+use Rattle.node_matrix.specs.Matrices.{printAfter, LeftIn}
 
 module _ (n g : ℕ) (x : Exact) where
   pub given-print : {f : ℕ} → stepFits n (gateOf n g) x ≡ true → f ≡ fingerprint n (act n (gateOf n g) x) → given f ≡ printAfter n g x
@@ -49,3 +56,10 @@ module _ (n g : ℕ) {x y : Exact} (e : Equal n x y) where
 
   pub prints-alike : fingerprint n (act n (gateOf n g) x) ≡ fingerprint n (act n (gateOf n g) y)
   prints-alike = fingerprint-equal n (act-equal' n (gateOf n g) e (proper n g))
+
+-- what a candidate that fits left in the places, by the case told; and the same after an equal matrix
+pub left-holds : (n g : ℕ) (x : Exact) (l : List ℤ) {r : Candidate} {f k : ℕ} → r ≡ Print f k → LeftIn n g x l r → Holds n k l (act n (gateOf n g) x)
+left-holds n g x l e w = subst (LeftIn n g x l) e w
+
+pub left-equal : (n g : ℕ) {k : ℕ} (x : Exact) {y : Exact} {l : List ℤ} → Holds n k l (act n (gateOf n g) x) → Equal n x y → Equal n (held n k l) (act n (gateOf n g) y)
+left-equal n g x w e = equal-trans n (w .equal) (act-equal' n (gateOf n g) e (proper n g))

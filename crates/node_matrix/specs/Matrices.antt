@@ -44,5 +44,10 @@ unfoldable pub printAfter : ℕ → ℕ → Exact → Answer
 printAfter n g x = pick (stepFits n (gateOf n g) x) (given (fingerprint n (act n (gateOf n g) x))) (refused doesNotFit 0)
 
 abbrev pub toldCandidate : Candidate → Answer
-toldCandidate (Print f) = given f
+toldCandidate (Print f k) = given f
 toldCandidate DoesNotFit = refused doesNotFit 0
+
+-- the places hold the matrix x after the gate g, with the exponent told; nothing is said where it does not fit
+abbrev pub LeftIn : ℕ → ℕ → Exact → List ℤ → Candidate → Type 0
+LeftIn n g x l (Print f k) = Holds n k l (act n (gateOf n g) x)
+LeftIn n g x l DoesNotFit = Unit {0}

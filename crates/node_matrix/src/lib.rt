@@ -9,7 +9,7 @@ ghost use Rattle.exact.specs.Matrix.{identity};
 ghost use Rattle.exact.specs.Places.{held};
 ghost use Rattle.places.specs.Places.{places};
 ghost use Rattle.matrix.specs.Step.{Holds, Ready};
-ghost use Rattle.node_matrix.specs.Matrices.{Readable, Formed, Copied, printAfter, toldCandidate};
+ghost use Rattle.node_matrix.specs.Matrices.{Readable, Formed, Copied, printAfter, toldCandidate, LeftIn};
 use circuit::GateSet;
 use circuit::LibraryGate;
 use cyclotomic::Coefficient;
@@ -18,9 +18,9 @@ use matrix::Applied;
 use synthesis_arena::NodeCircuit;
 use synthesis_arena::WidthLimits;
 
-// The fingerprint of a candidate, or that it does not fit.
+// The fingerprint of a candidate and the exponent of its matrix, or that it does not fit.
 pub enum Candidate {
-    Print(u64),
+    Print(u64, u16),
     DoesNotFit,
 }
 
@@ -69,7 +69,7 @@ fn copy_matrix(n: usize, from: &[Coefficient], to: &mut [Coefficient])
     }
 }
 
-// The fingerprint of a matrix after a gate, or that the step does not fit. The gate is applied to a copy in `scratch`.
+// The fingerprint of a matrix after a gate, or that the step does not fit. The gate is applied to a copy in `scratch`, which then holds the matrix.
 pub fn candidate_print(
     n: usize,
     gate: u32,
@@ -82,11 +82,12 @@ pub fn candidate_print(
     requires ready { ⌜ Ready n exponent (now m) ⌝ }
     requires long { ⌜ length (now scratch) ≡ places ⌝ }
     ensures print { λ r. ⌜ toldCandidate r ≡ printAfter n gate (held n exponent (now (m .entry))) ⌝ }
+    ensures left { λ r. ⌜ LeftIn n gate (held n exponent (now (m .entry))) (now (scratch .exit)) r ⌝ }
     ensures long { λ _. ⌜ length (now (scratch .exit)) ≡ places ⌝ }
 {
     copy_matrix(n, m, scratch);
     let Applied::Done(k) = matrix::apply_gate_left(scratch, n, LibraryGate(gate), exponent) else {
         return Candidate::DoesNotFit;
     };
-    Candidate::Print(prints::unitary_fingerprint(scratch, n, k))
+    Candidate::Print(prints::unitary_fingerprint(scratch, n, k), k)
 }

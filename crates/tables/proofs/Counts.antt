@@ -12,6 +12,7 @@ use lib.ListN.{length, getD}
 use Rattle.ints.specs.Lists.{range, all}
 use Rattle.ints.proofs.Bools.{neither, clash, and-left, and-right}
 use Rattle.walk.specs.Walk.{any}
+use Rattle.walk.specs.Modes.{Mode}
 use Rattle.walk.specs.AtWidth.{atWidth}
 use Rattle.walk.proofs.Nodes.{first}
 use Rattle.walk.proofs.Layers.{walk-shape}
@@ -55,47 +56,47 @@ record-count t w r = by (notAWidth t w) refl
 -- ---- a width's walk
 
 -- it has a node, and at most E
-pub walk-count : (l : Limits) (w : ℕ) → 0 < l .entries → (0 < length (walkOf l w .nodes)) × (length (walkOf l w .nodes) ≤ l .entries)
-walk-count l w h =
-    let s = walk-shape (atWidth w (l .basis)) (l .gates) (l .entries) in
-    (first (atWidth w (l .basis)) (s .layered .grown) .0, s .count h)
+pub walk-count : (mode : Mode) (l : Limits) (w : ℕ) → 0 < l .entries → (0 < length (walkOf mode l w .nodes)) × (length (walkOf mode l w .nodes) ≤ l .entries)
+walk-count mode l w h =
+    let s = walk-shape (atWidth mode w (l .basis)) (l .gates) (l .entries) in
+    (first (atWidth mode w (l .basis)) (s .layered .grown) .0, s .count h)
 
 -- ---- a width of the record that a build returns
 
 -- the rows of m widths from i on, by their places
-rows-at : (l : Limits) (m i v : ℕ) → v < m → getD (map (rowOf l) (range i m)) v notBuilt ≡ rowOf l (i + v)
+rows-at : (mode : Mode) (l : Limits) (m i v : ℕ) → v < m → getD (map (rowOf mode l) (range i m)) v notBuilt ≡ rowOf mode l (i + v)
 unfolding range
-rows-at l zero i v h = absurd (omega arith)
-rows-at l (suc m) i zero h = let e : i ≡ i + 0 = omega arith in ap (rowOf l) e
-rows-at l (suc m) i (suc v) h = let e : suc i + v ≡ i + suc v = omega arith in rows-at l m (suc i) v (omega arith) ∙ ap (rowOf l) e
+rows-at mode l zero i v h = absurd (omega arith)
+rows-at mode l (suc m) i zero h = let e : i ≡ i + 0 = omega arith in ap (rowOf mode l) e
+rows-at mode l (suc m) i (suc v) h = let e : suc i + v ≡ i + suc v = omega arith in rows-at mode l m (suc i) v (omega arith) ∙ ap (rowOf mode l) e
 
 -- widths 1 to 5 are at their places
-record-at : (l : Limits) (w : ℕ) → 0 < w → w ≤ 5 → widthAt (recordOf l) w ≡ rowOf l w
+record-at : (mode : Mode) (l : Limits) (w : ℕ) → 0 < w → w ≤ 5 → widthAt (recordOf mode l) w ≡ rowOf mode l w
 unfolding recordOf range
-record-at l zero p q = absurd (omega arith)
-record-at l (suc v) p q = let e : 1 + v ≡ suc v = omega arith in rows-at l 5 1 v (omega arith) ∙ ap (rowOf l) e
+record-at mode l zero p q = absurd (omega arith)
+record-at mode l (suc v) p q = let e : 1 + v ≡ suc v = omega arith in rows-at mode l 5 1 v (omega arith) ∙ ap (rowOf mode l) e
 
 -- a width that was built has its walk's row
-row-is : (l : Limits) (w : ℕ) → w ≤ l .qubits → rowOf l w ≡ widthOf (walkOf l w)
-row-is l w q = rw (le-ltb (l .qubits) w q)
+row-is : (mode : Mode) (l : Limits) (w : ℕ) → w ≤ l .qubits → rowOf mode l w ≡ widthOf (walkOf mode l w)
+row-is mode l w q = rw (le-ltb (l .qubits) w q)
 
 -- ---- a built table
 
-module _ (t : Table) (a : Arrays) (b : Built t a) where
+module _ {mode : Mode} (t : Table) (a : Arrays) (b : Built mode t a) where
   -- each width up to Q has its walk's count, depth and whether it is saturated
-  pub width-is : (w : ℕ) → 0 < w → w ≤ t .limits .qubits → widthAt t w ≡ widthOf (walkOf (t .limits) w)
+  pub width-is : (w : ℕ) → 0 < w → w ≤ t .limits .qubits → widthAt t w ≡ widthOf (walkOf mode (t .limits) w)
   width-is w p q =
       let e : w ≤ 5 = omega (arith, accepted (t .limits) (b .accepted) .widths) in
-      ap (λ (z : Table). widthAt z w) (b .returned) ∙ record-at (t .limits) w p e ∙ row-is (t .limits) w q
+      ap (λ (z : Table). widthAt z w) (b .returned) ∙ record-at mode (t .limits) w p e ∙ row-is mode (t .limits) w q
 
   -- so it has as many entries as its walk has nodes
-  pub count-at : (w : ℕ) → 0 < w → w ≤ t .limits .qubits → countAt t w ≡ length (walkOf (t .limits) w .nodes)
+  pub count-at : (w : ℕ) → 0 < w → w ≤ t .limits .qubits → countAt t w ≡ length (walkOf mode (t .limits) w .nodes)
   count-at w p q = rw (has-width t w p q) (ap (λ (v : Width). v .count) (width-is w p q))
 
   -- no count is 0, and none is above E
   pub counts : (w : ℕ) → 0 < w → w ≤ t .limits .qubits → (0 < widthAt t w .count) × (widthAt t w .count ≤ t .limits .entries)
   counts w p q =
-      let c = walk-count (t .limits) w (accepted (t .limits) (b .accepted) .some) in
+      let c = walk-count mode (t .limits) w (accepted (t .limits) (b .accepted) .some) in
       rw (width-is w p q) c
 
   -- row 13 does not refuse for the count of any width

@@ -1,23 +1,26 @@
 -- Demand 3 and what stands beside it, of what the public entries answer: the statements of specs/Demand3 and specs/Beside. Assumes nothing.
-use mathlib.Core.Path.{_≡_, refl, sym, ap, _∙_}
+use mathlib.Core.Path.{_≡_, refl, sym, ap, _∙_, subst}
 use mathlib.Core.Logic.{_⊎_, inl, inr}
 use mathlib.Core.Bool.{Bool, true, false}
 use mathlib.Core.List.{List, [], _∷_}
 use mathlib.Core.Option.{Option, some}
-use Prim.Native.Nat.{ℕ, _≤_}
+use Prim.Native.Nat.{ℕ, _≤_, _<_}
 use native.Mathlib.Omega.{arith}
+use lib.ListN.{length, getD}
 use Rattle.exact.specs.Matrix.{Lowest}
 use Rattle.exact.specs.Unitary.{Unitary}
-use Rattle.walk.specs.AtWidth.{atWidth}
+use Rattle.walk.specs.Walk.{root}
+use Rattle.walk.specs.Modes.{Mode, byPrint, keeping}
+use Rattle.walk.specs.AtWidth.{atWidth, printOf}
 use Rattle.walk.proofs.Nodewise.{answered}
 use Rattle.walk.proofs.Nodes.{link, parents-rise, depth-parent, depths-rise, depths-step}
 use Rattle.walk.proofs.Layers.{walk-shape}
-use Rattle.walk.proofs.Exactly.{prints-distinct}
+use Rattle.walk.proofs.Exactly.{nodes-apart, prints-distinct}
 use Rattle.walk.proofs.WidthDemand.{WidthComplete}
 use Rattle.walk.proofs.Demand3 as at-width
 use Rattle.walk.proofs.Meaning.{kind-of}
 use Rattle.tables.specs.Checks.{firstRow, Limits, Arrays, queryRows}
-use Rattle.tables.specs.Tables.{Table, Width, Query, matrixOf, listRow, notAWidth}
+use Rattle.tables.specs.Tables.{Table, Width, walkOf, Query, matrixOf, listRow, notAWidth}
 use Rattle.tables.specs.Built.{Built, FilledFrom}
 use Rattle.tables.specs.Beside.{Beside, Ordered}
 use Rattle.tables.specs.Demand3.{Gives, GivesNone, Refuses, NotRefused, Decided, a-list, no-list, a-refusal, NoSmaller, Complete, Demand3}
@@ -41,19 +44,19 @@ not-unitary t a q out h u = by (decided t a q out)
 
 -- ---- a larger built table
 
-module _ (t t′ : Table) (a a′ : Arrays) (b : Built t a) (b′ : Built t′ a′) (x : FilledFrom t a) (x′ : FilledFrom t′ a′) (s : NoSmaller (t .limits) (t′ .limits))
+module _ {mode : Mode} (t t′ : Table) (a a′ : Arrays) (b : Built mode t a) (b′ : Built mode t′ a′) (x : FilledFrom t a) (x′ : FilledFrom t′ a′) (s : NoSmaller (t .limits) (t′ .limits))
     (q : Query) where
   -- it has the widths of the other, and gives the same lists there
   same-list : (out′ l : List ℕ) → notAWidth t (q .width) ≡ false → rowOfAnswer t′ a′ q out′ ≡ 0
-      → answered (q .width) (t .limits .basis) (t .limits .gates) (t .limits .entries) (matrixOf q) ≡ some l → Gives t′ a′ q out′ l
+      → answered mode (q .width) (t .limits .basis) (t .limits .gates) (t .limits .entries) (matrixOf q) ≡ some l → Gives t′ a′ q out′ l
   same-list out′ l f e g =
       let w = a-width t (q .width) f in
       let h : q .width ≤ t′ .limits .qubits = omega (arith, w .1, s .qubits) in
       let more =
-      at-width.demand (q .width) (t .limits .basis) (widths-small t a b (q .width) (w .1)) .larger (t .limits .gates) (t′ .limits .gates)
+      at-width.demand mode (q .width) (t .limits .basis) (widths-small t a b (q .width) (w .1)) .larger (t .limits .gates) (t′ .limits .gates)
       (t .limits .entries) (t′ .limits .entries) (s .gates) (s .entries) (matrixOf q) l g in
       told-walk t′ a′ b′ q out′ x′ e (has-width t′ (q .width) (w .0) h)
-      ∙ ap (λ (z : ℕ). toldOption (answered (q .width) z (t′ .limits .gates) (t′ .limits .entries) (matrixOf q)) out′) (s .basis)
+      ∙ ap (λ (z : ℕ). toldOption (answered mode (q .width) z (t′ .limits .gates) (t′ .limits .entries) (matrixOf q)) out′) (s .basis)
       ∙ ap (λ (o : Option (List ℕ)). toldOption o out′) more
 
   larger : (out out′ l : List ℕ) → Gives t a q out l → Gives t′ a′ q out′ l ⊎ Refuses t′ a′ q out′ 12
@@ -74,9 +77,9 @@ module _ (t t′ : Table) (a a′ : Arrays) (b : Built t a) (b′ : Built t′ a
 
 -- ---- a built table
 
-module _ (t : Table) (a : Arrays) (b : Built t a) where
+module _ {mode : Mode} (t : Table) (a : Arrays) (b : Built mode t a) where
   -- (c), from the walk's answers
-  answers-complete : FilledFrom t a → (q : Query) → (q .width ≤ 5 → WidthComplete (q .width) (t .limits .basis) (t .limits .gates) (t .limits .entries))
+  answers-complete : FilledFrom t a → (q : Query) → (q .width ≤ 5 → WidthComplete mode (q .width) (t .limits .basis) (t .limits .gates) (t .limits .entries))
       → Complete t a q
   answers-complete x q w = record {
     shortest = λ out l g m r.
@@ -108,19 +111,24 @@ module _ (t : Table) (a : Arrays) (b : Built t a) where
 
 -- ---- the nodes of a width
 
-in-order : (l : Limits) (w : ℕ) → w ≤ 5 → Ordered l w
-in-order l w small =
-    let s = walk-shape (atWidth w (l .basis)) (l .gates) (l .entries) in
+in-order : (mode : Mode) (l : Limits) (w : ℕ) → w ≤ 5 → Ordered mode l w
+in-order mode l w small =
+    let s = walk-shape (atWidth mode w (l .basis)) (l .gates) (l .entries) in
     let b = s .layered .grown in
     record {
-      below = λ j p h. link (atWidth w (l .basis)) b j h p .below;
-      parents-rise = λ i j p q h. parents-rise (atWidth w (l .basis)) b j h i p q;
-      one-deeper = λ j p h. depth-parent (atWidth w (l .basis)) b j h p;
-      depths-rise = λ i j q h. depths-rise (atWidth w (l .basis)) b i j q h;
-      depths-step = λ j h. depths-step (atWidth w (l .basis)) b j h;
+      below = λ j p h. link (atWidth mode w (l .basis)) b j h p .below;
+      parents-rise = λ i j p q h. parents-rise (atWidth mode w (l .basis)) b j h i p q;
+      one-deeper = λ j p h. depth-parent (atWidth mode w (l .basis)) b j h p;
+      depths-rise = λ i j q h. depths-rise (atWidth mode w (l .basis)) b i j q h;
+      depths-step = λ j h. depths-step (atWidth mode w (l .basis)) b j h;
       short = λ j h. s .limit j h;
-      prints-differ = λ i j p h e. prints-distinct w (l .basis) small b i j p h e;
+      nodes-differ = λ i j p h. nodes-apart mode w (l .basis) small b i j p h;
+      prints-differ = λ e. subst Apart (sym e) (prints-distinct w (l .basis) (walk-shape (atWidth byPrint w (l .basis)) (l .gates) (l .entries) .layered .grown));
     }
+  where
+    -- no two nodes have one fingerprint
+    Apart : Mode → Type 0
+    Apart m = (i j : ℕ) → i < j → j < length (walkOf m l w .nodes) → printOf w (getD (walkOf m l w .nodes) i root) ≡ printOf w (getD (walkOf m l w .nodes) j root) → ⊥
 
 -- ---- the demand
 
@@ -130,21 +138,23 @@ demand = record {
   build-refused = build-refused;
   right = λ t a q out l g. let r = gives-right t a q out l g in (r .power, r .valid, r .short);
   build-built = build-built;
-  larger = λ t t′ a a′ b b′ x x′ s q out out′ l g. larger t t′ a a′ b b′ x x′ s q out out′ l g;
-  complete = λ t a b x le q nc. answers-complete t a b x q
-      (λ small. at-width.demand (q .width) (t .limits .basis) small .complete (t .limits .gates) (t .limits .entries) le nc);
+  larger = λ mode t t′ a a′ b b′ x x′ s q out out′ l g. larger t t′ a a′ b b′ x x′ s q out out′ l g;
+  complete = λ mode t a b x le q nc. answers-complete t a b x q
+      (λ small. at-width.demand mode (q .width) (t .limits .basis) small .complete (t .limits .gates) (t .limits .entries) le nc);
+  complete-keeping = λ t a b x le q. answers-complete t a b x q
+      (λ small. at-width.demand keeping (q .width) (t .limits .basis) small .complete-keeping refl (t .limits .gates) (t .limits .entries) le);
   unitary = λ t a q out l g. gives-right t a q out l g .unitary;
   not-unitary = not-unitary;
-  never-13 = λ t a b q out n. never-13 t a b q out n;
+  never-13 = λ mode t a b q out n. never-13 t a b q out n;
 }
 
 -- ---- beside the demand
 
 pub beside : Beside
 beside = record {
-  complete-rightly = λ t a b x le q K. answers-complete t a b x q
-      (λ small. at-width.demand (q .width) (t .limits .basis) small .complete-rightly (t .limits .gates) (t .limits .entries) le K);
-  counts = λ t a b w p q. counts t a b w p q;
-  ordered = λ t a b w p q. in-order (t .limits) w (widths-small t a b w q);
-  built-again = λ t a. (λ w. built-again t a (w .0) (w .1), λ e. let (b, z, x) = build-built (t .limits) a a t e in (b, x));
+  complete-rightly = λ mode t a b x le q K. answers-complete t a b x q
+      (λ small. at-width.demand mode (q .width) (t .limits .basis) small .complete-rightly (t .limits .gates) (t .limits .entries) le K);
+  counts = λ mode t a b w p q. counts t a b w p q;
+  ordered = λ mode t a b w p q. in-order mode (t .limits) w (widths-small t a b w q);
+  built-again = λ mode t a. (λ w. built-again t a (w .0) (w .1), λ e. let (b, z, x) = build-built mode (t .limits) a a t e in (b, x));
 }

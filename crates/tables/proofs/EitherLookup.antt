@@ -8,24 +8,42 @@ use lib.Dec.{eqb}
 use lib.ListN.{length}
 use Rattle.ints.specs.Lists.{pick}
 use Rattle.ints.proofs.Bools.{clash}
+use Rattle.exact.specs.Matrix.{Exact}
 use Rattle.exact.specs.Fingerprint.{fingerprint}
+use Rattle.walk.specs.Modes.{Mode}
 use Rattle.walk.specs.Index.{By, scan, indexed}
-use Rattle.walk.specs.Lookup.{Lookup, found, lowestFrom}
+use Rattle.walk.specs.Lookup.{Lookup, found}
 use Rattle.walk.specs.Lookup as lookup
-use Rattle.walk.specs.Finds.{byLookup, findOf}
-use Rattle.walk.specs.Finds as f
+use Rattle.walk.specs.Chains.{chainOf}
+use Rattle.walk.specs.Finds.{WidthLimits, Part, Finding, byChain, byLookup, lookedIn, findFrom, findBy}
 use Rattle.walk.specs.Answers.{refused, outcome, writeOf, thenWrite}
 use Rattle.tables.specs.Checks.{Row, firstRow, Limits, Arrays, arraysBy, inParts, indexRow}
 use Rattle.tables.specs.Tables.{Table, walkOf, printsOf, indexTo, table, left, buildOf, Query, matrixOf, notAWidth, countAt, partOf, limitsAt, partAt, lookRowsOf}
 use Rattle.tables.specs.Tables.{filledIndex, FillReply, filled, not-filled, FillLeft, fillLeft, fillOf, findRows, foundIn, writtenIn, answerRows, repliedBy, synthesized}
 use Rattle.tables.specs.Built.{FilledFrom}
 use Rattle.tables.specs.EitherLookup.{scanned, through, EitherLookup}
-use Rattle.tables.proofs.InWords.{not-both}
 use Rattle.tables.proofs.Counts.{a-width, good-record}
 use Rattle.tables.proofs.Accepted.{record-limits}
 use Rattle.tables.proofs.Indexes.{part-sizes, indexed-parts, all-again, all-anew, scan-leaves, index-to-length, fill-keeps, looks-scan}
 use Rattle.tables.proofs.FromBuild.{build-passed, rows-none, build-fills, build-returned, build-built}
 use Rattle.tables.proofs.Asked.{good-look, look-passed, fill-passed, fill-refused, partFound, find-passed, find-refused, no-part}
+
+-- ---- a find by two parts whose nodes have the same chains and that look up the same from each start
+
+module _ (limits : WidthLimits) (part other : Part) (u : part .parents ≡ other .parents) (c : part .codes ≡ other .codes) (x : Exact)
+    (same : (from y : ℕ) → lookedIn part from y ≡ lookedIn other from y) where
+  -- what a node gives does not depend on how it was found
+  given-same : (further others : ℕ → Finding) → ((k : ℕ) → further k ≡ others k) → (g : Lookup) → byLookup limits part x further g ≡ byLookup limits other x others g
+  given-same further others e (found k) =
+      λ j. byChain (limits .width) x k (e (suc k) j) (chainOf (limits .width) (limits .basis) (u j) (c j) (limits .gates) k)
+  given-same further others e lookup.none = refl
+
+  from-same : (y m from : ℕ) → findFrom limits part y x m from ≡ findFrom limits other y x m from
+  unfolding findFrom
+  from-same y zero from = refl
+  from-same y (suc m) from =
+      ap (byLookup limits part x (λ next. findFrom limits part y x m next)) (same from y)
+      ∙ given-same (findFrom limits part y x m) (findFrom limits other y x m) (from-same y m) (lookedIn other from y)
 
 -- ---- a table whose index was filled from it
 
@@ -41,23 +59,16 @@ module _ (t : Table) (a : Arrays) (x : FilledFrom t a) where
   rows-same rs = rw (x .parts)
 
   module _ (q : Query) where
-    -- what a node gives does not depend on how it was found
-    given-same : (g : Lookup) → byLookup (limitsAt (t .limits) (q .width)) (partAt t a (q .width)) (matrixOf q) f.none g
-        ≡ byLookup (limitsAt (t .limits) (q .width)) (partAt t (scanned a) (q .width)) (matrixOf q) f.none g
-    given-same (found k) = refl
-    given-same lookup.none = refl
-
     part-same : firstRow (findRows t a q) ≡ 0 → partFound t a q ≡ partFound t (scanned a) q
-    unfolding findOf
+    unfolding findBy
     part-same e = by (notAWidth t (q .width)) refl
       where
         by : (b : Bool) → notAWidth t (q .width) ≡ b → partFound t a q ≡ partFound t (scanned a) q
         by true h = no-part t a q h ∙ sym (no-part t (scanned a) q h)
         by false h =
             let w = a-width t (q .width) h in
-            ap (byLookup (limitsAt (t .limits) (q .width)) (partAt t a (q .width)) (matrixOf q) f.none)
-            (looks-scan t a x (good-look t (a .by) a _ e .0) (q .width) (w .0) (w .1) (fingerprint (q .width) (matrixOf q)))
-            ∙ given-same (lowestFrom (partAt t a (q .width) .fingerprints) (countAt t (q .width)) 0 (fingerprint (q .width) (matrixOf q)))
+            from-same (limitsAt (t .limits) (q .width)) (partAt t a (q .width)) (partAt t (scanned a) (q .width)) refl refl (matrixOf q)
+            (looks-scan t a x (good-look t (a .by) a _ e .0) (q .width) (w .0) (w .1)) (fingerprint (q .width) (matrixOf q)) (countAt t (q .width)) 0
 
     find-same : foundIn t a q ≡ foundIn t (scanned a) q
     find-same = by (firstRow (findRows t a q)) refl
@@ -134,36 +145,36 @@ module _ (t : Table) (a : Arrays) where
 
 -- ---- a build
 
-module _ (l : Limits) (a b : Arrays) (t : Table) (n : buildOf l a ≡ left (table t) b) where
-  build-same : buildOf l (scanned a) ≡ left (table t) (scanned b)
+module _ (mode : Mode) (l : Limits) (a b : Arrays) (t : Table) (n : buildOf mode l a ≡ left (table t) b) where
+  build-same : buildOf mode l (scanned a) ≡ left (table t) (scanned b)
   build-same =
-      let (e, u, x) = build-returned l a b t n in
+      let (e, u, x) = build-returned mode l a b t n in
       let (g, h, i) = build-passed l a e in
-      build-fills l (scanned a) (rows-none l (scanned a) g h refl)
-      ∙ (λ k. left (table (u k)) (arraysBy scan (x k .prints) (x k .parents) (x k .codes) (scan-leaves l (printsOf l) (λ v. length (walkOf l v .nodes)) [] k)))
+      build-fills mode l (scanned a) (rows-none l (scanned a) g h refl)
+      ∙ (λ k. left (table (u k)) (arraysBy scan (x k .prints) (x k .parents) (x k .codes) (scan-leaves l (printsOf mode l) (λ v. length (walkOf mode l v .nodes)) [] k)))
 
   build-filled : a .by ≡ indexed → fillOf t b ≡ fillLeft filled (b .index)
   unfolding firstRow
   build-filled e =
-      let (c, z, f) = build-built l a b t n in
-      let h : b .by ≡ indexed = sym (ap (λ (y : Arrays). y .by) (build-returned l a b t n .2)) ∙ e in
+      let (c, z, f) = build-built mode l a b t n in
+      let h : b .by ≡ indexed = sym (ap (λ (y : Arrays). y .by) (build-returned mode l a b t n .2)) ∙ e in
       fill-passed t b (look-passed t indexed b [] (good-record t b c) (c .room) (ap (λ (y : By). indexRow (t .limits) y (length (b .index)) .holds) (sym h) ∙ f .parts))
       ∙ ap (fillLeft filled) (sym (f .is h))
 
   build-anew : a .by ≡ indexed → (other : List ℕ) → length other ≡ length (a .index) → fillOf t (through b other) ≡ fillLeft filled (b .index)
   build-anew e other h =
       fill-anew t b (b .index) (build-filled e) other
-      (h ∙ sym (index-to-length l (a .by) (l .qubits) (a .index) (omega arith)) ∙ ap (λ (y : Arrays). length (y .index)) (build-returned l a b t n .2))
+      (h ∙ sym (index-to-length mode l (a .by) (l .qubits) (a .index) (omega arith)) ∙ ap (λ (y : Arrays). length (y .index)) (build-returned mode l a b t n .2))
 
   build-leaves : a .by ≡ scan → b .index ≡ a .index
   build-leaves e =
-      sym (ap (λ (y : Arrays). y .index) (build-returned l a b t n .2)) ∙ ap (λ (y : By). indexTo l y (l .qubits) (a .index)) e
-      ∙ scan-leaves l (printsOf l) (λ v. length (walkOf l v .nodes)) (a .index)
+      sym (ap (λ (y : Arrays). y .index) (build-returned mode l a b t n .2)) ∙ ap (λ (y : By). indexTo mode l y (l .qubits) (a .index)) e
+      ∙ scan-leaves l (printsOf mode l) (λ v. length (walkOf mode l v .nodes)) (a .index)
 
 pub either-lookup : EitherLookup
 either-lookup = record {
   parts = part-sizes;
-  looks-same = λ t a x r w p h y. looks-scan t a x r w p h y ∙ sym (looks-scan t (scanned a) (record { parts = refl; is = λ e. not-both refl e }) r w p h y);
+  looks-same = looks-scan;
   find-same = find-same;
   answer-same = answer-same;
   write-same = write-same;
@@ -171,7 +182,7 @@ either-lookup = record {
   fill-anew = fill-anew;
   fill-again = fill-again;
   build-same = build-same;
-  build-filled = λ l a b t e n. build-anew l a b t n e;
-  scan-leaves = λ l a b t e n. build-leaves l a b t n e;
+  build-filled = λ mode l a b t e n. build-anew mode l a b t n e;
+  scan-leaves = λ mode l a b t e n. build-leaves mode l a b t n e;
   fill-length = fill-length;
 }

@@ -4,12 +4,11 @@ use mathlib.Core.Logic.{_↔_, _⊎_, inl, inr}
 use mathlib.Core.List.{List, [], _∷_}
 use Prim.Native.Nat.{ℕ, zero, suc}
 use native.Mathlib.Omega.{arith}
-use Rattle.exact.specs.Fingerprint.{fingerprint}
+use Rattle.walk.specs.Modes.{Mode}
 use Rattle.walk.specs.Index.{indexed}
 use Rattle.walk.specs.Finds as f
 use Rattle.walk.specs.Answers.{refused, Outcome, outcome}
-use Rattle.walk.proofs.Indexed.{leads-below}
-use Rattle.walk.proofs.Meaning.{first, second, kind-of, found-first, found-second, find-means, write-means}
+use Rattle.walk.proofs.Meaning.{first, second, kind-of, found-first, found-second, find-means, at-below, write-means}
 use Rattle.tables.specs.Checks.{firstRow, Limits, Arrays}
 use Rattle.tables.specs.Tables.{Table, BuildReply, table, refusal, Left, left, recordOf, builtTo, buildRows, buildOf, Query, matrixOf}
 use Rattle.tables.specs.Tables.{limitsAt, partAt, lookRowsOf, filledIndex, FillReply, filled, not-filled, FillLeft, fillLeft, fillOf, findRows, foundIn, writeRows, writtenIn, synthesized}
@@ -32,14 +31,14 @@ abbrev buildPosition : BuildReply → ℕ
 buildPosition (table t) = 0
 buildPosition (refusal r p) = p
 
-module _ (l : Limits) (a : Arrays) where
-  build : (b : Arrays) (r p : ℕ) → (buildOf l a ≡ left (refusal r p) b) ↔ (First r p (buildCauses l a) × (b ≡ a))
+module _ (mode : Mode) (l : Limits) (a : Arrays) where
+  build : (b : Arrays) (r p : ℕ) → (buildOf mode l a ≡ left (refusal r p) b) ↔ (First r p (buildCauses l a) × (b ≡ a))
   build b r p = (λ n. to n (firstRow (buildRows l a)) refl, from)
     where
-      to : buildOf l a ≡ left (refusal r p) b → (s : ℕ) → firstRow (buildRows l a) ≡ s → First r p (buildCauses l a) × (b ≡ a)
-      to n zero f = absurd (omega (arith, ap (λ (z : Left). buildNumber (z .reply)) (sym (build-fills l a f) ∙ n)))
+      to : buildOf mode l a ≡ left (refusal r p) b → (s : ℕ) → firstRow (buildRows l a) ≡ s → First r p (buildCauses l a) × (b ≡ a)
+      to n zero f = absurd (omega (arith, ap (λ (z : Left). buildNumber (z .reply)) (sym (build-fills mode l a f) ∙ n)))
       to n (suc s) f =
-          let z = sym (build-refusal l a (suc s) (omega arith) f) ∙ n in
+          let z = sym (build-refusal mode l a (suc s) (omega arith) f) ∙ n in
           let x : suc s ≡ r = omega (arith, ap (λ (y : Left). buildNumber (y .reply)) z) in
           let y : 0 ≡ p = ap (λ (y : Left). buildPosition (y .reply)) z in (
             subst (λ (j : ℕ). First r j (buildCauses l a)) y
@@ -47,17 +46,17 @@ module _ (l : Limits) (a : Arrays) where
             sym (ap (λ (y : Left). y .arrays) z),
           )
 
-      from : First r p (buildCauses l a) × (b ≡ a) → buildOf l a ≡ left (refusal r p) b
+      from : First r p (buildCauses l a) × (b ≡ a) → buildOf mode l a ≡ left (refusal r p) b
       from (f, z) =
           let (x, h, y) = first-from (build-in-words l a) r p f in
-          build-refusal l a r h x ∙ (λ k. left (refusal r (sym y k)) (sym z k))
+          build-refusal mode l a r h x ∙ (λ k. left (refusal r (sym y k)) (sym z k))
 
-  built : (buildOf l a ≡ left (table (recordOf l)) (builtTo l (l .qubits) a)) ↔ NoCause (buildCauses l a)
-  built = (λ n. to n (firstRow (buildRows l a)) refl, λ n. build-fills l a (none-from (build-in-words l a) n))
+  built : (buildOf mode l a ≡ left (table (recordOf mode l)) (builtTo mode l (l .qubits) a)) ↔ NoCause (buildCauses l a)
+  built = (λ n. to n (firstRow (buildRows l a)) refl, λ n. build-fills mode l a (none-from (build-in-words l a) n))
     where
-      to : buildOf l a ≡ left (table (recordOf l)) (builtTo l (l .qubits) a) → (s : ℕ) → firstRow (buildRows l a) ≡ s → NoCause (buildCauses l a)
+      to : buildOf mode l a ≡ left (table (recordOf mode l)) (builtTo mode l (l .qubits) a) → (s : ℕ) → firstRow (buildRows l a) ≡ s → NoCause (buildCauses l a)
       to n zero f = none-to (build-in-words l a) f
-      to n (suc s) f = absurd (omega (arith, ap (λ (z : Left). buildNumber (z .reply)) (sym (build-refusal l a (suc s) (omega arith) f) ∙ n)))
+      to n (suc s) f = absurd (omega (arith, ap (λ (z : Left). buildNumber (z .reply)) (sym (build-refusal mode l a (suc s) (omega arith) f) ∙ n)))
 
 -- ---- a fill
 
@@ -99,7 +98,7 @@ module _ (t : Table) (a : Arrays) where
 -- ---- an answer
 
 module _ (t : Table) (a : Arrays) (q : Query) (out : List ℕ) where
-  -- the last row: the chain found
+  -- the last row: a chain that is met
   abbrev chain : Cause
   chain = cause 13 (BadChain t a q)
 
@@ -151,9 +150,7 @@ module _ (t : Table) (a : Arrays) (q : Query) where
       to : foundIn t a q ≡ f.refused r p → (s : ℕ) → firstRow (findRows t a q) ≡ s → First r p (findCauses t a q)
       to n zero e =
           let (x, y, z) = find-means (limitsAt (t .limits) (q .width)) (partAt t a (q .width)) (matrixOf q) .is-refused r p .0 (sym (find-passed t a q e) ∙ n) in
-          let part = partAt t a (q .width) in
-          let v = counted t (q .width)
-          (leads-below (a .by) (part .index) (part .fingerprints) (part .count) 0 (fingerprint (q .width) (matrixOf q)) (x .node) (x .leads)) in
+          let v = counted t (q .width) (at-below (limitsAt (t .limits) (q .width)) (partAt t a (q .width)) (matrixOf q) (x .leads)) in
           told 13 (first-later (findRowCauses t a q) (last-cause ∷ []) 13 0 (none-to (find-in-words t a q) e)
           (inl (refl, (record { some = v .0; has = v .1; fault = x }, refl)))) (sym y) (sym z)
       to n (suc s) e =

@@ -1,25 +1,26 @@
 -- A find and a write beside an answer: the statements of specs/FindWrite. Assumes nothing.
 use mathlib.Core.Path.{_≡_, refl, sym, ap, _∙_, subst}
 use mathlib.Core.Logic.{_↔_, _⊎_, inl, inr}
-use mathlib.Core.Bool.{Bool, true, false}
-use mathlib.Core.List.{List, [], _∷_, _++_, reverse}
+use mathlib.Core.Bool.{true, false}
+use mathlib.Core.List.{List, [], _∷_, reverse}
 use Prim.Native.Nat.{ℕ, zero, suc, _≤_, _<_}
 use native.Mathlib.Omega.{arith}
 use borrow.Author.Tests.{lt-ltb, le-ltb, ltb-false}
-use lib.ListN.{length, drop, replicate, length-replicate}
+use lib.ListN.{length, replicate, length-replicate}
 use Rattle.exact.specs.Unitary.{Unitary}
 use Rattle.walk.specs.Walk.{listAt}
+use Rattle.walk.specs.Modes.{Mode}
 use Rattle.walk.specs.Chains.{Chain, good, bad}
 use Rattle.walk.specs.Finds.{Finding, node, chainAt}
 use Rattle.walk.specs.Finds as f
-use Rattle.walk.specs.Answers.{none, refused, Outcome, outcome, written, writeOf, thenWrite}
+use Rattle.walk.specs.Answers.{thenWrite}
 use Rattle.walk.specs.Meaning.{FoundBy}
 use Rattle.walk.proofs.Sequences.{lt-or}
 use Rattle.walk.proofs.Chaining.{good-by}
-use Rattle.walk.proofs.Meaning.{kind, kind-of, found-kind, found-first, find-means, found-below, written-good, written-bad}
+use Rattle.walk.proofs.Meaning.{kind-of, found-kind, found-first, find-means, found-below, written-good, written-bad}
 use Rattle.tables.specs.Checks.{firstRow, Arrays, roomRow}
-use Rattle.tables.specs.Tables.{Table, widthAt, countAt, walkOf, Query, matrixOf, recordRow, listRow, nodeRow, limitsAt, partAt, findRows, foundIn, writeRows, writtenIn}
-use Rattle.tables.specs.Tables.{answerRows, synthesized}
+use Rattle.tables.specs.Tables.{Table, countAt, walkOf, Query, matrixOf, recordRow, listRow, nodeRow, limitsAt, partAt, findRows, foundIn, writeRows, writtenIn}
+use Rattle.tables.specs.Tables.{synthesized}
 use Rattle.tables.specs.Built.{Built, FilledFrom}
 use Rattle.tables.specs.Demand3.{Gives, GivesNone, Refuses, NoSmaller, Complete}
 use Rattle.tables.specs.FindWrite.{Finds, FindsNone, FindRefuses, FindDecided, a-node, no-node, a-refusal, FindComplete}
@@ -27,7 +28,7 @@ use Rattle.tables.specs.FindWrite.{Writes, WriteRefuses, WriteDecided, a
 use Rattle.tables.proofs.Rows.{Numbers, index-number, first-number, first-here, first-past, first-none, firstRow-append}
 use Rattle.tables.proofs.Counts.{good-record}
 use Rattle.tables.proofs.Asked.{numbered-find, passed, good-table, rows-passed, partFound, find-passed, find-refused, write-passed, write-refused, answer-refused, followed}
-use Rattle.tables.proofs.Replies.{rowOfAnswer, number-of, not-given, one-list, gives-asked}
+use Rattle.tables.proofs.Replies.{number-of, not-given, one-list, gives-asked}
 use Rattle.tables.proofs.OfBuilt.{counted, chain-at}
 use Rattle.tables.proofs.Demand3.{demand}
 
@@ -219,18 +220,18 @@ module _ (t : Table) (a : Arrays) (q : Query) where
         (λ e. y .0 (x .0 e), λ e. x .1 (y .1 e));
   }
 
-  never-13 : Built t a → FindRefuses t a q 13 → ⊥
-  never-13 b n = demand .never-13 t a b q (longList t) (refused-same t a q (longList t) (long-enough t) 13 .0 n)
+  never-13 : {mode : Mode} → Built mode t a → FindRefuses t a q 13 → ⊥
+  never-13 {mode} b n = demand .never-13 mode t a b q (longList t) (refused-same t a q (longList t) (long-enough t) 13 .0 n)
 
 -- ---- a larger built table
 
-module _ (t t′ : Table) (a a′ : Arrays) (b : Built t a) (b′ : Built t′ a′) (x : FilledFrom t a) (x′ : FilledFrom t′ a′) (s : NoSmaller (t .limits) (t′ .limits))
+module _ {mode : Mode} (t t′ : Table) (a a′ : Arrays) (b : Built mode t a) (b′ : Built mode t′ a′) (x : FilledFrom t a) (x′ : FilledFrom t′ a′) (s : NoSmaller (t .limits) (t′ .limits))
     (q : Query) (k m : ℕ) (h : Finds t a q k m) where
   -- its answer with a list that is long enough
   larger-node : (l : List ℕ) × (length l ≡ m) × Gives t a q (longList t) l × ((k′ : ℕ) × Finds t′ a′ q k′ (length l) × Writes t′ a′ (q .width) k′ (longList t′) l)
   larger-node =
       let (l, z, w, g) = found-written t a q (longList t) (long-enough t) k m h in
-      (l, z, g, by l (demand .larger t t′ a a′ b b′ x x′ s q (longList t) (longList t′) l g))
+      (l, z, g, by l (demand .larger mode t t′ a a′ b b′ x x′ s q (longList t) (longList t′) l g))
     where
       by : (l : List ℕ) → Gives t′ a′ q (longList t′) l ⊎ Refuses t′ a′ q (longList t′) 12 → (k′ : ℕ) × Finds t′ a′ q k′ (length l) × Writes t′ a′ (q .width) k′ (longList t′) l
       by l (inl g) = given-found t′ a′ q (longList t′) (long-enough t′) l g
@@ -252,7 +253,7 @@ module _ (t t′ : Table) (a a′ : Arrays) (b : Built t a) (b′ : Built t′ a
           by (inl c) = inr (found-short t′ a′ q k′ m h′ out′ c .0)
           by (inr c) =
               let (l′, z, v, g′) = found-written t′ a′ q out′ c k′ m h′ in
-              inl (subst (Writes t′ a′ (q .width) k′ out′) (one l′ g′ (demand .larger t t′ a a′ b b′ x x′ s q out out′ l (answered t a q k m h out l w .1))) v)
+              inl (subst (Writes t′ a′ (q .width) k′ out′) (one l′ g′ (demand .larger mode t t′ a a′ b b′ x x′ s q out out′ l (answered t a q k m h out l w .1))) v)
             where
               one : (l′ : List ℕ) → Gives t′ a′ q out′ l′ → Gives t′ a′ q out′ l ⊎ Refuses t′ a′ q out′ 12 → l′ ≡ l
               one l′ g′ (inl e) = one-list l′ l out′ (sym g′ ∙ e)
@@ -260,14 +261,12 @@ module _ (t t′ : Table) (a a′ : Arrays) (b : Built t a) (b′ : Built t′ a
 
 -- ---- the nodes of a built table
 
-node-written : (t : Table) (a : Arrays) → Built t a → (w k : ℕ) → k < countAt t w → (out : List ℕ) → t .limits .gates ≤ length out → (l : List ℕ) × Writes t a w k out l
-node-written t a b w k h out room =
+node-written : {mode : Mode} (t : Table) (a : Arrays) → Built mode t a → (w k : ℕ) → k < countAt t w → (out : List ℕ) → t .limits .gates ≤ length out → Writes t a w k out (reverse (listAt (walkOf mode (t .limits) w .nodes) k))
+node-written {mode} t a b w k h out room =
     let (p, c, z) = counted t w h in
-    let e = chain-at t a b w p c k (omega (arith, h, z)) in (
-      reverse (listAt (walkOf (t .limits) w .nodes) k),
-      write-passed t a w k out (rows-passed t a w k out (good-record t a b) (b .room) h (le-ltb (length out) (t .limits .gates) room))
-          ∙ written-good (limitsAt (t .limits) w) (partAt t a w) k out e,
-    )
+    let e = chain-at t a b w p c k (omega (arith, h, z)) in
+    write-passed t a w k out (rows-passed t a w k out (good-record t a b) (b .room) h (le-ltb (length out) (t .limits .gates) room))
+    ∙ written-good (limitsAt (t .limits) w) (partAt t a w) k out e
 
 pub find-write : FindWrite
 find-write = record {
@@ -280,8 +279,8 @@ find-write = record {
   refused-same = λ t a q out room. refused-same t a q out room;
   right = λ t a q k m h out l w. let (z, g) = answered t a q k m h out l w in let r = demand .right t a q out l g in (z, r .0, r .1, r .2);
   unitary = unitary;
-  larger = larger;
+  larger = λ mode. larger;
   complete = find-complete;
-  never-13 = λ t a b q n. never-13 t a q b n;
-  node-written = node-written;
+  never-13 = λ mode t a b q n. never-13 t a q b n;
+  node-written = λ mode. node-written;
 }

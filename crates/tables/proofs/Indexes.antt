@@ -10,6 +10,7 @@ use borrow.Author.Tests.{not-false}
 use lib.ListN.{length, getD, take, drop}
 use lib.Seq.{getD-take, getD-drop}
 use Rattle.walk.specs.Lookup.{Lookup, lowestFrom}
+use Rattle.walk.specs.Modes.{Mode}
 use Rattle.walk.specs.AtWidth.{printOf}
 use Rattle.walk.specs.Index.{By, scan, indexed, lookedUp, filled, kept}
 use Rattle.walk.specs.Finds.{lookedIn}
@@ -111,8 +112,8 @@ all-anew l prints count index other e p h =
     (λ w xs ys z. ap (λ (n : ℕ). filled (prints w) n (count w)) z) (l .qubits) other index (omega (arith, s .large)) (s .in-all ∙ sym h) h
 
 -- what a build does to an index up to width w keeps its length
-pub index-to-length : (l : Limits) (by : By) (w : ℕ) (index : List ℕ) → w ≤ l .qubits → length (indexTo l by w index) ≡ length index
-index-to-length l by = kept-to-length l by (printsOf l) (λ v. length (walkOf l v .nodes))
+pub index-to-length : (mode : Mode) (l : Limits) (by : By) (w : ℕ) (index : List ℕ) → w ≤ l .qubits → length (indexTo mode l by w index) ≡ length index
+index-to-length mode l by = kept-to-length l by (printsOf mode l) _
 
 -- ---- an index filled from a table, whatever the table holds
 
@@ -136,9 +137,9 @@ module _ (t : Table) (a : Arrays) where
       (part-fits (t .limits) (length (a .index)) (w - 1) (omega arith))
 
   -- where the record is not refused, a fingerprint leads to the node that the scan finds
-  pub looks-scan : FilledFrom t a → recordRow t .holds ≡ false → (w : ℕ) → 0 < w → w ≤ t .limits .qubits → (y : ℕ)
-      → lookedIn (partAt t a w) y ≡ lowestFrom (partOf w (t .limits .entries) (a .prints)) (countAt t w) 0 y
-  looks-scan f r w p h y = by (a .by) refl
+  pub looks-scan : FilledFrom t a → recordRow t .holds ≡ false → (w : ℕ) → 0 < w → w ≤ t .limits .qubits → (from y : ℕ)
+      → lookedIn (partAt t a w) from y ≡ lowestFrom (partOf w (t .limits .entries) (a .prints)) (countAt t w) from y
+  looks-scan f r w p h from y = by (a .by) refl
     where
       size : ℕ
       size = partSize (t .limits) (length (a .index))
@@ -147,9 +148,9 @@ module _ (t : Table) (a : Arrays) where
       fps = partOf w (t .limits .entries) (a .prints)
 
       through : By → List ℕ → Lookup
-      through b index = lookedUp b index fps (countAt t w) 0 y
+      through b index = lookedUp b index fps (countAt t w) from y
 
-      by : (b : By) → a .by ≡ b → lookedIn (partAt t a w) y ≡ lowestFrom fps (countAt t w) 0 y
+      by : (b : By) → a .by ≡ b → lookedIn (partAt t a w) from y ≡ lowestFrom fps (countAt t w) from y
       by scan e = ap (λ (b : By). through b (partOf w size (a .index))) e
       by indexed e =
           let s = part-sizes (t .limits) (length (a .index)) (indexed-parts (t .limits) (a .by) (length (a .index)) e (f .parts)) in
@@ -158,26 +159,26 @@ module _ (t : Table) (a : Arrays) where
           let n = index-part w p h in
           ap (λ (b : By). through b (partOf w size (a .index))) e
           ∙ ap (λ (i : List ℕ). through indexed i) (ap (partOf w size) (f .is e) ∙ fill-part w p h)
-          ∙ kept-looks-up indexed fps (partOf w size (a .index)) (countAt t w) 0 y (λ z. (omega (arith, c, n, s .large), omega (arith, c, l .entries)))
+          ∙ kept-looks-up indexed fps (partOf w size (a .index)) (countAt t w) from y (λ z. (omega (arith, c, n, s .large), omega (arith, c, l .entries)))
 
 -- ---- a built table
 
-module _ (t : Table) (a : Arrays) (b : Built t a) where
+module _ {mode : Mode} (t : Table) (a : Arrays) (b : Built mode t a) where
   -- the fingerprints of a width's part are those of its nodes
-  pub prints-at : (w : ℕ) → 0 < w → w ≤ t .limits .qubits → (j : ℕ) → j < length (walkOf (t .limits) w .nodes)
-      → getD (partOf w (t .limits .entries) (a .prints)) j 0 ≡ getD (printsOf (t .limits) w) j 0
+  pub prints-at : (w : ℕ) → 0 < w → w ≤ t .limits .qubits → (j : ℕ) → j < length (walkOf mode (t .limits) w .nodes)
+      → getD (partOf w (t .limits .entries) (a .prints)) j 0 ≡ getD (printsOf mode (t .limits) w) j 0
   unfolding printsOf
   prints-at w p h j l =
-      let c = walk-count (t .limits) w (accepted (t .limits) (b .accepted) .some) .1 in
+      let c = walk-count mode (t .limits) w (accepted (t .limits) (b .accepted) .some) .1 in
       getD-take (t .limits .entries) (drop ((w - 1) * t .limits .entries) (a .prints)) j 0 (omega (arith, c))
-      ∙ getD-drop ((w - 1) * t .limits .entries) (a .prints) j 0 ∙ b .nodes w p h j l .print ∙ sym (map-at (printOf w) (walkOf (t .limits) w .nodes) j l)
+      ∙ getD-drop ((w - 1) * t .limits .entries) (a .prints) j 0 ∙ b .nodes w p h j l .print ∙ sym (map-at (printOf w) (walkOf mode (t .limits) w .nodes) j l)
 
   -- a fill leaves what a build of the limits leaves
-  pub fill-is-build : filledIndex t a ≡ indexTo (t .limits) indexed (t .limits .qubits) (a .index)
+  pub fill-is-build : filledIndex t a ≡ indexTo mode (t .limits) indexed (t .limits .qubits) (a .index)
   unfolding filledIndex
   fill-is-build =
       parts-cong (λ w. kept indexed (partOf w (t .limits .entries) (a .prints)) (countAt t w))
-      (λ w. kept indexed (printsOf (t .limits) w) (length (walkOf (t .limits) w .nodes))) (partSize (t .limits) (length (a .index))) (t .limits .qubits) (a .index)
+      (λ w. kept indexed (printsOf mode (t .limits) w) (length (walkOf mode (t .limits) w .nodes))) (partSize (t .limits) (length (a .index))) (t .limits .qubits) (a .index)
       (λ v h xs. let c = count-at t a b (suc v) (omega arith) h in
       ap (λ (m : ℕ). kept indexed (partOf (suc v) (t .limits .entries) (a .prints)) m xs) c
-      ∙ kept-cong indexed _ _ xs (length (walkOf (t .limits) (suc v) .nodes)) (prints-at (suc v) (omega arith) h))
+      ∙ kept-cong indexed _ _ xs (length (walkOf mode (t .limits) (suc v) .nodes)) (prints-at (suc v) (omega arith) h))

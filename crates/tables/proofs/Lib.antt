@@ -18,5 +18,6 @@ pub mod ListExactly
 pub mod FindWrite
 pub mod EitherLookup
 pub mod Exactly
+pub mod AnswerRule
 pub mod Refused
 pub mod Samples

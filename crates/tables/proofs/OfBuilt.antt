@@ -11,32 +11,32 @@ use lib.ListN.{length, getD, drop}
 use lib.Seq.{getD-take, getD-drop}
 use Rattle.exact.specs.Matrix.{Exact, Lowest, allDivisible}
 use Rattle.exact.specs.Places.{read, held}
-use Rattle.exact.specs.Fingerprint.{fingerprint}
-use Rattle.walk.proofs.Nodewise.{answered}
 use Rattle.walk.specs.Walk.{listAt}
-use Rattle.walk.specs.Chains.{Chain, good, bad}
+use Rattle.walk.specs.Modes.{Mode}
+use Rattle.walk.specs.AtWidth.{atWidth}
+use Rattle.walk.specs.Chains.{good}
+use Rattle.walk.specs.Finds.{chainAt}
 use Rattle.walk.specs.Meaning.{BadFound}
-use Rattle.walk.proofs.Indexed.{leads-below}
-use Rattle.walk.proofs.Chaining.{bad-by}
-use Rattle.walk.specs.Lookup.{lowestFrom}
-use Rattle.walk.specs.Finds.{Part, partWith, chainAt, lookedIn}
+use Rattle.walk.proofs.Nodewise.{answered}
+use Rattle.walk.proofs.Grown.{Shape}
+use Rattle.walk.proofs.Layers.{walk-shape}
+use Rattle.walk.proofs.Holding.{Holding, held-chain, not-bad}
 use Rattle.walk.specs.Answers.{given, refused, outcome, answerOf}
 use Rattle.walk.specs.Answers as a
-use Rattle.walk.proofs.Meaning.{kind-of}
-use Rattle.tables.specs.Checks.{firstRow, Arrays, placesOf, roomRow, partsRow, queryRows}
-use Rattle.tables.specs.Tables.{Table, Width, widthAt, walkOf, Query, query, matrixOf, recordRow, listRow, partSize, partOf, notAWidth, synthesized, limitsAt, partAt}
+use Rattle.walk.proofs.Meaning.{kind-of, at-below}
+use Rattle.tables.specs.Checks.{firstRow, Arrays, roomRow, partsRow, queryRows}
+use Rattle.tables.specs.Tables.{Table, Width, widthAt, walkOf, Query, query, matrixOf, recordRow, listRow, partOf, notAWidth, synthesized, limitsAt, partAt}
 use Rattle.tables.specs.Built.{Built, FilledFrom}
 use Rattle.tables.specs.Demand3.{Gives}
 use Rattle.tables.proofs.Rows.{index-number, first-number, first-past}
 use Rattle.tables.proofs.Causes.{is-true, fails, none-to}
 use Rattle.tables.proofs.InWords.{query-in-words}
-use Rattle.tables.proofs.Accepted.{accepted, roomy}
-use Rattle.tables.proofs.Filled.{part-length, room-at}
+use Rattle.tables.proofs.Accepted.{accepted}
 pub use Rattle.tables.proofs.Counts.{has-width, a-width, counted}
 use Rattle.tables.proofs.Counts.{walk-count, count-at, width-is, good-record}
 use Rattle.tables.proofs.Indexes.{looks-scan}
 use Rattle.tables.proofs.Asked.{passed, good-look, look-passed}
-use Rattle.tables.proofs.Joined.{toldOption, Holding, chain-held, joined}
+use Rattle.tables.proofs.Joined.{toldOption, joined}
 use Rattle.tables.proofs.Replies.{not-given, one-list, rowOfAnswer, width-asked, gives-asked}
 
 -- ---- a query that no row refuses
@@ -83,12 +83,7 @@ not-refusal (some l) r out e = absurd (omega (arith, kind-of e))
 
 -- ---- a built table
 
--- a chain is good or bad
-abbrev isBad : Chain → ℕ
-isBad (good l) = 0
-isBad bad = 1
-
-module _ (t : Table) (a : Arrays) (b : Built t a) where
+module _ {mode : Mode} (t : Table) (a : Arrays) (b : Built mode t a) where
   -- its basis and its limits
   abbrev B : ℕ
   B = t .limits .basis
@@ -113,66 +108,55 @@ module _ (t : Table) (a : Arrays) (b : Built t a) where
   -- ---- a width that it has
 
   module _ (w : ℕ) (p : 0 < w) (h : w ≤ Q) where
-    -- a place of the width's part, and how many there are
+    -- a place of the width's part
     in-part : (xs : List ℕ) (j : ℕ) → j < E → getD (partOf w E xs) j 0 ≡ getD xs ((w - 1) * E + j) 0
     in-part xs j l = getD-take E (drop ((w - 1) * E) xs) j 0 l ∙ getD-drop ((w - 1) * E) xs j 0
 
-    part-size : (xs : List ℕ) → placesOf (t .limits) ≤ length xs → length (partOf w E xs) ≡ E
-    part-size xs r = part-length ((w - 1) * E) E xs (omega (arith, room-at (w - 1) Q E (omega arith)))
-
-    few : length (walkOf (t .limits) w .nodes) ≤ E
-    few = walk-count (t .limits) w (accepted (t .limits) (b .accepted) .some) .1
+    few : length (walkOf mode (t .limits) w .nodes) ≤ E
+    few = walk-count mode (t .limits) w (accepted (t .limits) (b .accepted) .some) .1
 
     -- the parts hold the nodes of the walk
-    holding : Holding w B (walkOf (t .limits) w .nodes) (partOf w E (a .prints)) (partOf w E (a .parents)) (partOf w E (a .codes))
-    holding =
-        let r = roomy (t .limits) a (b .room) in
-        record {
-          in-f = omega (arith, few, part-size (a .prints) (r .0));
-          in-u = omega (arith, few, part-size (a .parents) (r .1));
-          in-c = omega (arith, few, part-size (a .codes) (r .2));
-          prints = λ j l. in-part (a .prints) j (omega (arith, few)) ∙ b .nodes w p h j l .print;
-          parents = λ j l. in-part (a .parents) j (omega (arith, few)) ∙ b .nodes w p h j l .parent;
-          codes = λ j l. in-part (a .codes) j (omega (arith, few)) ∙ b .nodes w p h j l .code;
-        }
+    holding : Holding w (walkOf mode (t .limits) w .nodes) (partOf w E (a .prints)) (partOf w E (a .parents)) (partOf w E (a .codes))
+    holding = record {
+      prints = λ j l. in-part (a .prints) j (omega (arith, few)) ∙ b .nodes w p h j l .print;
+      parents = λ j l. in-part (a .parents) j (omega (arith, few)) ∙ b .nodes w p h j l .parent;
+      codes = λ j l. in-part (a .codes) j (omega (arith, few)) ∙ b .nodes w p h j l .code;
+    }
+
+    shape : Shape (atWidth mode w B) G E (walkOf mode (t .limits) w)
+    shape = walk-shape (atWidth mode w B) G E
 
     -- a node's chain is its list
-    pub chain-at : (k : ℕ) → k < widthAt t w .count → chainAt (limitsAt (t .limits) w) (partAt t a w) k ≡ good (reverse (listAt (walkOf (t .limits) w .nodes) k))
-    chain-at k l = chain-held w B (widths-small w h) G E holding k (omega (arith, l, ap (λ (v : Width). v .count) (width-is t a b w p h)))
+    pub chain-at : (k : ℕ) → k < widthAt t w .count → chainAt (limitsAt (t .limits) w) (partAt t a w) k ≡ good (reverse (listAt (walkOf mode (t .limits) w .nodes) k))
+    chain-at k l =
+        held-chain mode (limitsAt (t .limits) w) (widths-small w h) (shape .layered .grown) (shape .limit) (partAt t a w) (count-at t a b w p h) holding k
+        (omega (arith, l, ap (λ (v : Width). v .count) (width-is t a b w p h)))
+
+    -- and none that is looked at is bad
+    good-chains : (x : Exact) → BadFound (limitsAt (t .limits) w) (partAt t a w) x → ⊥
+    good-chains =
+        not-bad mode (limitsAt (t .limits) w) (widths-small w h) (shape .layered .grown) (shape .limit) (partAt t a w) (count-at t a b w p h) holding
 
     -- it answers as the walk does, where the index was filled from it
     pub part-answers : FilledFrom t a → (x : Exact) (out : List ℕ)
         → answerOf (limitsAt (t .limits) w) (partAt t a w) x out
-        ≡ toldOption (answered w B G E x) out
+        ≡ toldOption (answered mode w B G E x) out
     part-answers f x out =
-        let c = count-at t a b w p h in
-        ap (λ (j : ℕ). answerOf (limitsAt (t .limits) w) (part j) x out) c
-        ∙ joined w B G E (widths-small w h) (a .by) (part 0 .fingerprints) (part 0 .parents) (part 0 .codes) (part 0 .index) holding
-        (λ y. ap (λ (j : ℕ). lookedIn (part j) y) (sym c) ∙ looks-scan t a f (good-record t a b) w p h y
-        ∙ ap (λ (j : ℕ). lowestFrom (part 0 .fingerprints) j 0 y) c) x out
-      where
-        -- the part, with another count
-        part : ℕ → Part
-        part j =
-            partWith (a .by) (partOf w E (a .prints)) (partOf w E (a .parents)) (partOf w E (a .codes)) j
-            (partOf w (partSize (t .limits) (length (a .index))) (a .index))
+        joined mode (limitsAt (t .limits) w) (widths-small w h) (partAt t a w) (count-at t a b w p h) holding x (looks-scan t a f (good-record t a b) w p h) out
 
-  -- whatever the index holds, what is found has no fault: it is one of the width's nodes
+  -- whatever the index holds, what is looked at has no fault: it is one of the width's nodes
   pub no-fault : (w : ℕ) (x : Exact) → BadFound (limitsAt (t .limits) w) (partAt t a w) x → ⊥
-  no-fault w x f =
-      let below = leads-below (a .by) (partAt t a w .index) (partAt t a w .fingerprints) (partAt t a w .count) 0 (fingerprint w x) (f .node) (f .leads) in
-      let (p, h, z) = counted t w below in
-      absurd (omega (arith, ap isBad (sym (chain-at w p h (f .node) (omega (arith, below, z))) ∙ bad-by _ _ _ _ _ (f .node) (f .fault))))
+  no-fault w x f = let (p, h, z) = counted t w (at-below (limitsAt (t .limits) w) (partAt t a w) x (f .leads)) in good-chains w p h x f
 
   -- ---- a query
 
   module _ (q : Query) (out : List ℕ) where
     -- that no row refuses, of a width that the table has
-    pub told-walk : FilledFrom t a → rowOfAnswer t a q out ≡ 0 → notAWidth t (q .width) ≡ false → synthesized t a q out ≡ toldOption (answered (q .width) B G E (matrixOf q)) out
+    pub told-walk : FilledFrom t a → rowOfAnswer t a q out ≡ 0 → notAWidth t (q .width) ≡ false → synthesized t a q out ≡ toldOption (answered mode (q .width) B G E (matrixOf q)) out
     told-walk x e f = let w = a-width t (q .width) f in width-asked t a q out e f ∙ part-answers (q .width) (w .0) (w .1) x (matrixOf q) out
 
     -- a list is the walk's
-    pub gives-walk : FilledFrom t a → (l : List ℕ) → Gives t a q out l → answered (q .width) B G E (matrixOf q) ≡ some l
+    pub gives-walk : FilledFrom t a → (l : List ℕ) → Gives t a q out l → answered mode (q .width) B G E (matrixOf q) ≡ some l
     gives-walk x l g =
         let (e, f, p) = gives-asked t a q out l g in
-        told-some (answered (q .width) B G E (matrixOf q)) out l (sym (told-walk x e f) ∙ g)
+        told-some (answered mode (q .width) B G E (matrixOf q)) out l (sym (told-walk x e f) ∙ g)

@@ -6,11 +6,12 @@ use mathlib.Core.List.{List, [], _∷_, _++_}
 use Prim.Native.Nat.{ℕ, _<_}
 use native.Mathlib.Omega.{arith}
 use lib.ListN.{length, drop}
+use Rattle.walk.specs.Modes.{Mode}
 use Rattle.walk.specs.Answers.{refused, outcome}
 use Rattle.walk.specs.Meaning.{AnsweredBy, NoList, BadFound}
 use Rattle.walk.proofs.Meaning.{kind-of}
 use Rattle.tables.specs.Checks.{firstRow, Arrays, partsRow, queryRows}
-use Rattle.tables.specs.Tables.{Table, widthAt, Query, matrixOf, listRow, partOf, notAWidth, limitsAt, partAt}
+use Rattle.tables.specs.Tables.{Table, Query, matrixOf, listRow, notAWidth, limitsAt, partAt}
 use Rattle.tables.specs.Built.{Built}
 use Rattle.tables.specs.Demand3.{Gives, GivesNone, Refuses, NotRefused}
 use Rattle.tables.specs.Exactly.{cause, First, queryCauses}
@@ -31,7 +32,7 @@ module _ (t : Table) (a : Arrays) (q : Query) (out : List ℕ) where
   abbrev NoPart : Type 0
   NoPart = NoList (limitsAt (t .limits) (q .width)) (partAt t a (q .width)) (matrixOf q)
 
-  -- a refusal comes from the first row that holds, or is 13 for the chain found
+  -- a refusal comes from the first row that holds, or is 13 for a chain that is met
   data Refusal (r : ℕ) : Type 0 where
     row-holds : 0 < r → rowOfAnswer t a q out ≡ r → Refusal r
     chain-bad : r ≡ 13 → rowOfAnswer t a q out ≡ 0 → notAWidth t (q .width) ≡ false → BadPart → Refusal r
@@ -71,8 +72,8 @@ module _ (t : Table) (a : Arrays) (q : Query) (out : List ℕ) where
 
   -- ---- a built table whose index 17 does not refuse: the query's rows and the list's are all
 
-  pub refused-built : Built t a → partsRow (t .limits) a .holds ≡ false → (r : ℕ) → Refuses t a q out r ↔ First r 0 (queryCauses q ++ (cause 12 (length out < t .limits .gates) ∷ []))
-  refused-built b i r = (
+  pub refused-built : {mode : Mode} → Built mode t a → partsRow (t .limits) a .holds ≡ false → (r : ℕ) → Refuses t a q out r ↔ First r 0 (queryCauses q ++ (cause 12 (length out < t .limits .gates) ∷ []))
+  refused-built {mode} b i r = (
     (λ n. let (h, e) = to n (refused-by r n) in first-to words r h (sym (rows-are t a b i q out) ∙ e)),
     (λ w. let (e, h, z) = first-from words r 0 w in row-refuses t a q out r h (rows-are t a b i q out ∙ e)),
   )
@@ -82,12 +83,12 @@ module _ (t : Table) (a : Arrays) (q : Query) (out : List ℕ) where
 
       to : Refuses t a q out r → Refusal r → (0 < r) × (rowOfAnswer t a q out ≡ r)
       to n (row-holds h e) = (h, e)
-      to n (chain-bad z e w x) = absurd (demand .never-13 t a b q out (n ∙ ap (λ (s : ℕ). outcome (refused s 0) out) z))
+      to n (chain-bad z e w x) = absurd (demand .never-13 mode t a b q out (n ∙ ap (λ (s : ℕ). outcome (refused s 0) out) z))
 
   -- a query that none of these rows refuses is not refused
-  pub never-refused : Built t a → partsRow (t .limits) a .holds ≡ false → firstRow (queryRows (q .width) (q .exponent) (q .bytes) ++ (listRow t out ∷ [])) ≡ 0 → NotRefused t a q out
-  never-refused b i e r n = by (refused-by r n)
+  pub never-refused : {mode : Mode} → Built mode t a → partsRow (t .limits) a .holds ≡ false → firstRow (queryRows (q .width) (q .exponent) (q .bytes) ++ (listRow t out ∷ [])) ≡ 0 → NotRefused t a q out
+  never-refused {mode} b i e r n = by (refused-by r n)
     where
       by : Refusal r → ⊥
       by (row-holds h z) = absurd (omega (arith, h, sym z ∙ (rows-are t a b i q out ∙ e)))
-      by (chain-bad z x w y) = demand .never-13 t a b q out (n ∙ ap (λ (s : ℕ). outcome (refused s 0) out) z)
+      by (chain-bad z x w y) = demand .never-13 mode t a b q out (n ∙ ap (λ (s : ℕ). outcome (refused s 0) out) z)

@@ -37,23 +37,24 @@ use Rattle.walk.specs.Chains.{marked, chainOf}
 use Rattle.walk.specs.Walk.{skipped, try, tryAll, layer, deeper, depths, walk}
 use Rattle.exact.proofs.Listed.{product-nil}
 use Rattle.walk.proofs.Nodewise.{recheck, answerBy, answered}
+use Rattle.walk.specs.Modes.{Mode, byPrint, keeping}
 use Rattle.walk.specs.AtWidth.{samePrint, atWidth, built, ListOf, NoSharedPrint, printOf}
 use Rattle.walk.specs.Known.{SkippedRightly}
 use Rattle.walk.proofs.Nodes.{first}
 use Rattle.walk.proofs.Layers.{walk-shape}
 use Rattle.walk.proofs.Known.{present-no-clash}
 use Rattle.walk.proofs.Exactly.{no-clash}
-use Rattle.walk.proofs.NotEmpty.{no-shared, unsaturated}
-use Rattle.walk.specs.Finds.{rechecked, findOf}
+use Rattle.walk.proofs.NotEmpty.{no-shared}
+use Rattle.walk.specs.Finds.{rechecked, findFrom, findBy}
 use Rattle.walk.specs.Finds as f
 use Rattle.walk.specs.Answers.{writeOf}
 use Rattle.walk.proofs.Meaning.{kind-of}
 use Rattle.tables.specs.Checks.{firstRow, Limits, limitRows, Arrays, inParts, indexRow, partsRow, anyBelow, queryRows}
-use Rattle.tables.specs.Tables.{Table, widthAt, recordOf, builtTo, refusal, left, buildRows, buildOf, filledIndex, filled, not-filled, fillLeft, fillOf, partsTo, Query, query, matrixOf, listRow, foundIn, writtenIn, synthesized}
+use Rattle.tables.specs.Tables.{Table, widthAt, walkOf, recordOf, builtTo, refusal, left, buildRows, buildOf, filledIndex, filled, not-filled, fillLeft, fillOf, partsTo, Query, query, matrixOf, listRow, foundIn, writtenIn, synthesized}
 use Rattle.tables.specs.Built.{Built, FilledFrom}
 use Rattle.tables.specs.EitherLookup.{scanned, through}
 use Rattle.tables.specs.Demand3.{Gives, GivesNone, Refuses, NotRefused, NoSmaller, Reaches, Complete}
-use Rattle.tables.specs.Samples.{xLimits, largerLimits, chLimits, Places, askX, askT, askZero, lent, damaged, mistaken, circular, foreign, forgotten, emptied, crowded, misled, one-place, no-places, strange, fewer, Samples}
+use Rattle.tables.specs.Samples.{xLimits, largerLimits, chLimits, Places, askX, askT, askZero, lent, damaged, mistaken, circular, foreign, forgotten, emptied, crowded, misled, one-place, no-places, strange, fewer, clashing, three, alike, Samples}
 use Rattle.tables.proofs.Rows.{numbered-query, first-here, first-past, firstRow-append}
 use Rattle.tables.proofs.InWords.{not-both}
 use Rattle.tables.proofs.Accepted.{room-is}
@@ -64,6 +65,8 @@ use Rattle.tables.proofs.Replies.{rowOfAnswer, row-refuses}
 use Rattle.tables.proofs.OfBuilt.{has-width, not-refusal, rows-are, told-walk}
 use Rattle.tables.proofs.Demand3.{demand}
 use Rattle.tables.proofs.FindWrite.{find-write}
+use Rattle.tables.specs.AnswerRule.{firstFoundIn, firstSynthesized}
+use Rattle.walk.specs.Answers as ans
 use Rattle.tables.specs.FindWrite.{Finds, FindsNone, FindRefuses, Writes, WriteRefuses}
 
 -- ---- computed
@@ -94,6 +97,11 @@ zero-not-unitary : Unitary 1 (matrixOf askZero) → ⊥
 unfolding inner conj mulω addω zeroω entry
 zero-not-unitary u = clash (ap (λ (z : Zω). eqZ (z .a) (pos 1)) (u .own 0 (omega arith))) refl
 
+-- what holds in each of the two modes
+each-mode : (P : Mode → Type 0) → P byPrint → P keeping → (mode : Mode) → P mode
+each-mode P p k byPrint = p
+each-mode P p k keeping = k
+
 record Computed : Type 0 where
   -- no row refuses the limits or the queries, and row 3 refuses the basis with Ch
   ch-limits : (a : Arrays) → firstRow (buildRows chLimits a) ≡ 3
@@ -102,44 +110,53 @@ record Computed : Type 0 where
   x-passes : firstRow (queryRows 1 0 (askX .bytes)) ≡ 0
   t-passes : firstRow (queryRows 1 0 (askT .bytes)) ≡ 0
   zero-passes : firstRow (queryRows 1 0 (askZero .bytes)) ≡ 0
-  -- what the walk of width 1 answers
-  walk-x : answered 1 2 8 2 (matrixOf askX) ≡ some (4096 ∷ [])
-  walk-t : answered 1 2 8 2 (matrixOf askT) ≡ none
+  -- what the walk of width 1 answers in each mode; it is not saturated
+  walk-x : (mode : Mode) → answered mode 1 2 8 2 (matrixOf askX) ≡ some (4096 ∷ [])
+  walk-t : (mode : Mode) → answered mode 1 2 8 2 (matrixOf askT) ≡ none
+  unsaturated : (mode : Mode) → walkOf mode xLimits 1 .saturated ≡ false
   -- what the altered memory answers; node 0's fingerprint is not 7
-  damaged-x : Gives (recordOf xLimits) damaged askX lent (4096 ∷ [])
-  mistaken-t : GivesNone (recordOf xLimits) mistaken askT lent
-  circular-x : Refuses (recordOf xLimits) circular askX lent 13
-  foreign-x : Refuses (recordOf xLimits) foreign askX lent 13
-  forgotten-x : GivesNone (recordOf xLimits) forgotten askX lent
-  damaged-find : Finds (recordOf xLimits) damaged askX 1 1
-  damaged-write : Writes (recordOf xLimits) damaged 1 1 lent (4096 ∷ [])
-  mistaken-find : FindsNone (recordOf xLimits) mistaken askT
-  mistaken-write : Writes (recordOf xLimits) mistaken 1 1 lent (4096 ∷ [])
-  circular-find : FindRefuses (recordOf xLimits) circular askX 13
-  circular-write : WriteRefuses (recordOf xLimits) circular 1 1 lent 13
-  circular-short : WriteRefuses (recordOf xLimits) circular 1 1 [] 12 × Refuses (recordOf xLimits) circular askX [] 12
-  no-node : WriteRefuses (recordOf xLimits) circular 1 2 [] 16
+  damaged-x : Gives (recordOf byPrint xLimits) damaged askX lent (4096 ∷ [])
+  mistaken-t : GivesNone (recordOf byPrint xLimits) mistaken askT lent
+  circular-x : Refuses (recordOf byPrint xLimits) circular askX lent 13
+  foreign-x : Refuses (recordOf byPrint xLimits) foreign askX lent 13
+  forgotten-x : GivesNone (recordOf byPrint xLimits) forgotten askX lent
+  damaged-find : Finds (recordOf byPrint xLimits) damaged askX 1 1
+  damaged-write : Writes (recordOf byPrint xLimits) damaged 1 1 lent (4096 ∷ [])
+  mistaken-find : FindsNone (recordOf byPrint xLimits) mistaken askT
+  mistaken-write : Writes (recordOf byPrint xLimits) mistaken 1 1 lent (4096 ∷ [])
+  circular-find : FindRefuses (recordOf byPrint xLimits) circular askX 13
+  circular-write : WriteRefuses (recordOf byPrint xLimits) circular 1 1 lent 13
+  circular-short : WriteRefuses (recordOf byPrint xLimits) circular 1 1 [] 12 × Refuses (recordOf byPrint xLimits) circular askX [] 12
+  no-node : WriteRefuses (recordOf byPrint xLimits) circular 1 2 [] 16
   past-count : FindsNone fewer damaged askX × WriteRefuses fewer damaged 1 1 lent 16
   strange-count : ltb 0 (widthAt strange 2 .count) ≡ true
   no-width : WriteRefuses strange damaged 2 0 lent 16 × WriteRefuses strange damaged 0 0 lent 16 × WriteRefuses strange damaged 4294967295 0 lent 16
   -- how many places an index may have, what the altered index answers, and that an empty one leads nowhere
   four-places : (inParts xLimits 4 ≡ true) × (inParts xLimits 3 ≡ false) × (inParts xLimits 2 ≡ false) × (inParts largerLimits 8 ≡ false) × (inParts largerLimits 16 ≡ true)
   six-places : (inParts xLimits 6 ≡ false) × (inParts largerLimits 12 ≡ false) × (inParts xLimits 8 ≡ true) × (inParts xLimits 0 ≡ false)
-  one-build : (buildOf xLimits one-place ≡ left (refusal 17 0) one-place) × (buildOf xLimits no-places ≡ left (refusal 5 0) no-places)
-  one-fill : (fillOf (recordOf xLimits) one-place ≡ fillLeft (not-filled 17 0) (0 ∷ [])) × (fillOf (recordOf xLimits) no-places ≡ fillLeft (not-filled 5 0) [])
-  one-answer : Refuses (recordOf xLimits) one-place askX lent 17 × Refuses (recordOf xLimits) one-place (query 6 0 []) [] 17
-      × Refuses (recordOf xLimits) no-places askX lent 5
-  damaged-fill : fillOf (recordOf xLimits) (through damaged (0 ∷ 1 ∷ 2 ∷ mark ∷ [])) ≡ fillLeft filled (mark ∷ 1 ∷ mark ∷ 0 ∷ [])
-  damaged-filled : Gives (recordOf xLimits) (through damaged (mark ∷ 1 ∷ mark ∷ 0 ∷ [])) askX lent (4096 ∷ [])
-  crowded-x : Gives (recordOf xLimits) crowded askX lent (4096 ∷ [])
-  misled-t : GivesNone (recordOf xLimits) misled askT lent
-  emptied-found : (a : Arrays) → partFound (recordOf xLimits) (emptied a) askX ≡ f.none
+  one-build : (buildOf byPrint xLimits one-place ≡ left (refusal 17 0) one-place) × (buildOf byPrint xLimits no-places ≡ left (refusal 5 0) no-places)
+  one-fill : (fillOf (recordOf byPrint xLimits) one-place ≡ fillLeft (not-filled 17 0) (0 ∷ [])) × (fillOf (recordOf byPrint xLimits) no-places ≡ fillLeft (not-filled 5 0) [])
+  one-answer : Refuses (recordOf byPrint xLimits) one-place askX lent 17 × Refuses (recordOf byPrint xLimits) one-place (query 6 0 []) [] 17
+      × Refuses (recordOf byPrint xLimits) no-places askX lent 5
+  damaged-fill : fillOf (recordOf byPrint xLimits) (through damaged (0 ∷ 1 ∷ 2 ∷ mark ∷ [])) ≡ fillLeft filled (mark ∷ 1 ∷ mark ∷ 0 ∷ [])
+  damaged-filled : Gives (recordOf byPrint xLimits) (through damaged (mark ∷ 1 ∷ mark ∷ 0 ∷ [])) askX lent (4096 ∷ [])
+  crowded-x : Gives (recordOf byPrint xLimits) crowded askX lent (4096 ∷ [])
+  misled-t : GivesNone (recordOf byPrint xLimits) misled askT lent
+  emptied-found : (a : Arrays) → partFound (recordOf byPrint xLimits) (emptied a) askX ≡ f.none
   root-print : eqb 7 (fingerprint 1 identity) ≡ false
+  -- memory with one fingerprint several times
+  clashing-x : Gives (recordOf byPrint xLimits) clashing askX lent (4096 ∷ [])
+  clashing-find : Finds (recordOf byPrint xLimits) clashing askX 1 1
+  clashing-fill : fillOf (recordOf byPrint xLimits) (through clashing (0 ∷ 0 ∷ 0 ∷ 0 ∷ [])) ≡ fillLeft filled (mark ∷ 0 ∷ 1 ∷ mark ∷ [])
+  clashing-filled : Gives (recordOf byPrint xLimits) (through clashing (mark ∷ 0 ∷ 1 ∷ mark ∷ [])) askX lent (4096 ∷ [])
+  clashing-first : (firstFoundIn (recordOf byPrint xLimits) clashing askX ≡ f.none) × (firstSynthesized (recordOf byPrint xLimits) clashing askX lent ≡ ans.outcome ans.none lent)
+  bad-before : Refuses three (alike 1 0) askX lent 13 × FindRefuses three (alike 1 0) askX 13
+  bad-behind : Gives three (alike 0 2) askX lent (4096 ∷ []) × Finds three (alike 0 2) askX 1 1
   -- X is of the basis
   x-of : ListOf 1 2 (4096 ∷ [])
 
 computed : Computed
-unfolding ofTables buildOf fillOf filledIndex partsTo index.filled inserted freeOf synthesized foundIn writtenIn recordOf firstRow inParts subset anyBelow findOf writeOf lowestFrom probed probeOf chainOf marked rechecked steps answerBy recheck upToPhase eqω product walk depths deeper layer tryAll try skipped samePrint fingerprint mix fold Words.product rotated word pivot phaseOf leastUpTo less turn zeroω oneω isZero gateOf column flip lower stepFits fits valid validFor placed rises all elem distinct range each kept generators kindAt arity sorted isKind number dual inverse qubits disjoint bit entry
+unfolding firstFoundIn firstSynthesized ofTables buildOf fillOf filledIndex partsTo index.filled inserted freeOf synthesized foundIn writtenIn recordOf firstRow inParts subset anyBelow findBy findFrom writeOf lowestFrom probed probeOf chainOf marked rechecked steps answerBy recheck upToPhase eqω product walk depths deeper layer tryAll try skipped samePrint fingerprint mix fold Words.product rotated word pivot phaseOf leastUpTo less turn zeroω oneω isZero gateOf column flip lower stepFits fits valid validFor placed rises all elem distinct range each kept generators kindAt arity sorted isKind number dual inverse qubits disjoint bit entry
 computed = record {
   ch-limits = λ a. refl;
   x-limits = refl;
@@ -147,8 +164,9 @@ computed = record {
   x-passes = refl;
   t-passes = refl;
   zero-passes = refl;
-  walk-x = refl;
-  walk-t = refl;
+  walk-x = each-mode (λ mode. answered mode 1 2 8 2 (matrixOf askX) ≡ some (4096 ∷ [])) refl refl;
+  walk-t = each-mode (λ mode. answered mode 1 2 8 2 (matrixOf askT) ≡ none) refl refl;
+  unsaturated = each-mode (λ mode. walkOf mode xLimits 1 .saturated ≡ false) refl refl;
   damaged-x = refl;
   mistaken-t = refl;
   circular-x = refl;
@@ -176,6 +194,13 @@ computed = record {
   misled-t = refl;
   emptied-found = λ a. refl;
   root-print = refl;
+  clashing-x = refl;
+  clashing-find = refl;
+  clashing-fill = refl;
+  clashing-filled = refl;
+  clashing-first = (refl, refl);
+  bad-before = (refl, refl);
+  bad-behind = (refl, refl);
   x-of = refl;
 }
 
@@ -186,82 +211,88 @@ fills : (l : Limits) (a : Arrays) → firstRow (limitRows l) ≡ 0 → Places l 
 fills l a e p = rows-none l a e (room-is l a (p .in-prints) (p .in-parents) (p .in-codes)) (p .in-index)
 
 -- a build leaves a built table of the limits, and an index that is filled from it
-left-by : (l : Limits) (a : Arrays) → firstRow (limitRows l) ≡ 0 → Places l a
-    → Built (recordOf l) (builtTo l (l .qubits) a) × (recordOf l .limits ≡ l) × FilledFrom (recordOf l) (builtTo l (l .qubits) a)
-left-by l a e p = demand .build-built l a (builtTo l (l .qubits) a) (recordOf l) (build-fills l a (fills l a e p))
+left-by : (mode : Mode) (l : Limits) (a : Arrays) → firstRow (limitRows l) ≡ 0 → Places l a
+    → Built mode (recordOf mode l) (builtTo mode l (l .qubits) a) × (recordOf mode l .limits ≡ l) × FilledFrom (recordOf mode l) (builtTo mode l (l .qubits) a)
+left-by mode l a e p = demand .build-built mode l a (builtTo mode l (l .qubits) a) (recordOf mode l) (build-fills mode l a (fills l a e p))
 
 -- only 12 may refuse a query that passes
-asked-12 : (t : Table) (a : Arrays) → Built t a → partsRow (t .limits) a .holds ≡ false → (q : Query) (out : List ℕ)
+asked-12 : {mode : Mode} (t : Table) (a : Arrays) → Built mode t a → partsRow (t .limits) a .holds ≡ false → (q : Query) (out : List ℕ)
     → firstRow (queryRows (q .width) (q .exponent) (q .bytes)) ≡ 0 → rowOfAnswer t a q out ≡ firstRow (listRow t out ∷ [])
 asked-12 t a b p q out e =
     rows-are t a b p q out
     ∙ firstRow-append (queryRows (q .width) (q .exponent) (q .bytes)) (listRow t out ∷ []) (numbered-query (q .width) (q .exponent) (q .bytes)) e
 
 -- a query that passes is answered as the walk does, where the lent list has G places, and otherwise is refused by 12
-module _ (l : Limits) (a : Arrays) (b : Built (recordOf l) a) (x : FilledFrom (recordOf l) a) (q : Query) (out : List ℕ)
+module _ {mode : Mode} (l : Limits) (a : Arrays) (b : Built mode (recordOf mode l) a) (x : FilledFrom (recordOf mode l) a) (q : Query) (out : List ℕ)
     (e : firstRow (queryRows (q .width) (q .exponent) (q .bytes)) ≡ 0) where
-  only-12 : rowOfAnswer (recordOf l) a q out ≡ firstRow (listRow (recordOf l) out ∷ [])
-  only-12 = asked-12 (recordOf l) a b (x .parts) q out e
+  only-12 : rowOfAnswer (recordOf mode l) a q out ≡ firstRow (listRow (recordOf mode l) out ∷ [])
+  only-12 = asked-12 (recordOf mode l) a b (x .parts) q out e
 
   told : l .gates ≤ length out → 0 < q .width → q .width ≤ l .qubits
-      → synthesized (recordOf l) a q out ≡ toldOption (answered (q .width) (l .basis) (l .gates) (l .entries) (matrixOf q)) out
+      → synthesized (recordOf mode l) a q out ≡ toldOption (answered mode (q .width) (l .basis) (l .gates) (l .entries) (matrixOf q)) out
   unfolding recordOf firstRow
   told h p w =
-      told-walk (recordOf l) a b q out x (only-12 ∙ first-past (listRow (recordOf l) out) [] (le-ltb (length out) (l .gates) h))
-      (has-width (recordOf l) (q .width) p w)
+      told-walk (recordOf mode l) a b q out x (only-12 ∙ first-past (listRow (recordOf mode l) out) [] (le-ltb (length out) (l .gates) h))
+      (has-width (recordOf mode l) (q .width) p w)
 
-  too-short : length out < l .gates → Refuses (recordOf l) a q out 12
+  too-short : length out < l .gates → Refuses (recordOf mode l) a q out 12
   unfolding recordOf
   too-short h =
-      row-refuses (recordOf l) a q out 12 (omega arith)
-      (only-12 ∙ first-here (listRow (recordOf l) out) [] (lt-ltb (length out) (l .gates) h))
+      row-refuses (recordOf mode l) a q out 12 (omega arith)
+      (only-12 ∙ first-here (listRow (recordOf mode l) out) [] (lt-ltb (length out) (l .gates) h))
 
-module _ (a : Arrays) (p : Places xLimits a) where
-  a-table : Built (recordOf xLimits) (builtTo xLimits 1 a)
-  a-table = left-by xLimits a (computed .x-limits) p .0
+-- X alone, in either mode
+module _ (mode : Mode) (a : Arrays) (p : Places xLimits a) where
+  a-table : Built mode (recordOf mode xLimits) (builtTo mode xLimits 1 a)
+  a-table = left-by mode xLimits a (computed .x-limits) p .0
 
-  a-filled : FilledFrom (recordOf xLimits) (builtTo xLimits 1 a)
-  a-filled = left-by xLimits a (computed .x-limits) p .2
+  a-filled : FilledFrom (recordOf mode xLimits) (builtTo mode xLimits 1 a)
+  a-filled = left-by mode xLimits a (computed .x-limits) p .2
 
-  complete : (q : Query) → q .width ≡ 1 → Complete (recordOf xLimits) (builtTo xLimits 1 a) q
-  unfolding recordOf
-  complete q e =
-      demand .complete (recordOf xLimits) (builtTo xLimits 1 a) a-table a-filled (omega arith) q
-      (subst (λ (n : ℕ). NoSharedPrint n 2 8) (sym e) (no-shared 8))
-
-  gives-x : (out : List ℕ) → 8 ≤ length out → Gives (recordOf xLimits) (builtTo xLimits 1 a) askX out (4096 ∷ [])
+  gives-x : (out : List ℕ) → 8 ≤ length out → Gives (recordOf mode xLimits) (builtTo mode xLimits 1 a) askX out (4096 ∷ [])
   gives-x out h =
-      told xLimits (builtTo xLimits 1 a) a-table a-filled askX out (computed .x-passes) h (omega arith) (omega arith)
-      ∙ ap (λ (o : Option (List ℕ)). toldOption o out) (computed .walk-x)
+      told xLimits (builtTo mode xLimits 1 a) a-table a-filled askX out (computed .x-passes) h (omega arith) (omega arith)
+      ∙ ap (λ (o : Option (List ℕ)). toldOption o out) (computed .walk-x mode)
 
-  none-t : (out : List ℕ) → 8 ≤ length out → GivesNone (recordOf xLimits) (builtTo xLimits 1 a) askT out
+  none-t : (out : List ℕ) → 8 ≤ length out → GivesNone (recordOf mode xLimits) (builtTo mode xLimits 1 a) askT out
   none-t out h =
-      told xLimits (builtTo xLimits 1 a) a-table a-filled askT out (computed .t-passes) h (omega arith) (omega arith)
-      ∙ ap (λ (o : Option (List ℕ)). toldOption o out) (computed .walk-t)
+      told xLimits (builtTo mode xLimits 1 a) a-table a-filled askT out (computed .t-passes) h (omega arith) (omega arith)
+      ∙ ap (λ (o : Option (List ℕ)). toldOption o out) (computed .walk-t mode)
 
-  finds-none-t : FindsNone (recordOf xLimits) (builtTo xLimits 1 a) askT
+  finds-none-t : FindsNone (recordOf mode xLimits) (builtTo mode xLimits 1 a) askT
   unfolding recordOf
-  finds-none-t = find-write .none-same (recordOf xLimits) (builtTo xLimits 1 a) askT lent (omega arith) .1 (none-t lent (omega arith))
+  finds-none-t = find-write .none-same (recordOf mode xLimits) (builtTo mode xLimits 1 a) askT lent (omega arith) .1 (none-t lent (omega arith))
 
   -- none is no refusal
-  not-refused : NotRefused (recordOf xLimits) (builtTo xLimits 1 a) askT lent
+  not-refused : NotRefused (recordOf mode xLimits) (builtTo mode xLimits 1 a) askT lent
   not-refused r n = absurd (omega (arith, kind-of (sym (none-t lent (omega arith)) ∙ n)))
 
-  no-t : (m : List ℕ) → Reaches (recordOf xLimits) askT m → length m ≤ 8 → ⊥
+  no-t : Complete (recordOf mode xLimits) (builtTo mode xLimits 1 a) askT → (m : List ℕ) → Reaches (recordOf mode xLimits) askT m → length m ≤ 8 → ⊥
   unfolding recordOf
-  no-t m r h =
-      complete askT refl .none-exactly (omega arith) (omega arith) unsaturated lent not-refused .0 (none-t lent (omega arith)) m r h
+  no-t c m r h = c .none-exactly (omega arith) (omega arith) (computed .unsaturated mode) lent not-refused .0 (none-t lent (omega arith)) m r h
 
-  zero-passes : (out : List ℕ) → 8 ≤ length out → NotRefused (recordOf xLimits) (builtTo xLimits 1 a) askZero out
+  zero-passes : (out : List ℕ) → 8 ≤ length out → NotRefused (recordOf mode xLimits) (builtTo mode xLimits 1 a) askZero out
   zero-passes out h r n =
-      not-refusal (answered 1 2 8 2 (matrixOf askZero)) r out
-      (sym (told xLimits (builtTo xLimits 1 a) a-table a-filled askZero out (computed .zero-passes) h (omega arith) (omega arith)) ∙ n)
+      not-refusal (answered mode 1 2 8 2 (matrixOf askZero)) r out
+      (sym (told xLimits (builtTo mode xLimits 1 a) a-table a-filled askZero out (computed .zero-passes) h (omega arith) (omega arith)) ∙ n)
 
-skipped-rightly : SkippedRightly 1 2 8 2
+-- (c): where a fingerprint alone makes known, by the condition; where clashing nodes are kept, without one
+complete : (a : Arrays) → Places xLimits a → (q : Query) → q .width ≡ 1 → Complete (recordOf byPrint xLimits) (builtTo byPrint xLimits 1 a) q
+unfolding recordOf
+complete a p q e =
+    demand .complete byPrint (recordOf byPrint xLimits) (builtTo byPrint xLimits 1 a) (a-table byPrint a p) (a-filled byPrint a p) (omega arith) q
+    (subst (λ (n : ℕ). NoSharedPrint n 2 8) (sym e) (no-shared 8))
+
+keeping-complete : (a : Arrays) → Places xLimits a → (q : Query) → Complete (recordOf keeping xLimits) (builtTo keeping xLimits 1 a) q
+unfolding recordOf
+keeping-complete a p =
+    demand .complete-keeping (recordOf keeping xLimits) (builtTo keeping xLimits 1 a) (a-table keeping a p) (a-filled keeping a p) (omega arith)
+
+skipped-rightly : SkippedRightly byPrint 1 2 8 2
 skipped-rightly =
-    let s = walk-shape (atWidth 1 2) 8 2 in
-    present-no-clash (atWidth 1 2) (PowerOf 1) 8 (no-clash 1 2 (omega arith) 8 (no-shared 8)) (built 1 2 8 2 .nodes) (s .layered .grown) (s .limit)
-    (built 1 2 8 2 .depth) (s .depth)
+    let s = walk-shape (atWidth byPrint 1 2) 8 2 in
+    present-no-clash (atWidth byPrint 1 2) (PowerOf 1) 8 (no-clash byPrint 1 2 (omega arith) 8 (no-shared 8)) (built byPrint 1 2 8 2 .nodes) (s .layered .grown) (s .limit)
+    (built byPrint 1 2 8 2 .depth) (s .depth)
 
 -- ---- a larger table
 
@@ -269,61 +300,61 @@ no-smaller : NoSmaller xLimits largerLimits
 no-smaller = record { basis = refl; qubits = omega arith; gates = omega arith; entries = omega arith }
 
 module _ (a : Arrays) (p : Places largerLimits a) where
-  larger-table : Built (recordOf largerLimits) (builtTo largerLimits 2 a)
-  larger-table = left-by largerLimits a (computed .larger-limits) p .0
+  larger-table : Built byPrint (recordOf byPrint largerLimits) (builtTo byPrint largerLimits 2 a)
+  larger-table = left-by byPrint largerLimits a (computed .larger-limits) p .0
 
-  larger-filled : FilledFrom (recordOf largerLimits) (builtTo largerLimits 2 a)
-  larger-filled = left-by largerLimits a (computed .larger-limits) p .2
+  larger-filled : FilledFrom (recordOf byPrint largerLimits) (builtTo byPrint largerLimits 2 a)
+  larger-filled = left-by byPrint largerLimits a (computed .larger-limits) p .2
 
   -- by (b), from a smaller table, which is looked up by the scan
-  larger-x : (out : List ℕ) → 9 ≤ length out → Gives (recordOf largerLimits) (builtTo largerLimits 2 a) askX out (4096 ∷ [])
+  larger-x : (out : List ℕ) → 9 ≤ length out → Gives (recordOf byPrint largerLimits) (builtTo byPrint largerLimits 2 a) askX out (4096 ∷ [])
   unfolding recordOf
   larger-x out h =
-      by (demand .larger (recordOf xLimits) (recordOf largerLimits) (builtTo xLimits 1 (scanned a)) (builtTo largerLimits 2 a) (a-table (scanned a) small) larger-table
-      (a-filled (scanned a) small) larger-filled no-smaller askX lent out (4096 ∷ []) (gives-x (scanned a) small lent (omega arith)))
+      by (demand .larger byPrint (recordOf byPrint xLimits) (recordOf byPrint largerLimits) (builtTo byPrint xLimits 1 (scanned a)) (builtTo byPrint largerLimits 2 a) (a-table byPrint (scanned a) small) larger-table
+      (a-filled byPrint (scanned a) small) larger-filled no-smaller askX lent out (4096 ∷ []) (gives-x byPrint (scanned a) small lent (omega arith)))
     where
       small : Places xLimits (scanned a)
       small = record { in-prints = omega (arith, p .in-prints); in-parents = omega (arith, p .in-parents); in-codes = omega (arith, p .in-codes); in-index = refl }
 
-      by : Gives (recordOf largerLimits) (builtTo largerLimits 2 a) askX out (4096 ∷ [])
-          ⊎ Refuses (recordOf largerLimits) (builtTo largerLimits 2 a) askX out 12
-          → Gives (recordOf largerLimits) (builtTo largerLimits 2 a) askX out (4096 ∷ [])
+      by : Gives (recordOf byPrint largerLimits) (builtTo byPrint largerLimits 2 a) askX out (4096 ∷ [])
+          ⊎ Refuses (recordOf byPrint largerLimits) (builtTo byPrint largerLimits 2 a) askX out 12
+          → Gives (recordOf byPrint largerLimits) (builtTo byPrint largerLimits 2 a) askX out (4096 ∷ [])
       by (inl g) = g
       by (inr n) =
-          absurd (not-refusal (answered 1 2 9 3 (matrixOf askX)) 12 out
-          (sym (told largerLimits (builtTo largerLimits 2 a) larger-table larger-filled askX out (computed .x-passes) h (omega arith) (omega arith)) ∙ n))
+          absurd (not-refusal (answered byPrint 1 2 9 3 (matrixOf askX)) 12 out
+          (sym (told largerLimits (builtTo byPrint largerLimits 2 a) larger-table larger-filled askX out (computed .x-passes) h (omega arith) (omega arith)) ∙ n))
 
-  larger-12 : (out : List ℕ) → length out < 9 → Refuses (recordOf largerLimits) (builtTo largerLimits 2 a) askX out 12
-  larger-12 out h = too-short largerLimits (builtTo largerLimits 2 a) larger-table larger-filled askX out (computed .x-passes) h
+  larger-12 : (out : List ℕ) → length out < 9 → Refuses (recordOf byPrint largerLimits) (builtTo byPrint largerLimits 2 a) askX out 12
+  larger-12 out h = too-short largerLimits (builtTo byPrint largerLimits 2 a) larger-table larger-filled askX out (computed .x-passes) h
 
 -- ---- altered memory
 
-not-a-table : Built (recordOf xLimits) damaged → ⊥
+not-a-table : Built byPrint (recordOf byPrint xLimits) damaged → ⊥
 unfolding recordOf
 not-a-table b =
-    let f = first (atWidth 1 2) (walk-shape (atWidth 1 2) 8 2 .layered .grown) in
+    let f = first (atWidth byPrint 1 2) (walk-shape (atWidth byPrint 1 2) 8 2 .layered .grown) in
     let e = b .nodes 1 (omega arith) (omega arith) 0 (f .0) .print in
     clash (eq-eqb 7 (fingerprint 1 identity) (e ∙ ap (printOf 1) (f .1) ∙ ap (fingerprint 1) (product-nil 1))) (computed .root-print)
 
 damaged-right : PowerOf 1 (matrixOf askX) (product 1 (4096 ∷ [])) × Unitary 1 (matrixOf askX)
 damaged-right = (
-  demand .right (recordOf xLimits) damaged askX lent (4096 ∷ []) (computed .damaged-x) .0,
-  demand .unitary (recordOf xLimits) damaged askX lent (4096 ∷ []) (computed .damaged-x),
+  demand .right (recordOf byPrint xLimits) damaged askX lent (4096 ∷ []) (computed .damaged-x) .0,
+  demand .unitary (recordOf byPrint xLimits) damaged askX lent (4096 ∷ []) (computed .damaged-x),
 )
 
 -- where X gets none, what (c) states does not hold
-missed : (a : Arrays) → GivesNone (recordOf xLimits) a askX lent → Complete (recordOf xLimits) a askX → ⊥
+missed : (a : Arrays) → GivesNone (recordOf byPrint xLimits) a askX lent → Complete (recordOf byPrint xLimits) a askX → ⊥
 unfolding recordOf
 missed a n c =
-    c .none-exactly (omega arith) (omega arith) unsaturated lent (λ r m. absurd (omega (arith, kind-of (sym n ∙ m)))) .0
+    c .none-exactly (omega arith) (omega arith) (computed .unsaturated byPrint) lent (λ r m. absurd (omega (arith, kind-of (sym n ∙ m)))) .0
     n (4096 ∷ []) (record { of-basis = computed .x-of; power = damaged-right .0 }) (omega arith)
 
 -- ---- an empty index
 
 module _ (a : Arrays) (p : Places xLimits a) where
-  emptied-table : Built (recordOf xLimits) (emptied a)
+  emptied-table : Built byPrint (recordOf byPrint xLimits) (emptied a)
   emptied-table =
-      let b = a-table a p in
+      let b = a-table byPrint a p in
       record {
         accepted = b .accepted;
         returned = b .returned;
@@ -331,17 +362,17 @@ module _ (a : Arrays) (p : Places xLimits a) where
         nodes = λ w h m j l. let n = b .nodes w h m j l in record { print = n .print; parent = n .parent; code = n .code };
       }
 
-  emptied-x : GivesNone (recordOf xLimits) (emptied a) askX lent
+  emptied-x : GivesNone (recordOf byPrint xLimits) (emptied a) askX lent
   unfolding recordOf firstRow
   emptied-x =
-      answer-passed (recordOf xLimits) (emptied a) askX lent
-      (asked-12 (recordOf xLimits) (emptied a) emptied-table (ap not (computed .four-places .0)) askX lent (computed .x-passes))
-      ∙ asked-by (recordOf xLimits) (emptied a) askX lent (computed .emptied-found a)
+      answer-passed (recordOf byPrint xLimits) (emptied a) askX lent
+      (asked-12 (recordOf byPrint xLimits) (emptied a) emptied-table (ap not (computed .four-places .0)) askX lent (computed .x-passes))
+      ∙ asked-by (recordOf byPrint xLimits) (emptied a) askX lent (computed .emptied-found a)
 
   -- so it was not filled from the table
-  emptied-not-filled : FilledFrom (recordOf xLimits) (emptied a) → ⊥
+  emptied-not-filled : FilledFrom (recordOf byPrint xLimits) (emptied a) → ⊥
   unfolding recordOf
-  emptied-not-filled x = missed (emptied a) emptied-x (demand .complete (recordOf xLimits) (emptied a) emptied-table x (omega arith) askX (no-shared 8))
+  emptied-not-filled x = missed (emptied a) emptied-x (demand .complete byPrint (recordOf byPrint xLimits) (emptied a) emptied-table x (omega arith) askX (no-shared 8))
 
 scan-filled : (t : Table) (a : Arrays) → a .by ≡ scan → FilledFrom t a
 scan-filled t a e = record {
@@ -353,15 +384,15 @@ pub samples : Samples
 samples = record {
   x-is = x-is;
   t-is = t-is;
-  builds = λ a p. build-fills xLimits a (fills xLimits a (computed .x-limits) p);
-  a-table = λ a p. a-table a p;
+  builds = λ a p. build-fills byPrint xLimits a (fills xLimits a (computed .x-limits) p);
+  a-table = λ a p. a-table byPrint a p;
   no-shared = no-shared 8;
   skipped-rightly = skipped-rightly;
-  complete = λ a p q e. complete a p q e;
-  unsaturated = unsaturated;
-  gives-x = λ a p out h. gives-x a p out h;
-  none-t = λ a p out h. none-t a p out h;
-  no-t = λ a p m r h. no-t a p m r h;
+  complete = complete;
+  unsaturated = computed .unsaturated byPrint;
+  gives-x = λ a p out h. gives-x byPrint a p out h;
+  none-t = λ a p out h. none-t byPrint a p out h;
+  no-t = λ a p. no-t byPrint a p (complete a p askT refl);
   no-smaller = no-smaller;
   same-limits = λ l. record { basis = refl; qubits = omega arith; gates = omega arith; entries = omega arith };
   larger-table = λ a p. larger-table a p;
@@ -373,14 +404,14 @@ samples = record {
   mistaken-t = computed .mistaken-t;
   circular-x = computed .circular-x;
   foreign-x = computed .foreign-x;
-  ch-basis = λ a. build-refusal chLimits a 3 (omega arith) (computed .ch-limits a);
+  ch-basis = λ a. build-refusal byPrint chLimits a 3 (omega arith) (computed .ch-limits a);
   forgotten-x = computed .forgotten-x;
   not-complete = missed forgotten (computed .forgotten-x);
   zero-not-unitary = zero-not-unitary;
-  zero-passes = λ a p out h. zero-passes a p out h;
-  none-zero = λ a p out h. demand .not-unitary (recordOf xLimits) (builtTo xLimits 1 a) askZero out (zero-passes a p out h) zero-not-unitary;
-  finds-x = λ a p. find-write .given-found (recordOf xLimits) (builtTo xLimits 1 a) askX lent (4096 ∷ []) (gives-x a p lent (omega arith));
-  finds-none-t = λ a p. finds-none-t a p;
+  zero-passes = λ a p out h. zero-passes byPrint a p out h;
+  none-zero = λ a p out h. demand .not-unitary (recordOf byPrint xLimits) (builtTo byPrint xLimits 1 a) askZero out (zero-passes byPrint a p out h) zero-not-unitary;
+  finds-x = λ a p. find-write .given-found (recordOf byPrint xLimits) (builtTo byPrint xLimits 1 a) askX lent (4096 ∷ []) (gives-x byPrint a p lent (omega arith));
+  finds-none-t = λ a p. finds-none-t byPrint a p;
   damaged-find = computed .damaged-find;
   damaged-write = computed .damaged-write;
   mistaken-find = computed .mistaken-find;
@@ -410,4 +441,17 @@ samples = record {
   misled-t = computed .misled-t;
   strange-count = ltb-true 0 (widthAt strange 2 .count) (computed .strange-count);
   no-width = computed .no-width;
+  keeping-builds = λ a p. build-fills keeping xLimits a (fills xLimits a (computed .x-limits) p);
+  keeping-complete = keeping-complete;
+  keeping-unsaturated = computed .unsaturated keeping;
+  keeping-x = λ a p out h. gives-x keeping a p out h;
+  keeping-none-t = λ a p out h. none-t keeping a p out h;
+  keeping-no-t = λ a p. no-t keeping a p (keeping-complete a p askT);
+  clashing-x = computed .clashing-x;
+  clashing-find = computed .clashing-find;
+  clashing-fill = computed .clashing-fill;
+  clashing-filled = computed .clashing-filled;
+  clashing-first = computed .clashing-first;
+  bad-before = computed .bad-before;
+  bad-behind = computed .bad-behind;
 }

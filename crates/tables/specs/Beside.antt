@@ -4,7 +4,11 @@ use mathlib.Core.Path.{_≡_}
 use mathlib.Core.Logic.{_↔_}
 use Prim.Native.Nat.{ℕ, suc, _≤_, _<_}
 use lib.ListN.{length, getD}
+use mathlib.Core.List.{reverse}
+use Rattle.exact.specs.Matrix.{PowerOf}
+use Rattle.exact.specs.Lists.{product}
 use Rattle.walk.specs.Walk.{root, listAt}
+use Rattle.walk.specs.Modes.{Mode, byPrint}
 use Rattle.walk.specs.AtWidth.{printOf, parentOf}
 use Rattle.walk.specs.Known.{SkippedRightly}
 use Rattle.tables.specs.Checks.{Limits, Arrays}
@@ -15,29 +19,32 @@ use Rattle.tables.specs.Demand3.{Complete}
 -- ---- the nodes of a width, in their order
 
 -- a parent lies below its node, and parents never fall; the depth of a node is one more than its parent's, depths never fall and rise by at most
--- one, and none is above G; no two nodes have one fingerprint (SPECIFICATION 6.14)
-pub record Ordered (l : Limits) (w : ℕ) : Type 0 where
-  pub below : (j : ℕ) → 0 < j → j < length (walkOf l w .nodes) → parentOf (getD (walkOf l w .nodes) j root) < j
-  pub parents-rise : (i j : ℕ) → 0 < i → i ≤ j → j < length (walkOf l w .nodes) → parentOf (getD (walkOf l w .nodes) i root) ≤ parentOf (getD (walkOf l w .nodes) j root)
-  pub one-deeper : (j : ℕ) → 0 < j → j < length (walkOf l w .nodes)
-      → length (listAt (walkOf l w .nodes) j) ≡ suc (length (listAt (walkOf l w .nodes) (parentOf (getD (walkOf l w .nodes) j root))))
-  pub depths-rise : (i j : ℕ) → i ≤ j → j < length (walkOf l w .nodes) → length (listAt (walkOf l w .nodes) i) ≤ length (listAt (walkOf l w .nodes) j)
-  pub depths-step : (j : ℕ) → suc j < length (walkOf l w .nodes) → length (listAt (walkOf l w .nodes) (suc j)) ≤ suc (length (listAt (walkOf l w .nodes) j))
-  pub short : (j : ℕ) → j < length (walkOf l w .nodes) → length (listAt (walkOf l w .nodes) j) ≤ l .gates
-  pub prints-differ : (i j : ℕ) → i < j → j < length (walkOf l w .nodes)
-      → printOf w (getD (walkOf l w .nodes) i root) ≡ printOf w (getD (walkOf l w .nodes) j root) → ⊥
+-- one, and none is above G; no two nodes are equal up to a power of omega, and where a fingerprint alone makes known no two have one (SPECIFICATION
+-- 6.14)
+pub record Ordered (mode : Mode) (l : Limits) (w : ℕ) : Type 0 where
+  pub below : (j : ℕ) → 0 < j → j < length (walkOf mode l w .nodes) → parentOf (getD (walkOf mode l w .nodes) j root) < j
+  pub parents-rise : (i j : ℕ) → 0 < i → i ≤ j → j < length (walkOf mode l w .nodes) → parentOf (getD (walkOf mode l w .nodes) i root) ≤ parentOf (getD (walkOf mode l w .nodes) j root)
+  pub one-deeper : (j : ℕ) → 0 < j → j < length (walkOf mode l w .nodes)
+      → length (listAt (walkOf mode l w .nodes) j) ≡ suc (length (listAt (walkOf mode l w .nodes) (parentOf (getD (walkOf mode l w .nodes) j root))))
+  pub depths-rise : (i j : ℕ) → i ≤ j → j < length (walkOf mode l w .nodes) → length (listAt (walkOf mode l w .nodes) i) ≤ length (listAt (walkOf mode l w .nodes) j)
+  pub depths-step : (j : ℕ) → suc j < length (walkOf mode l w .nodes) → length (listAt (walkOf mode l w .nodes) (suc j)) ≤ suc (length (listAt (walkOf mode l w .nodes) j))
+  pub short : (j : ℕ) → j < length (walkOf mode l w .nodes) → length (listAt (walkOf mode l w .nodes) j) ≤ l .gates
+  pub nodes-differ : (i j : ℕ) → i < j → j < length (walkOf mode l w .nodes)
+      → PowerOf w (product w (reverse (listAt (walkOf mode l w .nodes) i))) (product w (reverse (listAt (walkOf mode l w .nodes) j))) → ⊥
+  pub prints-differ : mode ≡ byPrint → (i j : ℕ) → i < j → j < length (walkOf mode l w .nodes)
+      → printOf w (getD (walkOf mode l w .nodes) i root) ≡ printOf w (getD (walkOf mode l w .nodes) j root) → ⊥
 
 -- ---- beside the demand
 
 pub record Beside : Type 0 where
   -- demand 3's (c) from hypothesis K: every candidate of the walk that was skipped as known has a node present for it (SPECIFICATION 8.14)
-  pub complete-rightly : (t : Table) (a : Arrays) → Built t a → FilledFrom t a → t .limits .gates ≤ 13
-      → (q : Query) → SkippedRightly (q .width) (t .limits .basis) (t .limits .gates) (t .limits .entries) → Complete t a q
+  pub complete-rightly : (mode : Mode) (t : Table) (a : Arrays) → Built mode t a → FilledFrom t a → t .limits .gates ≤ 13
+      → (q : Query) → SkippedRightly mode (q .width) (t .limits .basis) (t .limits .gates) (t .limits .entries) → Complete t a q
   -- counts are at least 1 and at most E (SPECIFICATION 6.14)
-  pub counts : (t : Table) (a : Arrays) → Built t a → (w : ℕ) → 0 < w → w ≤ t .limits .qubits
+  pub counts : (mode : Mode) (t : Table) (a : Arrays) → Built mode t a → (w : ℕ) → 0 < w → w ≤ t .limits .qubits
       → (0 < widthAt t w .count) × (widthAt t w .count ≤ t .limits .entries)
   -- the nodes that a built table holds are in order
-  pub ordered : (t : Table) (a : Arrays) → Built t a → (w : ℕ) → 0 < w → w ≤ t .limits .qubits → Ordered (t .limits) w
+  pub ordered : (mode : Mode) (t : Table) (a : Arrays) → Built mode t a → (w : ℕ) → 0 < w → w ≤ t .limits .qubits → Ordered mode (t .limits) w
   -- a table is built, and an index is filled from it, exactly where a build of its limits in its arrays returns its record and changes no place
   -- (SPECIFICATION 8.11, 8.16)
-  pub built-again : (t : Table) (a : Arrays) → (Built t a × FilledFrom t a) ↔ (buildOf (t .limits) a ≡ left (table t) a)
+  pub built-again : (mode : Mode) (t : Table) (a : Arrays) → (Built mode t a × FilledFrom t a) ↔ (buildOf mode (t .limits) a ≡ left (table t) a)

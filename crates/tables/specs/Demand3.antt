@@ -1,6 +1,6 @@
--- Demand 3, of what the public entries answer: `build_by` answers `buildOf`, and `synthesize_by` answers `synthesized`, for every input and by
--- either look-up. Its parts are (a) an answer is right, (b) larger tables agree, (c) shortest, and what none means (SPECIFICATION 8.3 to 8.5), and (d) what follows of
--- matrices that are not unitary and of built tables (7.8). Lists are oldest gate first. Assumes nothing.
+-- Demand 3, of what the public entries answer: `build_by` answers `buildOf`, and `synthesize_by` answers `synthesized`, for every input, by
+-- either look-up and in either mode. Its parts are (a) an answer is right, (b) larger tables agree, (c) shortest, and what none means (SPECIFICATION
+-- 8.3 to 8.5), and (d) what follows of matrices that are not unitary and of built tables (7.8). Lists are oldest gate first. Assumes nothing.
 use mathlib.Core.Path.{_≡_}
 use mathlib.Core.Logic.{_↔_, _⊎_}
 use mathlib.Core.Bool.{false}
@@ -10,6 +10,7 @@ use lib.ListN.{length, drop}
 use Rattle.exact.specs.Matrix.{PowerOf}
 use Rattle.exact.specs.Lists.{product}
 use Rattle.exact.specs.Unitary.{Unitary}
+use Rattle.walk.specs.Modes.{Mode, keeping}
 use Rattle.walk.specs.AtWidth.{ListOf, NoSharedPrint}
 use Rattle.walk.specs.Answers.{given, none, refused, outcome}
 use Rattle.tables.specs.Checks.{Limits, Arrays}
@@ -69,21 +70,23 @@ module _ (t : Table) (a : Arrays) (q : Query) where
 pub record Demand3 : Type 0 where
   -- every input is decided, and a refusal leaves lent memory as it was (SPECIFICATION 9.4)
   pub decided : (t : Table) (a : Arrays) (q : Query) (out : List ℕ) → Decided t a q out
-  pub build-refused : (l : Limits) (a b : Arrays) (r p : ℕ) → buildOf l a ≡ left (refusal r p) b → b ≡ a
+  pub build-refused : (mode : Mode) (l : Limits) (a b : Arrays) (r p : ℕ) → buildOf mode l a ≡ left (refusal r p) b → b ≡ a
   -- (a) whatever record and arrays are lent: the product of a list that is given is a power of omega times the matrix asked, and the list is
   -- one of the basis at the width, of at most G gates (SPECIFICATION 8.3)
   pub right : (t : Table) (a : Arrays) (q : Query) (out l : List ℕ) → Gives t a q out l
       → PowerOf (q .width) (matrixOf q) (product (q .width) l) × ListOf (q .width) (t .limits .basis) l × (length l ≤ t .limits .gates)
   -- a build that is not refused leaves a built table of its limits, and by the index one that is filled from it (SPECIFICATION 8.11, 8.16)
-  pub build-built : (l : Limits) (a b : Arrays) (t : Table) → buildOf l a ≡ left (table t) b → Built t b × (t .limits ≡ l) × FilledFrom t b
-  -- (b) the list that a built table gives is given by each larger one too, or that one refuses by 12, since its gate limit wants a longer
+  pub build-built : (mode : Mode) (l : Limits) (a b : Arrays) (t : Table) → buildOf mode l a ≡ left (table t) b → Built mode t b × (t .limits ≡ l) × FilledFrom t b
+  -- (b) the list that a built table gives is given by each larger one of its mode too, or that one refuses by 12, since its gate limit wants a longer
   -- lent list (SPECIFICATION 8.4)
-  pub larger : (t t′ : Table) (a a′ : Arrays) → Built t a → Built t′ a′ → FilledFrom t a → FilledFrom t′ a′ → NoSmaller (t .limits) (t′ .limits)
+  pub larger : (mode : Mode) (t t′ : Table) (a a′ : Arrays) → Built mode t a → Built mode t′ a′ → FilledFrom t a → FilledFrom t′ a′ → NoSmaller (t .limits) (t′ .limits)
       → (q : Query) (out out′ l : List ℕ) → Gives t a q out l → Gives t′ a′ q out′ l ⊎ Refuses t′ a′ q out′ 12
   -- (c) up to 13 gates, where every step of a list of the basis fits, and with no clash at the query's width (SPECIFICATION 8.5, 8.14)
-  pub complete : (t : Table) (a : Arrays) → Built t a → FilledFrom t a → t .limits .gates ≤ 13
+  pub complete : (mode : Mode) (t : Table) (a : Arrays) → Built mode t a → FilledFrom t a → t .limits .gates ≤ 13
       → (q : Query) → NoSharedPrint (q .width) (t .limits .basis) (t .limits .gates) → Complete t a q
+  -- where clashing nodes are kept, up to 13 gates and with no condition on fingerprints (SPECIFICATION 8.5, 8.17)
+  pub complete-keeping : (t : Table) (a : Arrays) → Built keeping t a → FilledFrom t a → t .limits .gates ≤ 13 → (q : Query) → Complete t a q
   -- (d) a query that gets a list is unitary, and one that is not gets none; a built table is never refused by 13 (SPECIFICATION 7.8)
   pub unitary : (t : Table) (a : Arrays) (q : Query) (out l : List ℕ) → Gives t a q out l → Unitary (q .width) (matrixOf q)
   pub not-unitary : (t : Table) (a : Arrays) (q : Query) (out : List ℕ) → NotRefused t a q out → (Unitary (q .width) (matrixOf q) → ⊥) → GivesNone t a q out
-  pub never-13 : (t : Table) (a : Arrays) → Built t a → (q : Query) (out : List ℕ) → Refuses t a q out 13 → ⊥
+  pub never-13 : (mode : Mode) (t : Table) (a : Arrays) → Built mode t a → (q : Query) (out : List ℕ) → Refuses t a q out 13 → ⊥

@@ -5,6 +5,7 @@ use mathlib.Core.List.{List}
 use mathlib.Core.Bool.{true, false}
 use Prim.Native.Nat.{ℕ, _*_, _^_, _≤_, _<_}
 use lib.ListN.{length}
+use Rattle.walk.specs.Modes.{Mode}
 use Rattle.walk.specs.Index.{scan, indexed}
 use Rattle.walk.specs.Finds.{lookedIn}
 use Rattle.tables.specs.Checks.{Limits, Arrays, arrays, arraysBy, inParts}
@@ -29,9 +30,10 @@ pub record PartSizes (l : Limits) (places : ℕ) : Type 0 where
 pub record EitherLookup : Type 0 where
   -- what row 17 does not refuse
   pub parts : (l : Limits) (places : ℕ) → inParts l places ≡ true → PartSizes l places
-  -- whatever the table holds, equal fingerprints among them: at each width that it has, a fingerprint leads to the same node
-  pub looks-same : (t : Table) (a : Arrays) → FilledFrom t a → recordRow t .holds ≡ false → (w : ℕ) → 0 < w → w ≤ t .limits .qubits → (fingerprint : ℕ)
-      → lookedIn (partAt t a w) fingerprint ≡ lookedIn (partAt t (scanned a) w) fingerprint
+  -- whatever the table holds, equal fingerprints among them: at each width that it has, a fingerprint leads to the same node from any
+  -- node on
+  pub looks-same : (t : Table) (a : Arrays) → FilledFrom t a → recordRow t .holds ≡ false → (w : ℕ) → 0 < w → w ≤ t .limits .qubits
+      → (from fingerprint : ℕ) → lookedIn (partAt t a w) from fingerprint ≡ lookedIn (partAt t (scanned a) w) from fingerprint
   -- so that a find and an answer are the scan's, refusals too
   pub find-same : (t : Table) (a : Arrays) → FilledFrom t a → (q : Query) → foundIn t a q ≡ foundIn t (scanned a) q
   pub answer-same : (t : Table) (a : Arrays) → FilledFrom t a → (q : Query) (out : List ℕ) → synthesized t a q out ≡ synthesized t (scanned a) q out
@@ -45,10 +47,10 @@ pub record EitherLookup : Type 0 where
   pub fill-again : (t : Table) (a : Arrays) (i : List ℕ) → fillOf t a ≡ fillLeft filled i → fillOf t (through a i) ≡ fillLeft filled i
   -- a build leaves in the three arrays and returns what it does by the scan, and in the index what a fill from its table leaves, whatever stands in the
   -- index before the fill
-  pub build-same : (l : Limits) (a b : Arrays) (t : Table) → buildOf l a ≡ left (table t) b → buildOf l (scanned a) ≡ left (table t) (scanned b)
-  pub build-filled : (l : Limits) (a b : Arrays) (t : Table) → a .by ≡ indexed → buildOf l a ≡ left (table t) b
+  pub build-same : (mode : Mode) (l : Limits) (a b : Arrays) (t : Table) → buildOf mode l a ≡ left (table t) b → buildOf mode l (scanned a) ≡ left (table t) (scanned b)
+  pub build-filled : (mode : Mode) (l : Limits) (a b : Arrays) (t : Table) → a .by ≡ indexed → buildOf mode l a ≡ left (table t) b
       → (other : List ℕ) → length other ≡ length (a .index) → fillOf t (through b other) ≡ fillLeft filled (b .index)
   -- the scan leaves the index
-  pub scan-leaves : (l : Limits) (a b : Arrays) (t : Table) → a .by ≡ scan → buildOf l a ≡ left (table t) b → b .index ≡ a .index
+  pub scan-leaves : (mode : Mode) (l : Limits) (a b : Arrays) (t : Table) → a .by ≡ scan → buildOf mode l a ≡ left (table t) b → b .index ≡ a .index
   -- an index keeps its length
   pub fill-length : (t : Table) (a : Arrays) → length (fillOf t a .index) ≡ length (a .index)

@@ -20,6 +20,7 @@ use Rattle.exact.specs.Places.{read}
 use Rattle.walk.specs.Index.{By, indexed}
 use Rattle.walk.specs.Finds as f
 use Rattle.walk.specs.Answers.{refused, outcome}
+use Rattle.walk.specs.Modes.{Mode}
 use Rattle.walk.specs.Meaning.{Fault, BadFound}
 use Rattle.tables.specs.Checks.{Limits, Arrays, placesOf, byteCount}
 use Rattle.tables.specs.Tables.{Table, widthAt, recordOf, builtTo, table, refusal, left, buildOf, filledIndex, filled, not-filled, fillLeft, fillOf, Query, matrixOf}
@@ -107,7 +108,7 @@ queryCauses q =
     ∷ cause 10 (Below (q .bytes))
     ∷ cause 11 ((0 < q .exponent) × (allDivisible (q .width) (read (q .width) (q .bytes)) ≡ true)) ∷ []
 
--- the table has the width, and the way from the node found in its part meets a fault (SPECIFICATION 7.5)
+-- the table has the width, and the way from a node of its part that is looked at meets a fault (SPECIFICATION 7.5)
 pub record BadChain (t : Table) (a : Arrays) (q : Query) : Type 0 where
   pub some : 0 < q .width
   pub has : q .width ≤ t .limits .qubits
@@ -121,7 +122,7 @@ tableCauses t a = cause 13 (BadRecord t) ∷ cause 5 (Short (t .limits) a) ∷ [
 abbrev pub lookCauses : Table → By → Arrays → List Cause
 lookCauses t by a = tableCauses t a ++ (cause 17 (NotInParts (t .limits) by (length (a .index))) ∷ [])
 
--- then 6, 9, 10, 11, 12, 13 of the chain found: the order of an answer
+-- then 6, 9, 10, 11, 12, 13 of a chain: the order of an answer
 abbrev pub answerCauses : Table → Arrays → Query → List ℕ → List Cause
 answerCauses t a q out = lookCauses t (a .by) a ++ (queryCauses q ++ (cause 12 (length out < t .limits .gates) ∷ cause 13 (BadChain t a q) ∷ []))
 
@@ -163,8 +164,8 @@ listCauses n codes bytes =
 -- a refusal is told exactly where its row is the first that holds, at that position, and leaves lent memory as it was; and where no row holds,
 -- the build or the list does what was asked
 pub record Exactly : Type 0 where
-  pub build : (l : Limits) (a b : Arrays) (r p : ℕ) → (buildOf l a ≡ left (refusal r p) b) ↔ (First r p (buildCauses l a) × (b ≡ a))
-  pub built : (l : Limits) (a : Arrays) → (buildOf l a ≡ left (table (recordOf l)) (builtTo l (l .qubits) a)) ↔ NoCause (buildCauses l a)
+  pub build : (mode : Mode) (l : Limits) (a b : Arrays) (r p : ℕ) → (buildOf mode l a ≡ left (refusal r p) b) ↔ (First r p (buildCauses l a) × (b ≡ a))
+  pub built : (mode : Mode) (l : Limits) (a : Arrays) → (buildOf mode l a ≡ left (table (recordOf mode l)) (builtTo mode l (l .qubits) a)) ↔ NoCause (buildCauses l a)
   pub fill : (t : Table) (a : Arrays) (i : List ℕ) (r p : ℕ) → (fillOf t a ≡ fillLeft (not-filled r p) i) ↔ (First r p (lookCauses t indexed a) × (i ≡ a .index))
   pub fills : (t : Table) (a : Arrays) → (fillOf t a ≡ fillLeft filled (filledIndex t a)) ↔ NoCause (lookCauses t indexed a)
   pub answer : (t : Table) (a : Arrays) (q : Query) (out after : List ℕ) (r p : ℕ)

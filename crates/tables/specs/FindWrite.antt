@@ -3,18 +3,20 @@
 use mathlib.Core.Path.{_≡_}
 use mathlib.Core.Logic.{_↔_, _⊎_}
 use mathlib.Core.Bool.{false}
-use mathlib.Core.List.{List, _++_}
+use mathlib.Core.List.{List, _++_, reverse}
 use Prim.Native.Nat.{ℕ, _≤_, _<_}
 use lib.ListN.{length, drop}
 use Rattle.exact.specs.Matrix.{PowerOf}
 use Rattle.exact.specs.Lists.{product}
 use Rattle.exact.specs.Unitary.{Unitary}
+use Rattle.walk.specs.Walk.{listAt}
+use Rattle.walk.specs.Modes.{Mode}
 use Rattle.walk.specs.AtWidth.{ListOf}
 use Rattle.walk.specs.Finds.{node}
 use Rattle.walk.specs.Finds as f
 use Rattle.walk.specs.Answers.{given, refused, outcome}
 use Rattle.tables.specs.Checks.{Arrays}
-use Rattle.tables.specs.Tables.{Table, widthAt, countAt, Query, matrixOf, foundIn, writtenIn}
+use Rattle.tables.specs.Tables.{Table, walkOf, widthAt, countAt, Query, matrixOf, foundIn, writtenIn}
 use Rattle.tables.specs.Built.{Built, FilledFrom}
 use Rattle.tables.specs.Demand3.{Gives, GivesNone, Refuses, NoSmaller, Reaches, Complete}
 
@@ -79,13 +81,13 @@ pub record FindWrite : Type 0 where
   pub right : (t : Table) (a : Arrays) (q : Query) (k m : ℕ) → Finds t a q k m → (out l : List ℕ) → Writes t a (q .width) k out l
       → (length l ≡ m) × PowerOf (q .width) (matrixOf q) (product (q .width) l) × ListOf (q .width) (t .limits .basis) l × (length l ≤ t .limits .gates)
   pub unitary : (t : Table) (a : Arrays) (q : Query) (k m : ℕ) → Finds t a q k m → Unitary (q .width) (matrixOf q)
-  -- of built tables: a larger one finds a node too, of as many gates, and its write gives the same list or is refused by 12
-  pub larger : (t t′ : Table) (a a′ : Arrays) → Built t a → Built t′ a′ → FilledFrom t a → FilledFrom t′ a′ → NoSmaller (t .limits) (t′ .limits)
+  -- of built tables of one mode: a larger one finds a node too, of as many gates, and its write gives the same list or is refused by 12
+  pub larger : (mode : Mode) (t t′ : Table) (a a′ : Arrays) → Built mode t a → Built mode t′ a′ → FilledFrom t a → FilledFrom t′ a′ → NoSmaller (t .limits) (t′ .limits)
       → (q : Query) (k m : ℕ) → Finds t a q k m → (k′ : ℕ) × Finds t′ a′ q k′ m
       × ((out out′ l : List ℕ) → Writes t a (q .width) k out l → Writes t′ a′ (q .width) k′ out′ l ⊎ WriteRefuses t′ a′ (q .width) k′ out′ 12)
   -- wherever an answer is shortest and none means that there is no list, so it is with a find
   pub complete : (t : Table) (a : Arrays) (q : Query) → Complete t a q → FindComplete t a q
-  pub never-13 : (t : Table) (a : Arrays) → Built t a → (q : Query) → FindRefuses t a q 13 → ⊥
-  -- every node of a built table is written where the lent list is long enough
-  pub node-written : (t : Table) (a : Arrays) → Built t a → (w k : ℕ) → k < countAt t w → (out : List ℕ) → t .limits .gates ≤ length out
-      → (l : List ℕ) × Writes t a w k out l
+  pub never-13 : (mode : Mode) (t : Table) (a : Arrays) → Built mode t a → (q : Query) → FindRefuses t a q 13 → ⊥
+  -- every node of a built table is written, by its list, where the lent list is long enough
+  pub node-written : (mode : Mode) (t : Table) (a : Arrays) → Built mode t a → (w k : ℕ) → k < countAt t w → (out : List ℕ) → t .limits .gates ≤ length out
+      → Writes t a w k out (reverse (listAt (walkOf mode (t .limits) w .nodes) k))

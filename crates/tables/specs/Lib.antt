@@ -7,5 +7,6 @@ pub mod EitherLookup
 pub mod Lists
 pub mod Demand2
 pub mod Exactly
+pub mod AnswerRule
 pub mod Samples
 pub mod Beside

@@ -11,6 +11,7 @@ use Rattle.ints.specs.Lists.{pick, over}
 use Rattle.exact.specs.Matrix.{Exact}
 use Rattle.exact.specs.Places.{held}
 use Rattle.walk.specs.Walk.{Build, gate, any}
+use Rattle.walk.specs.Modes.{Mode}
 use Rattle.walk.specs.AtWidth.{built, printOf, parentOf}
 use Rattle.walk.specs.Index.{By, indexed, kept}
 use Rattle.walk.specs.Finds.{WidthLimits, Part, partWith, Finding, findOf}
@@ -47,30 +48,30 @@ allWidths = 1 ∷ 2 ∷ 3 ∷ 4 ∷ 5 ∷ []
 -- ---- a build
 
 -- the walk of a width under the limits (SPECIFICATION 6.4)
-abbrev pub walkOf : Limits → ℕ → Build
-walkOf l w = built w (l .basis) (l .gates) (l .entries)
+abbrev pub walkOf : Mode → Limits → ℕ → Build
+walkOf mode l w = built mode w (l .basis) (l .gates) (l .entries)
 
 -- the row of a width, by its walk
 abbrev pub widthOf : Build → Width
 widthOf b = record { count = length (b .nodes); depth = b .depth; saturated = b .saturated }
 
 -- the row of a width under the limits; above Q that of a width that was not built (SPECIFICATION 6.10)
-abbrev pub rowOf : Limits → ℕ → Width
-rowOf l w = pick (ltb (l .qubits) w) notBuilt (widthOf (walkOf l w))
+abbrev pub rowOf : Mode → Limits → ℕ → Width
+rowOf mode l w = pick (ltb (l .qubits) w) notBuilt (widthOf (walkOf mode l w))
 
 -- the record that a build of the limits returns
-unfoldable pub recordOf : Limits → Table
-recordOf l = record { limits = l; widths = map (rowOf l) allWidths }
+unfoldable pub recordOf : Mode → Limits → Table
+recordOf mode l = record { limits = l; widths = map (rowOf mode l) allWidths }
 
 -- the columns of a width, by its nodes in order: fingerprints, parents, codes (SPECIFICATION 6.11)
-unfoldable pub printsOf : Limits → ℕ → List ℕ
-printsOf l w = map (printOf w) (walkOf l w .nodes)
+unfoldable pub printsOf : Mode → Limits → ℕ → List ℕ
+printsOf mode l w = map (printOf w) (walkOf mode l w .nodes)
 
-unfoldable pub parentsOf : Limits → ℕ → List ℕ
-parentsOf l w = map parentOf (walkOf l w .nodes)
+unfoldable pub parentsOf : Mode → Limits → ℕ → List ℕ
+parentsOf mode l w = map parentOf (walkOf mode l w .nodes)
 
-unfoldable pub codesOf : Limits → ℕ → List ℕ
-codesOf l w = map gate (walkOf l w .nodes)
+unfoldable pub codesOf : Mode → Limits → ℕ → List ℕ
+codesOf mode l w = map gate (walkOf mode l w .nodes)
 
 -- g worked on the n places from a on
 abbrev pub within : ℕ → ℕ → (List ℕ → List ℕ) → List ℕ → List ℕ
@@ -90,17 +91,17 @@ abbrev pub partSize : Limits → ℕ → ℕ
 partSize l places = places / l .qubits
 
 -- the index after widths 1 to w were built: each part goes with the nodes of its width; by the scan it is as it was (SPECIFICATION 7.14)
-abbrev pub indexTo : Limits → By → ℕ → List ℕ → List ℕ
-indexTo l by w index = partsTo (λ v. kept by (printsOf l v) (length (walkOf l v .nodes))) (partSize l (length index)) w index
+abbrev pub indexTo : Mode → Limits → By → ℕ → List ℕ → List ℕ
+indexTo mode l by w index = partsTo (λ v. kept by (printsOf mode l v) (length (walkOf mode l v .nodes))) (partSize l (length index)) w index
 
 -- the arrays after widths 1 to w were built
-abbrev pub builtTo : Limits → ℕ → Arrays → Arrays
-builtTo l w a = record {
-  prints = filledTo (printsOf l) (l .entries) w (a .prints);
-  parents = filledTo (parentsOf l) (l .entries) w (a .parents);
-  codes = filledTo (codesOf l) (l .entries) w (a .codes);
+abbrev pub builtTo : Mode → Limits → ℕ → Arrays → Arrays
+builtTo mode l w a = record {
+  prints = filledTo (printsOf mode l) (l .entries) w (a .prints);
+  parents = filledTo (parentsOf mode l) (l .entries) w (a .parents);
+  codes = filledTo (codesOf mode l) (l .entries) w (a .codes);
   by = a .by;
-  index = indexTo l (a .by) w (a .index);
+  index = indexTo mode l (a .by) w (a .index);
 }
 
 -- a table's record, or a refusal: first its number, then its position
@@ -121,12 +122,12 @@ abbrev pub buildRows : Limits → Arrays → List Row
 buildRows l a = limitRows l ++ (roomRow l a ∷ partsRow l a ∷ [])
 
 -- by the number of the first row that holds, 0 where none does: a refusal leaves the arrays as they were (SPECIFICATION 9.4)
-abbrev pub leftBy : Limits → Arrays → ℕ → Left
-leftBy l a r = pick (eqb r 0) (left (table (recordOf l)) (builtTo l (l .qubits) a)) (left (refusal r 0) a)
+abbrev pub leftBy : Mode → Limits → Arrays → ℕ → Left
+leftBy mode l a r = pick (eqb r 0) (left (table (recordOf mode l)) (builtTo mode l (l .qubits) a)) (left (refusal r 0) a)
 
--- a table is built (SPECIFICATION, chapter 6)
-unfoldable pub buildOf : Limits → Arrays → Left
-buildOf l a = leftBy l a (firstRow (buildRows l a))
+-- a table is built, in a mode (SPECIFICATION, chapter 6)
+unfoldable pub buildOf : Mode → Limits → Arrays → Left
+buildOf mode l a = leftBy mode l a (firstRow (buildRows l a))
 
 -- ---- what a table is asked
 

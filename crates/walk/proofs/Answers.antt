@@ -24,12 +24,12 @@ use Rattle.walk.proofs.Completeness.{prod-lowest}
 -- ---- the lowest that passes a test
 
 module _ {A : Type 0} (f : A → Bool) (d : A) where
-  lowest-passes : (ns : List A) → lowest f ns < length ns → f (getD ns (lowest f ns) d) ≡ true
+  pub lowest-passes : (ns : List A) → lowest f ns < length ns → f (getD ns (lowest f ns) d) ≡ true
   lowest-passes [] = λ h. absurd (not-suc-le-zero h)
   lowest-passes (n ∷ ns) =
       pick-ind (λ k. k < length (n ∷ ns) → f (getD (n ∷ ns) k d) ≡ true) (f n) (λ e h. e) (λ e h. lowest-passes ns (le-of-suc-le-suc h))
 
-  lowest-least : (ns : List A) (k : ℕ) → k < length ns → f (getD ns k d) ≡ true → lowest f ns ≤ k
+  pub lowest-least : (ns : List A) (k : ℕ) → k < length ns → f (getD ns k d) ≡ true → lowest f ns ≤ k
   lowest-least [] k h e = absurd (not-suc-le-zero h)
   lowest-least (n ∷ ns) zero h e = rw e (omega arith)
   lowest-least (n ∷ ns) (suc k) h e =

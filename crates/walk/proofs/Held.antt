@@ -13,6 +13,7 @@ use Rattle.circuit.specs.Codes.{validFor, mark}
 use Rattle.generators.proofs.Generated.{lists}
 use Rattle.walk.specs.Walk.{Node, root, gate, listAt}
 use Rattle.walk.proofs.Grown.{parentAt}
+use Rattle.walk.specs.Modes.{Mode}
 use Rattle.walk.specs.AtWidth.{atWidth}
 use Rattle.walk.specs.Chains.{Chain, good, then, marked, chainOf}
 use Rattle.walk.proofs.Grown.{Grown, Link}
@@ -30,11 +31,11 @@ pub record HoldsChains (ns : List Node) (u c : List ℕ) : Type 0 where
   pub parents : (j : ℕ) → j < length ns → getD u j 0 ≡ parentAt ns j
   pub codes : (j : ℕ) → j < length ns → getD c j 0 ≡ gate (getD ns j root)
 
-module _ (n basis : ℕ) (small : n ≤ 5) {ns : List Node} (grown : Grown (atWidth n basis) ns) {u c : List ℕ} (h : HoldsChains ns u c) where
+module _ (mode : Mode) (n basis : ℕ) (small : n ≤ 5) {ns : List Node} (grown : Grown (atWidth mode n basis) ns) {u c : List ℕ} (h : HoldsChains ns u c) where
   marks : 0 < length ns → marked u c ≡ true
   unfolding marked
   marks l =
-      let e = first (atWidth n basis) grown .1 in
+      let e = first (atWidth mode n basis) grown .1 in
       and-both (eqb (getD u 0 0) mark) (eqb (getD c 0 0) mark)
       (eq-eqb (getD u 0 0) mark (h .parents 0 l ∙ ap (λ (v : Node). v .parent) e))
       (eq-eqb (getD c 0 0) mark (h .codes 0 l ∙ ap (λ (v : Node). getD (v .list) 0 mark) e))
@@ -48,15 +49,15 @@ module _ (n basis : ℕ) (small : n ≤ 5) {ns : List Node} (grown : Grown (atWi
   Is limit j = j < length ns → length (listAt ns j) ≤ limit → chainOf n basis u c limit j ≡ good (reverse (listAt ns j))
 
   chain-none : (j : ℕ) → Is 0 j
-  chain-none zero l s = chain-root 0 l ∙ ap (λ (v : Node). good (reverse (v .list))) (sym (first (atWidth n basis) grown .1))
+  chain-none zero l s = chain-root 0 l ∙ ap (λ (v : Node). good (reverse (v .list))) (sym (first (atWidth mode n basis) grown .1))
   chain-none (suc j) l s =
-      let i : Link (atWidth n basis) ns (suc j) (getD ns (suc j) root) = link (atWidth n basis) grown (suc j) l (omega arith) in
+      let i : Link (atWidth mode n basis) ns (suc j) (getD ns (suc j) root) = link (atWidth mode n basis) grown (suc j) l (omega arith) in
       absurd (omega (arith, ap length (i .is)))
 
   chain-next : (limit j : ℕ) → ((i : ℕ) → Is limit i) → Is (suc limit) j
-  chain-next limit zero before l s = chain-root (suc limit) l ∙ ap (λ (v : Node). good (reverse (v .list))) (sym (first (atWidth n basis) grown .1))
+  chain-next limit zero before l s = chain-root (suc limit) l ∙ ap (λ (v : Node). good (reverse (v .list))) (sym (first (atWidth mode n basis) grown .1))
   chain-next limit (suc j) before l s =
-      let i : Link (atWidth n basis) ns (suc j) (getD ns (suc j) root) = link (atWidth n basis) grown (suc j) l (omega arith) in
+      let i : Link (atWidth mode n basis) ns (suc j) (getD ns (suc j) root) = link (atWidth mode n basis) grown (suc j) l (omega arith) in
       let up : getD u (suc j) 0 ≡ parentAt ns (suc j) = h .parents (suc j) l in
       let e : getD c (suc j) 0 ≡ i .code = h .codes (suc j) l ∙ ap (λ (z : List ℕ). getD z 0 mark) (i .is) in
       let below : getD u (suc j) 0 < suc j = omega (arith, i .below) in

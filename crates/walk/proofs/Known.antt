@@ -1,7 +1,6 @@
--- Where hypothesis K comes from: from `NoClash` (SPECIFICATION 8.14); or a candidate counts as known only by a node that is equal up to phase
--- too, and then K holds with no condition. Assumes nothing.
+-- Where hypothesis K comes from: from `NoClash` (SPECIFICATION 8.14); or clashing nodes are kept, and then K holds with no condition. Assumes nothing.
 use mathlib.Core.Path.{_≡_}
-use mathlib.Core.Bool.{true, _&&_}
+use mathlib.Core.Bool.{true}
 use mathlib.Core.List.{List, _∷_}
 use Prim.Native.Nat.{ℕ, _≤_, _<_}
 use native.Mathlib.Omega.{arith}
@@ -11,7 +10,7 @@ use Rattle.walk.specs.Walk.{Rules, Node, root, listAt, prod, knows, cand
 use Rattle.walk.proofs.Grown.{Grown}
 use Rattle.walk.proofs.Laws.{Laws, NoClash}
 use Rattle.walk.specs.Known.{KnownIsPresent}
-use Rattle.walk.proofs.Modes.{exactly}
+use Rattle.walk.specs.Modes.{Mode, byPrint, keeping, knownIn, inMode}
 use Rattle.walk.proofs.Sequences.{any-true}
 use Rattle.walk.proofs.Nodes.{over}
 
@@ -22,12 +21,27 @@ module _ (R : Rules) (Same : R .Mat → R .Mat → Type 0) where
       let r = any-true (knows R (candidate R ns k g)) root ns a in
       (r .0, r .1, nc (listAt ns (r .0)) (g ∷ listAt ns k) (over R b (r .0) (r .1)) (m, over R b k l) (h (r .0) (r .1)) (omega arith) (r .2))
 
--- ---- the exact mode needs no condition
+-- ---- a mode meets the laws that its rules meet
 
 module _ (R : Rules) (Same : R .Mat → R .Mat → Type 0) (W : Laws R Same) where
-  -- the exact mode meets the laws that its rules meet
-  pub laws-exactly : Laws (exactly R) Same
-  laws-exactly = record {
+  -- what answers is the same in every mode, and what is known where clashing nodes are kept
+  pub answers-same : (mode : Mode) (x y : R .Mat) → inMode mode R .answers x y ≡ true → Same x y
+  answers-same mode x y e = W .equal-same x y (and-right (R .answers x y) (R .equal x y) e)
+
+  known-same : (x y : R .Mat) → knownIn keeping R x y ≡ true → Same x y
+  known-same x y e = W .equal-same x y (and-right (R .known x y) (R .equal x y) e)
+
+  pub same-known-in : (mode : Mode) (x y : R .Mat) → W .Lowest x → W .Lowest y → Same x y → knownIn mode R x y ≡ true
+  same-known-in byPrint x y l m s = W .same-known l m s
+  same-known-in keeping x y l m s = and-both (R .known x y) (R .equal x y) (W .same-known l m s) (W .same-equal l m s)
+
+  pub known-then-in : (mode : Mode) (x y z : R .Mat) → W .Lowest x → W .Lowest y → W .Lowest z → knownIn mode R x y ≡ true → Same y z
+      → knownIn mode R x z ≡ true
+  known-then-in byPrint x y z l m o e s = W .known-then l m o e s
+  known-then-in keeping x y z l m o e s = same-known-in keeping x z l o (W .same-trans (known-same x y e) s)
+
+  unfoldable pub laws-in : (mode : Mode) → Laws (inMode mode R) Same
+  laws-in mode = record {
     Lowest = W .Lowest;
     one-lowest = W .one-lowest;
     act-lowest = W .act-lowest;
@@ -37,23 +51,19 @@ module _ (R : Rules) (Same : R .Mat → R .Mat → Type 0) (W : Laws R Same) whe
     act-same = λ g s. W .act-same g s;
     inverse-undoes = W .inverse-undoes;
     disjoint-swaps = W .disjoint-swaps;
-    same-known = λ l m s. both-known l m s;
-    known-then = λ {x} {y} {z} l m o e s. both-known l o (W .same-trans (W .equal-same x y (and-right (R .known x y) (R .equal x y) e)) s);
+    same-known = λ {x} {y} l m s. same-known-in mode x y l m s;
+    known-then = λ {x} {y} {z} l m o e s. known-then-in mode x y z l m o e s;
     same-answers = λ {x} {y} l m s. and-both (R .answers x y) (R .equal x y) (W .same-answers l m s) (W .same-equal l m s);
-    answers-known = λ {x} {y} {z} l m o e s.
-        both-known l m (W .same-trans (W .equal-same x z (and-right (R .answers x z) (R .equal x z) e)) (W .same-sym s));
+    answers-known = λ {x} {y} {z} l m o e s. same-known-in mode x y l m (W .same-trans (answers-same mode x z e) (W .same-sym s));
     equal-same = W .equal-same;
     same-equal = λ l m s. W .same-equal l m s;
     bound = W .bound;
     below = W .below;
   }
-    where
-      both-known : {x y : R .Mat} → W .Lowest x → W .Lowest y → Same x y → R .known x y && R .equal x y ≡ true
-      both-known {x} {y} l m s = and-both (R .known x y) (R .equal x y) (W .same-known l m s) (W .same-equal l m s)
 
-  pub present-exactly : (ns : List Node) (d : ℕ) → KnownIsPresent (exactly R) Same d ns
-  present-exactly ns d k g l m s p f a =
-      let c : R .Mat = candidate (exactly R) ns k g in
-      let r = any-true (knows (exactly R) c) root ns a in
-      let x : R .Mat = prod (exactly R) (listAt ns (r .0)) in
-      (r .0, r .1, W .equal-same x c (and-right (R .known x c) (R .equal x c) (r .2)))
+  -- where clashing nodes are kept, what was skipped as known has a node present: no condition
+  pub present-keeping : (ns : List Node) (d : ℕ) → KnownIsPresent (inMode keeping R) Same d ns
+  present-keeping ns d k g l m s p f a =
+      let c : R .Mat = candidate (inMode keeping R) ns k g in
+      let r = any-true (knows (inMode keeping R) c) root ns a in
+      (r .0, r .1, known-same (prod (inMode keeping R) (listAt ns (r .0))) c (r .2))

@@ -1,7 +1,6 @@
 pub mod Grown
 pub mod Laws
 pub mod Nodewise
-pub mod Modes
 pub mod WidthDemand
 pub mod Sequences
 pub mod Candidates
@@ -27,3 +26,4 @@ pub mod Chaining
 pub mod Rechecked
 pub mod Meaning
 pub mod Held
+pub mod Holding

@@ -9,6 +9,7 @@ use lib.ListN.{length}
 use Rattle.ints.specs.Lists.{pick}
 use Rattle.exact.specs.Matrix.{Exact}
 use Rattle.walk.specs.Walk.{Rules, Node, listAt, prod}
+use Rattle.walk.specs.Modes.{Mode}
 use Rattle.walk.specs.AtWidth.{atWidth, built}
 
 -- the number of the first that passes the test, or how many there are
@@ -46,9 +47,9 @@ oldestFirst none = none
 oldestFirst (some l) = some (reverse l)
 
 -- what nodes answer, whichever test finds the node
-abbrev pub answeredBy : ℕ → ℕ → (Node → Bool) → List Node → Exact → Option (List ℕ)
-answeredBy n basis test ns x = oldestFirst (answerBy (atWidth n basis) test ns x)
+abbrev pub answeredBy : Mode → ℕ → ℕ → (Node → Bool) → List Node → Exact → Option (List ℕ)
+answeredBy mode n basis test ns x = oldestFirst (answerBy (atWidth mode n basis) test ns x)
 
 -- what the width of a build answers
-abbrev pub answered : ℕ → ℕ → ℕ → ℕ → Exact → Option (List ℕ)
-answered n basis G E x = oldestFirst (answer (atWidth n basis) (built n basis G E .nodes) x)
+abbrev pub answered : Mode → ℕ → ℕ → ℕ → ℕ → Exact → Option (List ℕ)
+answered mode n basis G E x = oldestFirst (answer (atWidth mode n basis) (built mode n basis G E .nodes) x)

@@ -20,6 +20,7 @@ use Rattle.exact.proofs.Listed.{product-lowest}
 use Rattle.exact.proofs.Prints.{fingerprint-power}
 use Rattle.walk.specs.Walk.{Build, prod}
 use Rattle.walk.proofs.Laws.{Over, actBy}
+use Rattle.walk.specs.Modes.{byPrint}
 use Rattle.walk.specs.AtWidth.{atWidth, built, ListOf, NoSharedPrint}
 use Rattle.walk.proofs.WidthDemand.{WidthComplete}
 use Rattle.walk.proofs.Exactly.{product-of, over-reverse, list-over}
@@ -34,17 +35,17 @@ is-x : (g : ℕ) → List·Memᴰ g (generators 1 2) → g ≡ 4096
 is-x g m = List·Memᴰ·eq-of-singleton (subst (List·Memᴰ g) (samples .only-x) m)
 
 -- a list of X has the product of none or of one
-two-products : (l : List ℕ) → Over (atWidth 1 2) l → PowerOf 1 (prod (atWidth 1 2) l) identity ⊎ PowerOf 1 (prod (atWidth 1 2) l) flipped
+two-products : (l : List ℕ) → Over (atWidth byPrint 1 2) l → PowerOf 1 (prod (atWidth byPrint 1 2) l) identity ⊎ PowerOf 1 (prod (atWidth byPrint 1 2) l) flipped
 two-products [] o = inl (power-refl 1 identity)
 two-products (g ∷ l) o =
-    subst (λ (h : ℕ). PowerOf 1 (actBy 1 h (prod (atWidth 1 2) l)) identity ⊎ PowerOf 1 (actBy 1 h (prod (atWidth 1 2) l)) flipped)
+    subst (λ (h : ℕ). PowerOf 1 (actBy 1 h (prod (atWidth byPrint 1 2) l)) identity ⊎ PowerOf 1 (actBy 1 h (prod (atWidth byPrint 1 2) l)) flipped)
     (sym (is-x g (o .0))) (by (two-products l (o .1)))
   where
     step : {x y : Exact} → PowerOf 1 x y → PowerOf 1 (actBy 1 4096 x) (actBy 1 4096 y)
     step s = act-power 1 (gateOf 1 4096) (proper 1 4096) s
 
-    by : PowerOf 1 (prod (atWidth 1 2) l) identity ⊎ PowerOf 1 (prod (atWidth 1 2) l) flipped
-        → PowerOf 1 (actBy 1 4096 (prod (atWidth 1 2) l)) identity ⊎ PowerOf 1 (actBy 1 4096 (prod (atWidth 1 2) l)) flipped
+    by : PowerOf 1 (prod (atWidth byPrint 1 2) l) identity ⊎ PowerOf 1 (prod (atWidth byPrint 1 2) l) flipped
+        → PowerOf 1 (actBy 1 4096 (prod (atWidth byPrint 1 2) l)) identity ⊎ PowerOf 1 (actBy 1 4096 (prod (atWidth byPrint 1 2) l)) flipped
     by (inl s) = inr (step s)
     by (inr s) = inl (power-trans 1 (step s) (power-of 1 (act-back 1 identity (proper 1 4096) (inverse-undoes 1 4096 4096 (samples .x-back)))))
 
@@ -54,8 +55,8 @@ no-shared G l m a b p q e = by (class l a) (class m b)
   where
     class : (l : List ℕ) → ListOf 1 2 l → PowerOf 1 (product 1 l) identity ⊎ PowerOf 1 (product 1 l) flipped
     class l a =
-        subst (λ (x : Exact). PowerOf 1 x identity ⊎ PowerOf 1 x flipped) (sym (product-of 1 2 (omega arith) l))
-        (two-products (reverse l) (over-reverse 1 2 (omega arith) l (list-over 1 2 (omega arith) l a)))
+        subst (λ (x : Exact). PowerOf 1 x identity ⊎ PowerOf 1 x flipped) (sym (product-of byPrint 1 2 (omega arith) l))
+        (two-products (reverse l) (over-reverse byPrint 1 2 (omega arith) l (list-over byPrint 1 2 (omega arith) l a)))
 
     apart : {A : Type 0} → fingerprint 1 identity ≡ fingerprint 1 flipped → A
     apart f = clash (eq-eqb (fingerprint 1 identity) (fingerprint 1 flipped) f) (samples .prints-differ)
@@ -74,10 +75,10 @@ no-shared G l m a b p q e = by (class l a) (class m b)
     by (inr s) (inl t) = apart (sym (fingerprint-power 1 (product-lowest 1 m) low t) ∙ sym e ∙ fingerprint-power 1 (product-lowest 1 l) low-x s)
 
 -- every hypothesis is met
-pub holds : WidthComplete 1 2 8 2
-holds = demand 1 2 (omega arith) .complete 8 2 (omega arith) (no-shared 8)
+pub holds : WidthComplete byPrint 1 2 8 2
+holds = demand byPrint 1 2 (omega arith) .complete 8 2 (omega arith) (no-shared 8)
 
-pub unsaturated : built 1 2 8 2 .saturated ≡ false
+pub unsaturated : built byPrint 1 2 8 2 .saturated ≡ false
 unsaturated = ap (λ (b : Build). b .saturated) (samples .two-entries)
 
 -- for one, no list of X within 8 gates has the product of T, 20480, up to a power of omega: the width answers none

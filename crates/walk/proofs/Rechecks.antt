@@ -14,6 +14,7 @@ use Rattle.exact.specs.Fits.{stepFits, Steps, allFit, unfitAt, next, stepsFrom,
 use Rattle.exact.specs.Phase.{upToPhase}
 use Rattle.walk.specs.Walk.{prod}
 use Rattle.walk.proofs.Nodewise.{stepsFit, recheck}
+use Rattle.walk.specs.Modes.{Mode}
 use Rattle.walk.specs.AtWidth.{atWidth}
 use Rattle.walk.proofs.Exactly.{product-is, product-of}
 
@@ -51,31 +52,35 @@ module _ (n : ℕ) where
       by true e = ok-next all ∙ e ∙ ap (λ (t : Bool). t && stepFits n (gateOf n g) (after n (act n (gateOf n h) x) l)) (sym (ok-next part))
       by false e = refl
 
-  module _ (basis : ℕ) (small : n ≤ 5) where
-    fit-steps : (l : List ℕ) → stepsFit (atWidth n basis) l ≡ ok (steps n (reverse l))
+  module _ (mode : Mode) (basis : ℕ) (small : n ≤ 5) where
+    fit-steps : (l : List ℕ) → stepsFit (atWidth mode n basis) l ≡ ok (steps n (reverse l))
     unfolding steps product
     fit-steps [] = refl
     fit-steps (g ∷ l) =
-        (λ i. fit-steps l i && stepFits n (gateOf n g) (sym (product-is n basis small l) i))
+        (λ i. fit-steps l i && stepFits n (gateOf n g) (sym (product-is mode n basis small l) i))
         ∙ sym (ok-snoc identity (reverse l) g) ∙ ap (λ (z : List ℕ). ok (stepsFrom n identity z)) (sym (reverse-cons g l))
+
+    -- every step of a list that is newest gate first fits, and so of the list as callers have it
+    pub steps-fit : (l : List ℕ) → stepsFit (atWidth mode n basis) l ≡ true → steps n (reverse l) ≡ allFit
+    steps-fit l e = ok-true (steps n (reverse l)) (sym (fit-steps l) ∙ e)
 
     -- of a list as callers have it, oldest gate first
     pub recheck-exactly : (l : List ℕ) (x : Exact)
-        → (recheck (atWidth n basis) (reverse l) x ≡ true) ↔ ((steps n l ≡ allFit) × (upToPhase n (product n l) x ≡ true))
+        → (recheck (atWidth mode n basis) (reverse l) x ≡ true) ↔ ((steps n l ≡ allFit) × (upToPhase n (product n l) x ≡ true))
     unfolding recheck
     recheck-exactly l x = (to, from)
       where
-        fits-are : stepsFit (atWidth n basis) (reverse l) ≡ ok (steps n l)
+        fits-are : stepsFit (atWidth mode n basis) (reverse l) ≡ ok (steps n l)
         fits-are = fit-steps (reverse l) ∙ ap (λ (z : List ℕ). ok (steps n z)) (reverse-reverse l)
 
-        test-is : upToPhase n (product n l) x ≡ upToPhase n (prod (atWidth n basis) (reverse l)) x
-        test-is = ap (λ (y : Exact). upToPhase n y x) (product-of n basis small l)
+        test-is : upToPhase n (product n l) x ≡ upToPhase n (prod (atWidth mode n basis) (reverse l)) x
+        test-is = ap (λ (y : Exact). upToPhase n y x) (product-of mode n basis small l)
 
         fit : Bool
-        fit = stepsFit (atWidth n basis) (reverse l)
+        fit = stepsFit (atWidth mode n basis) (reverse l)
 
         equal : Bool
-        equal = upToPhase n (prod (atWidth n basis) (reverse l)) x
+        equal = upToPhase n (prod (atWidth mode n basis) (reverse l)) x
 
         to : fit && equal ≡ true → (steps n l ≡ allFit) × (upToPhase n (product n l) x ≡ true)
         to e = let b = both-true fit equal e in (ok-true (steps n l) (sym fits-are ∙ b .0), test-is ∙ b .1)

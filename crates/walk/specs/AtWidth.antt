@@ -1,5 +1,5 @@
--- The walk at a width and a basis: over exact matrices, where a candidate is known, and a query finds its node, by the fingerprint. And the
--- words of demand 3 about lists, which are here oldest gate first, as callers have them. Assumes nothing.
+-- The walk at a width and a basis, in a mode, over exact matrices. And the words of demand 3 about lists, which are here oldest gate first, as callers
+-- have them. Assumes nothing.
 use mathlib.Core.Path.{_≡_}
 use mathlib.Core.Bool.{Bool, true}
 use mathlib.Core.List.{List, reverse}
@@ -17,6 +17,7 @@ use Rattle.exact.specs.Fits.{stepFits}
 use Rattle.exact.specs.Phase.{upToPhase}
 use Rattle.exact.specs.Fingerprint.{fingerprint}
 use Rattle.walk.specs.Walk.{Rules, Node, Build, walk}
+use Rattle.walk.specs.Modes.{Mode, inMode}
 
 -- two matrices have one fingerprint
 unfoldable pub samePrint : ℕ → Exact → Exact → Bool
@@ -34,9 +35,9 @@ parentOf v = v .parent
 
 -- ---- the walk
 
--- what the walk is handed at width n with a basis
-abbrev pub atWidth : ℕ → ℕ → Rules
-atWidth n basis = record {
+-- what the modes are made of at width n with a basis: a fingerprint alone makes known and answers
+abbrev pub plainAt : ℕ → ℕ → Rules
+plainAt n basis = record {
   Mat = Exact;
   one = identity;
   act = λ g x. act n (gateOf n g) x;
@@ -49,9 +50,13 @@ atWidth n basis = record {
   generators = generators n basis;
 }
 
--- the width as a build with gate limit G and entry limit E leaves it (SPECIFICATION 6.4 to 6.9)
-abbrev pub built : ℕ → ℕ → ℕ → ℕ → Build
-built n basis G E = walk (atWidth n basis) G E
+-- what the walk is handed
+abbrev pub atWidth : Mode → ℕ → ℕ → Rules
+atWidth mode n basis = inMode mode (plainAt n basis)
+
+-- the width as a build with gate limit G and entry limit E leaves it (SPECIFICATION 6.4 to 6.9, 6.16)
+abbrev pub built : Mode → ℕ → ℕ → ℕ → ℕ → Build
+built mode n basis G E = walk (atWidth mode n basis) G E
 
 -- a list of the basis at the width: all its codes, if it has any, are valid for the basis there (SPECIFICATION 8.6)
 abbrev pub ListOf : ℕ → ℕ → List ℕ → Type 0

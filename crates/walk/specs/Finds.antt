@@ -2,7 +2,7 @@
 -- 7.6). That a node found is right rests on the recheck alone. Assumes nothing.
 use mathlib.Core.Bool.{Bool, true, false, _&&_}
 use mathlib.Core.List.{List}
-use Prim.Native.Nat.{ℕ}
+use Prim.Native.Nat.{ℕ, zero, suc}
 use lib.ListN.{length}
 use Rattle.ints.specs.Lists.{pick}
 use Rattle.exact.specs.Matrix.{Exact}
@@ -65,15 +65,32 @@ abbrev pub byChain : ℕ → Exact → ℕ → Finding → Chain → Finding
 byChain n x k rest (good l) = pick (rechecked n l x) (node k (length l)) rest
 byChain n x k rest bad = refused 13 0
 
--- by what the look-up gave: the chain of the node is read; no node, none (SPECIFICATION 7.4)
-abbrev pub byLookup : WidthLimits → Part → Exact → Finding → Lookup → Finding
-byLookup limits part x rest (found k) = byChain (limits .width) x k rest (chainAt limits part k)
-byLookup limits part x rest lookup.none = none
+-- by what the look-up gave: the chain of the node is read, and `further` goes on from the next node; no node, none (SPECIFICATION 7.4)
+abbrev pub byLookup : WidthLimits → Part → Exact → (ℕ → Finding) → Lookup → Finding
+byLookup limits part x further (found k) = byChain (limits .width) x k (further (suc k)) (chainAt limits part k)
+byLookup limits part x further lookup.none = none
 
--- the node to which a fingerprint leads, by the scan or through the index
-abbrev pub lookedIn : Part → ℕ → Lookup
-lookedIn part y = lookedUp (part .by) (part .index) (part .fingerprints) (part .count) 0 y
+-- the node to which a fingerprint leads, not below a start, by the scan or through the index
+abbrev pub lookedIn : Part → ℕ → ℕ → Lookup
+lookedIn part from y = lookedUp (part .by) (part .index) (part .fingerprints) (part .count) from y
 
--- the node found for the matrix x, by the one node to which its fingerprint leads: by the scan, the lowest that has it (SPECIFICATION 7.4, 7.15)
-unfoldable pub findOf : WidthLimits → Part → Exact → Finding
-findOf limits part x = byLookup limits part x none (lookedIn part (fingerprint (limits .width) x))
+-- the nodes to which the fingerprint y leads, rising, until one is found for x or has a bad chain. At most m are looked at; each lies past the one
+-- before, so as many as there are nodes are enough
+unfoldable pub findFrom : WidthLimits → Part → ℕ → Exact → ℕ → ℕ → Finding
+findFrom limits part y x zero from = none
+findFrom limits part y x (suc m) from = byLookup limits part x (λ next. findFrom limits part y x m next) (lookedIn part from y)
+
+-- the node found for the matrix x by the fingerprint y
+unfoldable pub findBy : WidthLimits → Part → ℕ → Exact → Finding
+findBy limits part y x = findFrom limits part y x (part .count) 0
+
+-- by its own fingerprint. Where the look-up finds the scan's node this is the lowest node that has it and whose list passes the recheck, but for a bad
+-- chain before it (SPECIFICATION 7.4 to 7.6, 7.15; Meaning has the words)
+abbrev pub findOf : WidthLimits → Part → Exact → Finding
+findOf limits part x = findBy limits part (fingerprint (limits .width) x) x
+
+-- a node is found
+abbrev pub isNode : Finding → Bool
+isNode (node k m) = true
+isNode none = false
+isNode (refused r p) = false

@@ -1,5 +1,5 @@
 -- Hypothesis K, from which completeness follows too: what the walk skipped as known is present up to a power of omega. It follows from there
--- being no clash, and speaks of the nodes at hand alone (SPECIFICATION 8.14). Lists are newest gate first. Assumes nothing.
+-- being no clash, holds by itself where clashing nodes are kept, and speaks of the nodes at hand alone (SPECIFICATION 8.14, 8.17). Lists are newest gate first. Assumes nothing.
 use mathlib.Core.Path.{_≡_}
 use mathlib.Core.Bool.{true, false}
 use mathlib.Core.List.{List, List·Memᴰ}
@@ -7,6 +7,7 @@ use Prim.Native.Nat.{ℕ, _<_}
 use lib.ListN.{length}
 use Rattle.exact.specs.Matrix.{PowerOf}
 use Rattle.walk.specs.Walk.{Rules, Node, any, listAt, prod, pruned, knows, candidate}
+use Rattle.walk.specs.Modes.{Mode}
 use Rattle.walk.specs.AtWidth.{atWidth, built}
 
 module _ (R : Rules) (Same : R .Mat → R .Mat → Type 0) where
@@ -23,6 +24,6 @@ module _ (R : Rules) (Same : R .Mat → R .Mat → Type 0) where
 
 -- what suffices, and can be looked up in a given table: each candidate of its completed depths that was skipped as known has a product that is
 -- a power of omega times the product of a node present
-abbrev pub SkippedRightly : ℕ → ℕ → ℕ → ℕ → Type 0
-SkippedRightly n basis G E =
-    KnownIsPresent (atWidth n basis) (PowerOf n) (built n basis G E .depth) (built n basis G E .nodes)
+abbrev pub SkippedRightly : Mode → ℕ → ℕ → ℕ → ℕ → Type 0
+SkippedRightly mode n basis G E =
+    KnownIsPresent (atWidth mode n basis) (PowerOf n) (built mode n basis G E .depth) (built mode n basis G E .nodes)

@@ -1,4 +1,5 @@
 pub mod Walk
+pub mod Modes
 pub mod AtWidth
 pub mod Lookup
 pub mod Index

@@ -19,7 +19,7 @@ use Rattle.walk.specs.Lookup as lookup
 use Rattle.walk.specs.Index.{By, scan, indexed, lookedUp}
 use Rattle.walk.specs.IndexLaws.{ComesTo, ComesToNone}
 use Rattle.walk.specs.Chains.{good, bad, marked, chainOf}
-use Rattle.walk.specs.Finds.{WidthLimits, Part, findOf}
+use Rattle.walk.specs.Finds.{WidthLimits, Part, lookedIn, findOf}
 use Rattle.walk.specs.Finds as f
 use Rattle.walk.specs.Answers.{given, none, refused, outcome, writeOf, answerOf}
 
@@ -86,12 +86,12 @@ pub record Chained (n basis limit : ℕ) (parents codes : List ℕ) (node : ℕ)
 -- ---- the find
 
 module _ (limits : WidthLimits) (part : Part) (x : Exact) where
-  -- the node to which the fingerprint of x leads; that there is none; the list of the way from a node, or that the way meets a fault
-  abbrev pub FoundNode : ℕ → Type 0
-  FoundNode node = LeadsTo (part .by) (part .index) (part .fingerprints) (part .count) 0 (fingerprint (limits .width) x) node
+  -- the node to which the fingerprint of x leads, not below a start; that there is none; the list of the way from a node, or that the way meets a fault
+  abbrev pub FoundNode : ℕ → ℕ → Type 0
+  FoundNode from node = LeadsTo (part .by) (part .index) (part .fingerprints) (part .count) from (fingerprint (limits .width) x) node
 
-  abbrev pub NotFoundAny : Type 0
-  NotFoundAny = LeadsNowhere (part .by) (part .index) (part .fingerprints) (part .count) 0 (fingerprint (limits .width) x)
+  abbrev pub NotFoundAny : ℕ → Type 0
+  NotFoundAny from = LeadsNowhere (part .by) (part .index) (part .fingerprints) (part .count) from (fingerprint (limits .width) x)
 
   abbrev pub GatesOf : ℕ → List ℕ → Type 0
   GatesOf node l = Gates (limits .width) (limits .basis) (limits .gates) (part .parents) (part .codes) node l
@@ -99,23 +99,32 @@ module _ (limits : WidthLimits) (part : Part) (x : Exact) where
   abbrev pub FaultOf : ℕ → Type 0
   FaultOf node = Fault (limits .width) (limits .basis) (limits .gates) (part .parents) (part .codes) node
 
-  -- the node is found; the way from it gives the list, every step fits, and the product is equal up to phase to x (SPECIFICATION 7.6)
+  -- a node is passed: the way from it gives a list that does not fit, or that is not equal up to phase to x
+  pub data Passed (node : ℕ) : Type 0 where
+    does-not-fit : (i : ℕ) (l : List ℕ) → GatesOf node l → steps (limits .width) l ≡ unfitAt i → Passed node
+    not-equal : (l : List ℕ) → GatesOf node l → upToPhase (limits .width) (product (limits .width) l) x ≡ false → Passed node
+
+  -- the nodes that are looked at: that to which the fingerprint leads, and after one that is passed that to which it leads past it
+  pub data LookedAt : ℕ → Type 0 where
+    at-first : (node : ℕ) → FoundNode 0 node → LookedAt node
+    past : (before node : ℕ) → LookedAt before → Passed before → FoundNode (suc before) node → LookedAt node
+
+  -- the node is looked at; the way from it gives the list, every step fits, and the product is equal up to phase to x (SPECIFICATION 7.6)
   pub record FoundBy (node : ℕ) (l : List ℕ) : Type 0 where
-    pub leads : FoundNode node
+    pub leads : LookedAt node
     pub gates : GatesOf node l
     pub fits : steps (limits .width) l ≡ allFit
     pub equal : upToPhase (limits .width) (product (limits .width) l) x ≡ true
 
-  -- the fingerprint leads to no node, or the list of the one to which it leads does not fit or is not equal up to phase
+  -- the fingerprint leads to no node, or to none past one that is passed
   pub data NoList : Type 0 where
-    not-found : NotFoundAny → NoList
-    does-not-fit : (node i : ℕ) (l : List ℕ) → FoundNode node → GatesOf node l → steps (limits .width) l ≡ unfitAt i → NoList
-    not-equal : (node : ℕ) (l : List ℕ) → FoundNode node → GatesOf node l → upToPhase (limits .width) (product (limits .width) l) x ≡ false → NoList
+    not-found : NotFoundAny 0 → NoList
+    no-more : (node : ℕ) → LookedAt node → Passed node → NotFoundAny (suc node) → NoList
 
-  -- the way from the node to which the fingerprint leads meets a fault
+  -- the way from a node that is looked at meets a fault
   pub record BadFound : Type 0 where
     pub node : ℕ
-    pub leads : FoundNode node
+    pub leads : LookedAt node
     pub fault : FaultOf node
 
   -- the definition, said by these
@@ -123,6 +132,36 @@ module _ (limits : WidthLimits) (part : Part) (x : Exact) where
     pub is-node : (k m : ℕ) → (findOf limits part x ≡ f.node k m) ↔ ((l : List ℕ) × FoundBy k l × (m ≡ length l))
     pub is-none : (findOf limits part x ≡ f.none) ↔ NoList
     pub is-refused : (a i : ℕ) → (findOf limits part x ≡ f.refused a i) ↔ (BadFound × (a ≡ 13) × (i ≡ 0))
+
+  -- ---- where the look-up finds the scan's node: nodes with the fingerprint, rising (SPECIFICATION 7.4)
+
+  -- as the scan does, and an index with a place for each node that was filled from the fingerprints
+  abbrev pub AsScan : Type 0
+  AsScan = (from y : ℕ) → lookedIn part from y ≡ lowestFrom (part .fingerprints) (part .count) from y
+
+  -- the node is below the count and has the fingerprint of x
+  pub record HasPrint (node : ℕ) : Type 0 where
+    pub below : node < part .count
+    pub has : getD (part .fingerprints) node 0 ≡ fingerprint (limits .width) x
+
+  -- and every lower node that has it is passed
+  pub record Lowest (node : ℕ) : Type 0 where
+    pub print : HasPrint node
+    pub passed : (m : ℕ) → m < node → HasPrint m → Passed m
+
+  pub record ScanMeans : Type 0 where
+    pub is-node : (k m : ℕ) → (findOf limits part x ≡ f.node k m)
+        ↔ ((l : List ℕ) × Lowest k × GatesOf k l × (steps (limits .width) l ≡ allFit) × (upToPhase (limits .width) (product (limits .width) l) x ≡ true) × (m ≡ length l))
+    pub is-none : (findOf limits part x ≡ f.none) ↔ ((m : ℕ) → HasPrint m → Passed m)
+    pub is-refused : (a i : ℕ) → (findOf limits part x ≡ f.refused a i) ↔ (((k : ℕ) × Lowest k × FaultOf k) × (a ≡ 13) × (i ≡ 0))
+
+  -- no two nodes have one fingerprint
+  abbrev pub Distinct : Type 0
+  Distinct = (i j : ℕ) → i < j → j < part .count → getD (part .fingerprints) i 0 ≡ getD (part .fingerprints) j 0 → ⊥
+
+  -- the rule of the first node alone: what it does not give is not looked for further on
+  abbrev pub findFirst : f.Finding
+  findFirst = f.byLookup limits part x (λ next. f.none) (lookedIn part 0 (fingerprint (limits .width) x))
 
   -- ---- the answer: what is told, and what the lent list then holds
 
@@ -137,6 +176,15 @@ module _ (limits : WidthLimits) (part : Part) (x : Exact) where
     pub is-none : (after : List ℕ) → (answerOf limits part x out ≡ outcome none after) ↔ (NoList × (after ≡ out))
     pub is-refused : (a i : ℕ) (after : List ℕ)
         → (answerOf limits part x out ≡ outcome (refused a i) after) ↔ (BadFound × (a ≡ 13) × (i ≡ 0) × (after ≡ out))
+
+-- which node a find comes to (SPECIFICATION 7.4 to 7.6, 7.15)
+pub record FindRule : Type 0 where
+  -- whatever part is lent
+  pub means : (limits : WidthLimits) (part : Part) (x : Exact) → FindMeans limits part x
+  -- the lowest node with the fingerprint whose product is equal up to phase; a bad chain before it refuses by 13
+  pub lowest : (limits : WidthLimits) (part : Part) (x : Exact) → AsScan limits part x → ScanMeans limits part x
+  -- where no two nodes have one fingerprint, the rule of the first node alone gives the same
+  pub distinct : (limits : WidthLimits) (part : Part) (x : Exact) → Distinct limits part x → findOf limits part x ≡ findFirst limits part x
 
 -- ---- the write: the list of the way from the node, or a fault
 

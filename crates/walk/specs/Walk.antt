@@ -1,7 +1,7 @@
 -- The walk of one width: node 0 is the empty list, and depth by depth each node of the last layer tries each generator (SPECIFICATION 6.4).
 -- Steps on states: one candidate, one node, one depth, a width. What the walk is handed is a parameter: its laws hold for other tests too.
 -- Why layers: each list of d gates is dealt with before any list of d + 1; so the first list found for a product is a shortest one, if no
--- fingerprints clash. Why the two skip rules lose no product (SPECIFICATION 6.13): a list that ends in a gate and its inverse has the product of
+-- fingerprints clash or clashing nodes are kept. Why the two skip rules lose no product (SPECIFICATION 6.13): a list that ends in a gate and its inverse has the product of
 -- a list two gates shorter, with which an earlier depth has dealt; and last gates that share no qubit can be exchanged without changing the
 -- product. Of the two orders the one with rising codes is kept: it ends in the greater code, and codes are bounded, so that exchanging comes to
 -- an end. proofs/Completeness shows it. Assumes nothing.
@@ -14,8 +14,8 @@ use Rattle.ints.specs.Lists.{pick}
 use Rattle.circuit.specs.Codes.{mark}
 
 -- What the walk is handed. Mat: exact matrices; one: the identity; act: the step by a gate; fits: that step fits (SPECIFICATION 3.3, 3.4).
--- known x y: a candidate with the matrix y counts as known by a node with the matrix x; AtWidth asks for one fingerprint (SPECIFICATION 6.7).
--- answers x y: a query with the matrix y finds a node with the matrix x; AtWidth asks for one fingerprint (SPECIFICATION 7.4).
+-- known x y: a candidate with the matrix y counts as known by a node with the matrix x; Modes says by what (SPECIFICATION 6.7, 6.16).
+-- answers x y: a node with the matrix x answers a query with the matrix y (SPECIFICATION 7.4).
 -- equal: equal up to phase, the recheck's test (SPECIFICATION 1.12).
 -- inverse, disjoint: the tests on a gate and the gate before it (SPECIFICATION 2.6, 2.7). generators: those of the width (SPECIFICATION 2.8).
 pub record Rules : Type 1 where
@@ -88,11 +88,15 @@ settled b s =
 abbrev pub ended : Build → Bool
 ended b = b .saturated || eqb (b .last) (length (b .nodes))
 
+-- the product of a list, newest gate first
+abbrev pub prodBy : {A : Type 0} → A → (ℕ → A → A) → List ℕ → A
+prodBy one act [] = one
+prodBy one act (g ∷ l) = act g (prodBy one act l)
+
 module _ (R : Rules) where
-  -- the product of a list, newest gate first
+  -- it depends on the matrices alone, so it is the same in each mode
   abbrev pub prod : List ℕ → R .Mat
-  prod [] = R .one
-  prod (g ∷ l) = R .act g (prod l)
+  prod l = prodBy (R .one) (R .act) l
 
   -- skipped by its last two gates, first h and then g: g undoes h, or they share no qubit and their codes fall (SPECIFICATION 6.5)
   abbrev pub pruned : ℕ → List ℕ → Bool

@@ -1,7 +1,8 @@
 -- What a width finds and answers, by what the look-up told. Assumes nothing.
-use mathlib.Core.Path.{_≡_, sym, ap, _∙_, subst}
+use mathlib.Core.Path.{_≡_, refl, sym, ap, _∙_, subst}
+use mathlib.Core.Bool.{Bool, true, false}
 use mathlib.Core.List.{List, [], _++_}
-use Prim.Native.Nat.{ℕ, _≤_, _-_}
+use Prim.Native.Nat.{ℕ, suc, _+_, _≤_, _<_, _-_}
 use native.Mathlib.Omega.{arith}
 use lib.ListN.{length, take, drop, length-take, length-append}
 use lib.Seq.{length-take-le}
@@ -10,29 +11,102 @@ use Rattle.exact.specs.Fingerprint.{fingerprint}
 use Rattle.synthesis_arena.specs.Lookup.{toldFound}
 use Rattle.synthesis_arena.specs.declared.Found.{Found}
 use Rattle.synthesis_arena.specs.declared.Found.the-variants.{At, NotFound}
-use Rattle.walk.specs.Finds.{WidthLimits, Part, Finding, none, chainAt, byLookup, lookedIn, findOf}
+use Rattle.ints.specs.Lists.{pick}
+use Rattle.ints.proofs.Bools.{clash}
+use Rattle.walk.specs.Chains.{Chain, good, bad}
+use Rattle.walk.specs.Finds.{WidthLimits, Part, Finding, node, none, refused, rechecked, chainAt, byChain, byLookup, lookedIn, findFrom, findBy, findOf}
+use Rattle.walk.proofs.Indexed.{looked-node}
 use Rattle.walk.specs.Answers.{outcome, writeOf, thenWrite, answerOf}
 use Rattle.walk.specs.Answers as a
 use Rattle.walk.proofs.Meaning.{no-nodes, find-means, means}
-use Rattle.width_answer.specs.Answers.{toldFind, NodeFound, ListFound}
+use Rattle.width_answer.specs.Answers.{toldFind, NodeFound, PrintFound, ListFound}
 use Rattle.width_answer.specs.declared.Find.{Find}
 use Rattle.width_answer.specs.declared.Find.the-variants as d
 
-module _ (limits : WidthLimits) (part : Part) (x : Exact) {print : ℕ} (e : print ≡ fingerprint (limits .width) x) {r : Found}
-    (told : toldFound r ≡ lookedIn part print) where
-  by-lookup : {s : Found} → r ≡ s → byLookup limits part x none (toldFound s) ≡ findOf limits part x
-  unfolding findOf
-  by-lookup f = ap (byLookup limits part x none) (sym (ap toldFound f) ∙ told ∙ ap (lookedIn part) e)
+-- whether none is found
+abbrev pub isNone : Finding → Bool
+isNone (node k m) = false
+isNone none = true
+isNone (refused a i) = false
 
-  pub width-node : {k : ℕ} → r ≡ At k → {g : Finding} {list : List ℕ} → NodeFound (limits .width) x (chainAt limits part) k g list → ListFound limits part x g list
-  unfolding answerOf writeOf
-  width-node f w =
-      let h = w .is ∙ by-lookup f in
-      record { is = h; copies = λ out. w .copies out ∙ ap (thenWrite (λ j. writeOf limits part j out) out) h }
+-- what a chain gives where the search ends there, and where it goes on
+ends : (n : ℕ) (x : Exact) (k : ℕ) (rest : Finding) (c : Chain) → isNone (byChain n x k none c) ≡ false → byChain n x k none c ≡ byChain n x k rest c
+ends n x k rest bad h = refl
+ends n x k rest (good l) h = by (rechecked n l x) h
+  where
+    by : (t : Bool) → isNone (pick t (node k (length l)) none) ≡ false → pick t (node k (length l)) none ≡ pick t (node k (length l)) rest
+    by true h = refl
+    by false h = clash refl h
 
-  pub width-none : r ≡ NotFound → (list : List ℕ) → ListFound limits part x none list
-  unfolding answerOf
-  width-none f list = record { is = by-lookup f; copies = λ out. ap (thenWrite (λ j. writeOf limits part j out) out) (by-lookup f) }
+goes-on : (n : ℕ) (x : Exact) (k : ℕ) (rest : Finding) (c : Chain) → byChain n x k none c ≡ none → byChain n x k rest c ≡ rest
+goes-on n x k rest bad h = clash (ap isNone h) refl
+goes-on n x k rest (good l) h = by (rechecked n l x) h
+  where
+    by : (t : Bool) → pick t (node k (length l)) none ≡ none → pick t (node k (length l)) rest ≡ rest
+    by true h = clash (ap isNone h) refl
+    by false h = refl
+
+module _ (limits : WidthLimits) (part : Part) (y : ℕ) (x : Exact) where
+  -- what is left of the search finds what the whole finds
+  pub record Searching (from left : ℕ) : Type 0 where
+    pub rest : findFrom limits part y x left from ≡ findBy limits part y x
+
+  pub search-start : Searching 0 (part .count)
+  unfolding findBy
+  search-start = record { rest = refl }
+
+  -- no turn is left
+  pub search-done : {from left : ℕ} → Searching from left → left ≡ 0 → (list : List ℕ) → PrintFound limits part y x none list
+  unfolding findFrom
+  search-done {from} s e list = record { is = ap (λ (m : ℕ). findFrom limits part y x m from) (sym e) ∙ s .rest; copies = λ out. refl }
+
+  -- one turn, by what the look-up told
+  module _ {from left : ℕ} (s : Searching from left) (some : 0 < left) {r : Found} (told : toldFound r ≡ lookedIn part from y) where
+    turned : {f : Found} → r ≡ f → byLookup limits part x (λ next. findFrom limits part y x (left - 1) next) (toldFound f) ≡ findBy limits part y x
+    unfolding findFrom
+    turned e =
+        let z : suc (left - 1) ≡ left = omega (arith, some) in
+        ap (byLookup limits part x (λ next. findFrom limits part y x (left - 1) next)) (sym (ap toldFound e) ∙ told)
+        ∙ ap (λ (m : ℕ). findFrom limits part y x m from) z ∙ s .rest
+
+    pub search-none : r ≡ NotFound → (list : List ℕ) → PrintFound limits part y x none list
+    search-none e list = record { is = turned e; copies = λ out. refl }
+
+    pub search-below : {k : ℕ} → r ≡ At k → k < part .count
+    search-below {k} e = looked-node (part .by) (part .index) (part .fingerprints) (part .count) from y k (sym told ∙ ap toldFound e) .below
+
+    -- the node ends the search
+    pub search-ends : {k : ℕ} → r ≡ At k → {g : Finding} {list : List ℕ} → NodeFound (limits .width) x (chainAt limits part) k g list → isNone g ≡ false
+        → PrintFound limits part y x g list
+    unfolding writeOf
+    search-ends {k} e {g} w n = record {
+      is = w .is ∙ ends (limits .width) x k _ (chainAt limits part k) (sym (ap isNone (w .is)) ∙ n) ∙ turned e;
+      copies = w .copies;
+    }
+
+    -- or is passed
+    pub search-on : {k : ℕ} → r ≡ At k → {g : Finding} {list : List ℕ} → NodeFound (limits .width) x (chainAt limits part) k g list → g ≡ none
+        → Searching (k + 1) (left - 1)
+    search-on {k} e w n =
+        let z : k + 1 ≡ suc k = omega arith in
+        record {
+          rest =
+              ap (findFrom limits part y x (left - 1)) z
+              ∙ sym (goes-on (limits .width) x k (findFrom limits part y x (left - 1) (suc k)) (chainAt limits part k) (sym (w .is) ∙ n)) ∙ turned e;
+        }
+
+-- by the case that the answer is
+pub as-told : {n : ℕ} {x : Exact} {chain : ℕ → Chain} {k : ℕ} {list : List ℕ} {r s : Find} → r ≡ s → NodeFound n x chain k (toldFind r) list
+    → NodeFound n x chain k (toldFind s) list
+as-told {n} {x} {chain} {k} {list} e w = subst (λ (f : Find). NodeFound n x chain k (toldFind f) list) e w
+
+-- by the matrix's own fingerprint
+pub own-print : (limits : WidthLimits) (part : Part) (x : Exact) {y : ℕ} → y ≡ fingerprint (limits .width) x → {g : Finding} {list : List ℕ}
+    → PrintFound limits part y x g list → ListFound limits part x g list
+unfolding answerOf
+own-print limits part x {y} e {g} w =
+    let h = w .is ∙ ap (λ (z : ℕ). findBy limits part z x) e in
+    record { is = h; copies = λ out. w .copies out ∙ ap (thenWrite (λ j. writeOf limits part j out) out) h }
 
 -- in a part without nodes nothing is found
 pub empty-found : (limits : WidthLimits) (part : Part) (x : Exact) (list : List ℕ) → part .count ≡ 0 → ListFound limits part x none list

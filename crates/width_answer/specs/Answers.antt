@@ -9,9 +9,9 @@ use Rattle.exact.specs.Matrix.{Exact}
 use Rattle.exact.specs.Places.{read}
 use Rattle.exact.proofs.Words.{AllSmall}
 use Rattle.walk.specs.Chains.{Chain}
-use Rattle.walk.specs.Finds.{WidthLimits, Part, Finding, byChain, findOf}
+use Rattle.walk.specs.Finds.{WidthLimits, Part, Finding, byChain, findBy, findOf}
 use Rattle.walk.specs.Finds as f
-use Rattle.walk.specs.Answers.{given, none, refused, Outcome, outcome, written, thenWrite, answerOf}
+use Rattle.walk.specs.Answers.{given, none, refused, Outcome, outcome, written, writeOf, thenWrite, answerOf}
 use Rattle.width_answer.specs.declared.Find.{Find}
 use Rattle.width_answer.specs.declared.Find.the-variants as d
 
@@ -31,6 +31,11 @@ copied (f.refused r p) list out = outcome (refused r p) out
 pub record NodeFound (n : ℕ) (x : Exact) (chain : ℕ → Chain) (k : ℕ) (g : Finding) (list : List ℕ) : Type 0 where
   pub is : g ≡ byChain n x k f.none (chain k)
   pub copies : (out : List ℕ) → copied g list out ≡ thenWrite (λ j. written out (chain j)) out g
+
+-- this is found for the matrix x by the fingerprint y, and its list, copied, is what a write of the node gives
+pub record PrintFound (limits : WidthLimits) (part : Part) (y : ℕ) (x : Exact) (g : Finding) (list : List ℕ) : Type 0 where
+  pub is : g ≡ findBy limits part y x
+  pub copies : (out : List ℕ) → copied g list out ≡ thenWrite (λ k. writeOf limits part k out) out g
 
 -- this is found for the matrix x, and its list, copied, is what is answered
 pub record ListFound (limits : WidthLimits) (part : Part) (x : Exact) (g : Finding) (list : List ℕ) : Type 0 where

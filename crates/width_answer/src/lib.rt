@@ -1,5 +1,5 @@
 // The node that answers a matrix in one width's part of a lent table, whatever its three arrays hold (SPECIFICATION 7.4 to 7.6). murm.rs of the
-// original, `Murm::synthesize`, below the public entries: no row up to 11 has refused.
+// original, `Murm::synthesize`, below the public entries. A build that keeps clashing nodes asks it too (crate `known`).
 ghost use mathlib.Core.Path.{_≡_};
 ghost use mathlib.Core.Bool.{true};
 ghost use mathlib.Core.List.{_++_};
@@ -9,7 +9,7 @@ ghost use Rattle.ints.specs.Lists.{all};
 ghost use Rattle.circuit.specs.Codes.{valid};
 ghost use Rattle.exact.specs.Places.{held};
 ghost use Rattle.walk.specs.Chains.{chainOf};
-ghost use Rattle.width_answer.specs.Answers.{AskedPlaces, toldFind, NodeFound, ListFound};
+ghost use Rattle.width_answer.specs.Answers.{AskedPlaces, toldFind, NodeFound, PrintFound, ListFound};
 ghost use Rattle.walk.specs.Finds.{partWith, rechecked};
 ghost use Rattle.index.specs.Told.{toldBy};
 ghost use Rattle.synthesis_arena.specs.Limits.{toldLimits};
@@ -21,7 +21,7 @@ use synthesis_arena::Found;
 use synthesis_arena::NodeCircuit;
 use synthesis_arena::WidthLimits;
 
-// What is found: a node, and how many gates its list has; none; or that the chain found is bad (SPECIFICATION 7.5).
+// What is found: a node, and how many gates its list has; none; or that a chain that was met is bad (SPECIFICATION 7.5).
 pub enum Find {
     Node(usize, usize),
     Nothing,
@@ -80,16 +80,61 @@ fn find_node(
         node,
         list,
     ) else {
-        return Find::BadChain;
+        return Find::BadChain; // 13
     };
     if !recheck(&list[0..size], limits.width as usize, exponent, query) {
-        return Find::Nothing;
+        return Find::Nothing; // its list does not pass
     }
     Find::Node(node, size)
 }
 
-// The node that answers a matrix in a width's part of a table, by the node to which its fingerprint leads (SPECIFICATION 7.4, 7.15). Its list is
-// left in the first places of `list`; what `list` holds where no node is found is not told.
+// The node of a width's part with a fingerprint whose list passes the recheck against a matrix: by the scan the lowest (SPECIFICATION 7.4, 7.15). Nodes
+// with the fingerprint are looked at rising: one whose list does not pass is passed over, and a bad chain ends the search. Each lies past the one before, so no
+// more are looked at than there are. The list of the node found is left in the first places of `list`; what `list` holds where none is found is not told.
+pub fn find_print(
+    by: LookupBy,
+    limits: WidthLimits,
+    count: usize,
+    print: u64,
+    exponent: u16,
+    fingerprints: &[u64],
+    parents: &[u32],
+    codes: &[u32],
+    index: &[u32],
+    query: &[Coefficient],
+    list: &mut [u32],
+) -> Find
+    requires { ⌜ (limits .width ≤ 5) × (limits .gates ≤ length (now list)) ⌝ }
+    requires { ⌜ (count ≤ length (now fingerprints)) × (count ≤ length (now parents)) × (count ≤ length (now codes)) ⌝ }
+    requires { ⌜ AskedPlaces (limits .width) (now query) ⌝ }
+    ensures { λ r. ⌜ PrintFound (toldLimits limits)
+        (partWith (toldBy by) (now (fingerprints .entry)) (now (parents .entry)) (now (codes .entry)) count (now (index .entry))) print
+        (held (limits .width) exponent (now (query .entry))) (toldFind r) (now (list .exit)) ⌝ }
+{
+    let lookup = by;
+    let lim = limits;
+    let mut from = 0;
+    let mut left = count;
+    while left > 0 {
+        let Found::At(node) = index::look_up(lookup, index, fingerprints, count, from, print) else {
+            return Find::Nothing;
+        };
+        match find_node(lim, node, exponent, parents, codes, query, list) {
+            Find::Node(k, m) => {
+                return Find::Node(k, m);
+            }
+            Find::Nothing => {}
+            Find::BadChain => {
+                return Find::BadChain; // nothing past it is looked at
+            }
+        }
+        from = node + 1;
+        left -= 1;
+    }
+    Find::Nothing
+}
+
+// The node that answers a matrix in a width's part of a table, by the matrix's own fingerprint.
 pub fn find_width(
     by: LookupBy,
     limits: WidthLimits,
@@ -110,8 +155,17 @@ pub fn find_width(
         (held (limits .width) exponent (now (query .entry))) (toldFind r) (now (list .exit)) ⌝ }
 {
     let print = prints::unitary_fingerprint(query, limits.width as usize, exponent);
-    match index::look_up(by, index, fingerprints, count, 0, print) {
-        Found::At(node) => find_node(limits, node, exponent, parents, codes, query, list),
-        Found::NotFound => Find::Nothing,
-    }
+    find_print(
+        by,
+        limits,
+        count,
+        print,
+        exponent,
+        fingerprints,
+        parents,
+        codes,
+        index,
+        query,
+        list,
+    )
 }

@@ -10,6 +10,7 @@ use borrow.Author.Tests.{eq-eqb, ne-eqb}
 use lib.Dec.{eqb}
 use lib.ListN.{length}
 use Rattle.ints.specs.Lists.{pick}
+use Rattle.walk.specs.Modes.{Mode}
 use Rattle.walk.specs.Index.{By}
 use Rattle.walk.specs.Walk.{Rules, Node, State, Build, root, listAt, layer, settled, deeper, ended, depths, begin}
 use Rattle.walk.proofs.Grown.{Grown, alone, ParentsTo}
@@ -32,9 +33,9 @@ unfolding depths
 ended-stays R E b zero e = refl
 ended-stays R E b (suc m) e = rw e
 
-module _ (by : By) (lim : WidthLimits) (f0 u0 c0 i0 : List ℕ) (goal : Build) where
+module _ (mode : Mode) (by : By) (lim : WidthLimits) (f0 u0 c0 i0 : List ℕ) (goal : Build) where
   abbrev R : Rules
-  R = rules lim
+  R = rules mode lim
 
   abbrev E : ℕ
   E = lim .entries
@@ -53,7 +54,7 @@ module _ (by : By) (lim : WidthLimits) (f0 u0 c0 i0 : List ℕ) (goal : Build) w
     pub rest : depths R E (between ns lo d) (G - d) ≡ goal
 
   module _ {lo d : ℕ} {f u c i : List ℕ} {count : ℕ} (r : DepthRun lo d f u c i count) where
-    abbrev pub depth-run-live : d ≤ 64 → Long by lim f0 u0 c0 i0 → Live by lim f u c i count lo count
+    abbrev pub depth-run-live : suc d ≤ lim .gates → Long by lim f0 u0 c0 i0 → Live mode by lim f u c i count lo count
     depth-run-live deep long = record {
       f0 = f0;
       u0 = u0;
@@ -139,8 +140,8 @@ module _ (by : By) (lim : WidthLimits) (f0 u0 c0 i0 : List ℕ) (goal : Build) w
                 ∙ ap (λ (z : ℕ). depths R E (between (next .nodes) z (suc d)) (G - suc d)) (r .columns .count-is) ∙ round-done q;
           }
 
-pub depth-run-start : {by : By} {lim : WidthLimits} {f u c i : List ℕ} (h : Start by lim f u c i) → DepthRun by lim (h .f0) (h .u0) (h .c0) (h .i0) (depths (rules lim) (lim .entries) begin (lim .gates)) 0 0 f u c i 1
-depth-run-start {lim} h =
+pub depth-run-start : {mode : Mode} {by : By} {lim : WidthLimits} {f u c i : List ℕ} (h : Start by lim f u c i) → DepthRun mode by lim (h .f0) (h .u0) (h .c0) (h .i0) (depths (rules mode lim) (lim .entries) begin (lim .gates)) 0 0 f u c i 1
+depth-run-start {mode} {lim = lim} h =
     let z : lim .gates - 0 ≡ lim .gates = omega arith in
     record {
       ns = root ∷ [];
@@ -150,5 +151,5 @@ depth-run-start {lim} h =
       few = h .some;
       order = omega arith;
       flat = λ j l. let e : j ≡ 0 = omega arith in rw e (omega arith);
-      rest = ap (depths (rules lim) (lim .entries) begin) z;
+      rest = ap (depths (rules mode lim) (lim .entries) begin) z;
     }

@@ -8,6 +8,7 @@ use native.Mathlib.Numerals.{add-one}
 use native.Mathlib.Omega.{arith}
 use lib.ListN.{length}
 use Rattle.generators.specs.Generators.{generators}
+use Rattle.walk.specs.Modes.{Mode}
 use Rattle.walk.specs.Index.{By}
 use Rattle.walk.specs.Walk.{Rules, Node, State, tryAll, layer}
 use Rattle.walk.proofs.Candidates.{layer-saturated}
@@ -15,9 +16,9 @@ use Rattle.synthesis_arena.specs.declared.WidthLimits.{WidthLimits}
 use Rattle.next_node.specs.Arrays.{rules, unsaturated, Columns, Long, Live, After}
 use Rattle.candidates.proofs.Keeping.{TriedKept, kept-node, unfilled}
 
-module _ (by : By) (lim : WidthLimits) (hi d : ℕ) (f0 u0 c0 i0 : List ℕ) (goal : State) where
+module _ (mode : Mode) (by : By) (lim : WidthLimits) (hi d : ℕ) (f0 u0 c0 i0 : List ℕ) (goal : State) where
   abbrev R : Rules
-  R = rules lim
+  R = rules mode lim
 
   abbrev E : ℕ
   E = lim .entries
@@ -35,7 +36,7 @@ module _ (by : By) (lim : WidthLimits) (hi d : ℕ) (f0 u0 c0 i0 : List ℕ) (go
     pub layer-run-lt : k < hi → k < count
     layer-run-lt l = omega (arith, r .kept .size, r .columns .count-is)
 
-    abbrev pub layer-run-live : k < hi → d ≤ 64 → Long by lim f0 u0 c0 i0 → Live by lim f u c i count k (suc k)
+    abbrev pub layer-run-live : k < hi → suc d ≤ lim .gates → Long by lim f0 u0 c0 i0 → Live mode by lim f u c i count k (suc k)
     layer-run-live l deep long = record {
       f0 = f0;
       u0 = u0;
@@ -84,8 +85,8 @@ module _ (by : By) (lim : WidthLimits) (hi d : ℕ) (f0 u0 c0 i0 : List ℕ) (go
         let e : unsaturated (r .ns) ≡ goal = ap (layer R E (unsaturated (r .ns)) k) z ∙ r .rest in
         subst (λ (t : State). After by lim f0 u0 c0 i0 t f u c i count false) e (record { columns = r .columns; full-is = refl })
 
-pub layer-run-start : {by : By} {lim : WidthLimits} {lo : ℕ} {f u c i : List ℕ} {count : ℕ} (h : Live by lim f u c i count lo count)
-    → LayerRun by lim count (h .d) (h .f0) (h .u0) (h .c0) (h .i0) (layer (rules lim) (lim .entries) (unsaturated (h .ns)) lo (count - lo)) lo f u c i count
+pub layer-run-start : {mode : Mode} {by : By} {lim : WidthLimits} {lo : ℕ} {f u c i : List ℕ} {count : ℕ} (h : Live mode by lim f u c i count lo count)
+    → LayerRun mode by lim count (h .d) (h .f0) (h .u0) (h .c0) (h .i0) (layer (rules mode lim) (lim .entries) (unsaturated (h .ns)) lo (count - lo)) lo f u c i count
 layer-run-start h = record {
   ns = h .ns;
   columns = h .columns;

@@ -8,6 +8,7 @@ use lib.ListN.{length, take, drop}
 use lib.Seq.{take-at, sets, sets-eq, length-sets}
 use Rattle.ints.specs.Lists.{pick}
 use Rattle.generators.specs.Generators.{generators}
+use Rattle.walk.specs.Modes.{Mode}
 use Rattle.walk.specs.Index.{By}
 use Rattle.walk.specs.Walk.{Build, root, begin, depths, isNil, walk}
 use Rattle.synthesis_arena.specs.declared.WidthLimits.{WidthLimits}
@@ -24,28 +25,29 @@ cons : (xs : List ℕ) → (length xs ≡ 0 → ⊥) → isNil xs ≡ false
 cons [] z = absurd (z refl)
 cons (x ∷ xs) z = refl
 
-module _ (lim : WidthLimits) where
+abbrev pub root-start : (lim : WidthLimits) {by : By} {f0 u0 c0 i0 f u c i : List ℕ} → 0 < lim .entries → Long by lim f0 u0 c0 i0
+    → Columns by lim f0 u0 c0 i0 (root ∷ []) f u c i 1 → Start by lim f u c i
+root-start lim {f0 = f0} {u0 = u0} {c0 = c0} {i0 = i0} some long w = record { f0 = f0; u0 = u0; c0 = c0; i0 = i0; columns = w; some = some; long = long }
+
+module _ (mode : Mode) (lim : WidthLimits) where
   abbrev walked : Build
-  walked = walk (rules lim) (lim .gates) (lim .entries)
+  walked = walk (rules mode lim) (lim .gates) (lim .entries)
 
   abbrev deepened : Build
-  deepened = depths (rules lim) (lim .entries) begin (lim .gates)
+  deepened = depths (rules mode lim) (lim .entries) begin (lim .gates)
 
   by-generators : {t : Bool} → isNil (generators (lim .width) (lim .basis)) ≡ t → pick t begin deepened ≡ walked
   unfolding walk
   by-generators e = ap (λ (s : Bool). pick s begin deepened) (sym e)
 
   module _ {by : By} {f0 u0 c0 i0 f u c i : List ℕ} where
-    abbrev pub root-start : 0 < lim .entries → Long by lim f0 u0 c0 i0 → Columns by lim f0 u0 c0 i0 (root ∷ []) f u c i 1 → Start by lim f u c i
-    root-start some long w = record { f0 = f0; u0 = u0; c0 = c0; i0 = i0; columns = w; some = some; long = long }
-
-    pub none-whole : length (generators (lim .width) (lim .basis)) ≡ 0 → Columns by lim f0 u0 c0 i0 (root ∷ []) f u c i 1 → Whole by lim (walk (rules lim) (lim .gates) (lim .entries)) f0 u0 c0 i0 f u c i (row 1 0 false)
+    pub none-whole : length (generators (lim .width) (lim .basis)) ≡ 0 → Columns by lim f0 u0 c0 i0 (root ∷ []) f u c i 1 → Whole by lim (walk (rules mode lim) (lim .gates) (lim .entries)) f0 u0 c0 i0 f u c i (row 1 0 false)
     none-whole z w =
         subst (λ (b : Build). Whole by lim b f0 u0 c0 i0 f u c i (row 1 0 false)) (by-generators (nil (generators (lim .width) (lim .basis)) z))
         (record { columns = w; depth-is = refl; full-is = refl })
 
     pub some-whole : (length (generators (lim .width) (lim .basis)) ≡ 0 → ⊥) → {r : WidthTable}
-        → Whole by lim (depths (rules lim) (lim .entries) begin (lim .gates)) f0 u0 c0 i0 f u c i r → Whole by lim (walk (rules lim) (lim .gates) (lim .entries)) f0 u0 c0 i0 f u c i r
+        → Whole by lim (depths (rules mode lim) (lim .entries) begin (lim .gates)) f0 u0 c0 i0 f u c i r → Whole by lim (walk (rules mode lim) (lim .gates) (lim .entries)) f0 u0 c0 i0 f u c i r
     some-whole z {r} w = subst (λ (b : Build). Whole by lim b f0 u0 c0 i0 f u c i r) (by-generators (cons (generators (lim .width) (lim .basis)) z)) w
 
 -- ---- the generators, in their own array

@@ -6,6 +6,7 @@ use mathlib.Core.List.{List, [], _∷_}
 use Prim.Native.Nat.{ℕ, suc, _-_, _<_}
 use Rattle.generators.specs.Generators.{generators}
 use Rattle.walk.specs.Walk.{Build, root, tryAll, layer, begin, depths}
+use Rattle.walk.specs.Modes.{Mode}
 use Rattle.walk.specs.Index.{By}
 use Rattle.synthesis_arena.specs.declared.WidthLimits.{WidthLimits}
 use Rattle.next_node.specs.Arrays.{rules, unsaturated, Columns, Long, Live, After}
@@ -13,10 +14,10 @@ use Rattle.next_node.specs.declared.Tried.{Tried}
 use Rattle.width_table.specs.declared.WidthTable.{WidthTable}
 
 -- the nodes from first up to the count were tried, in order: from whatever nodes the arrays held, they hold those that the walk's `layer` leaves
-abbrev pub LayerTried : By → WidthLimits → ℕ → ℕ → List ℕ → List ℕ → List ℕ → List ℕ → List ℕ → List ℕ → List ℕ → List ℕ → Tried → Type 0
-LayerTried by lim first count f u c i f′ u′ c′ i′ r =
-    (h : Live by lim f u c i count first count)
-    → After by lim (h .f0) (h .u0) (h .c0) (h .i0) (layer (rules lim) (lim .entries) (unsaturated (h .ns)) first (count - first)) f′ u′ c′ i′ (r .count) (r .saturated)
+abbrev pub LayerTried : Mode → By → WidthLimits → ℕ → ℕ → List ℕ → List ℕ → List ℕ → List ℕ → List ℕ → List ℕ → List ℕ → List ℕ → Tried → Type 0
+LayerTried mode by lim first count f u c i f′ u′ c′ i′ r =
+    (h : Live mode by lim f u c i count first count)
+    → After by lim (h .f0) (h .u0) (h .c0) (h .i0) (layer (rules mode lim) (lim .entries) (unsaturated (h .ns)) first (count - first)) f′ u′ c′ i′ (r .count) (r .saturated)
 
 -- node 0 alone is in the arrays
 pub record Start (by : By) (lim : WidthLimits) (f u c i : List ℕ) : Type 0 where
@@ -36,6 +37,6 @@ pub record Whole (by : By) (lim : WidthLimits) (b : Build) (f0 u0 c0 i0 f u c i 
   pub full-is : r .saturated ≡ b .saturated
 
 -- where the arrays held node 0 alone, they hold what the walk's depths 1 to G leave
-abbrev pub Deepened : By → WidthLimits → List ℕ → List ℕ → List ℕ → List ℕ → List ℕ → List ℕ → List ℕ → List ℕ → WidthTable → Type 0
-Deepened by lim f u c i f′ u′ c′ i′ r =
-    (h : Start by lim f u c i) → Whole by lim (depths (rules lim) (lim .entries) begin (lim .gates)) (h .f0) (h .u0) (h .c0) (h .i0) f′ u′ c′ i′ r
+abbrev pub Deepened : Mode → By → WidthLimits → List ℕ → List ℕ → List ℕ → List ℕ → List ℕ → List ℕ → List ℕ → List ℕ → WidthTable → Type 0
+Deepened mode by lim f u c i f′ u′ c′ i′ r =
+    (h : Start by lim f u c i) → Whole by lim (depths (rules mode lim) (lim .entries) begin (lim .gates)) (h .f0) (h .u0) (h .c0) (h .i0) f′ u′ c′ i′ r

@@ -8,16 +8,18 @@
 // tried before. Two gates in a row that share no qubit may be exchanged: both orders have one product, so that one order is enough, and the one
 // with the lower code first is kept. Each skipped list thus has the product of one that is not longer and nearer to being kept, and going on from
 // that list comes to an end at one that the walk tried. The model proves it (walk/proofs/Completeness); no table shows it, since a known
-// fingerprint is skipped in any case: the rules save work.
+// candidate is skipped in any case: the rules save work.
 ghost use mathlib.Core.Path.{_≡_};
 ghost use Prim.Native.Nat.{_≤_, _<_};
 ghost use Rattle.generators.specs.Generators.{generators};
 ghost use Rattle.walk.specs.AtWidth.{built};
 ghost use Rattle.index.specs.Told.{toldBy};
+ghost use Rattle.known.specs.Known.{toldMode};
 ghost use Rattle.next_node.specs.Arrays.{Long, Live};
 ghost use Rattle.width_table.specs.Table.{LayerTried, Start, Deepened, Whole};
 use circuit::GateSet;
 use index::LookupBy;
+use known::BuildMode;
 use matrix::UnitaryMatrix;
 use next_node::Tried;
 use synthesis_arena::WidthLimits;
@@ -31,6 +33,7 @@ pub struct WidthTable {
 
 // One depth: each node of the last layer in order, from number `first` up to the count.
 fn deepen(
+    mode: BuildMode,
     by: LookupBy,
     limits: WidthLimits,
     first: usize,
@@ -41,19 +44,21 @@ fn deepen(
     codes: &mut [u32],
     index: &mut [u32],
 ) -> Tried
-    requires bounds { ⌜ ((limits .width) ≤ 5) × (first ≤ count) × ((limits .entries) ≤ 1000000) ⌝ }
+    requires bounds { ⌜ ((limits .width) ≤ 5) × (first ≤ count) × ((limits .entries) ≤ 1000000) × ((limits .gates) ≤ 64) ⌝ }
     requires generators { ⌜ now gates ≡ generators (limits .width) (limits .basis) ⌝ }
-    requires live { ⌜ Live (toldBy by) limits (now fingerprints) (now parents) (now codes) (now index) count first count ⌝ }
-    ensures tried { λ r. ⌜ LayerTried (toldBy by) limits first count
+    requires live { ⌜ Live (toldMode mode) (toldBy by) limits (now fingerprints) (now parents) (now codes) (now index) count first count ⌝ }
+    ensures tried { λ r. ⌜ LayerTried (toldMode mode) (toldBy by) limits first count
         (now (fingerprints .entry)) (now (parents .entry)) (now (codes .entry)) (now (index .entry))
         (now (fingerprints .exit)) (now (parents .exit)) (now (codes .exit)) (now (index .exit)) r ⌝ }
 {
+    let how = mode;
     let lookup = by;
     let l = limits;
     let mut n = count;
     let mut node = first;
     while node < count {
         let t = candidates::try_node(
+            how,
             lookup,
             l,
             n,
@@ -81,6 +86,7 @@ fn deepen(
 
 // Depths 1 to G: a depth that is walked to its end is completed, and one that adds no node is the last.
 fn deepen_all(
+    mode: BuildMode,
     by: LookupBy,
     limits: WidthLimits,
     gates: &[u32],
@@ -92,10 +98,11 @@ fn deepen_all(
     requires bounds { ⌜ ((limits .width) ≤ 5) × ((limits .gates) ≤ 64) × ((limits .entries) ≤ 1000000) ⌝ }
     requires generators { ⌜ now gates ≡ generators (limits .width) (limits .basis) ⌝ }
     requires start { ⌜ Start (toldBy by) limits (now fingerprints) (now parents) (now codes) (now index) ⌝ }
-    ensures deepened { λ r. ⌜ Deepened (toldBy by) limits
+    ensures deepened { λ r. ⌜ Deepened (toldMode mode) (toldBy by) limits
         (now (fingerprints .entry)) (now (parents .entry)) (now (codes .entry)) (now (index .entry))
         (now (fingerprints .exit)) (now (parents .exit)) (now (codes .exit)) (now (index .exit)) r ⌝ }
 {
+    let how = mode;
     let lookup = by;
     let l = limits;
     let limit = limits.gates;
@@ -105,6 +112,7 @@ fn deepen_all(
     while d < limit {
         let next = d + 1;
         let t = deepen(
+            how,
             lookup,
             l,
             first,
@@ -142,6 +150,7 @@ fn deepen_all(
 
 // A width: node 0, then depth by depth. Places that no node fills keep what they held.
 pub fn build_width(
+    mode: BuildMode,
     by: LookupBy,
     limits: WidthLimits,
     fingerprints: &mut [u64],
@@ -151,7 +160,7 @@ pub fn build_width(
 ) -> WidthTable
     requires bounds { ⌜ ((limits .width) ≤ 5) × ((limits .gates) ≤ 64) × (0 < (limits .entries)) × ((limits .entries) ≤ 1000000) ⌝ }
     requires long { ⌜ Long (toldBy by) limits (now fingerprints) (now parents) (now codes) (now index) ⌝ }
-    ensures whole { λ r. ⌜ Whole (toldBy by) limits (built (limits .width) (limits .basis) (limits .gates) (limits .entries))
+    ensures whole { λ r. ⌜ Whole (toldBy by) limits (built (toldMode mode) (limits .width) (limits .basis) (limits .gates) (limits .entries))
         (now (fingerprints .entry)) (now (parents .entry)) (now (codes .entry)) (now (index .entry))
         (now (fingerprints .exit)) (now (parents .exit)) (now (codes .exit)) (now (index .exit)) r ⌝ }
 {
@@ -170,6 +179,7 @@ pub fn build_width(
         };
     }
     deepen_all(
+        mode,
         by,
         limits,
         &gates[0..size],

@@ -1,5 +1,6 @@
 -- `build` meets its contract: by the scan, an index of no places stays one. Assumes nothing.
 use borrow.Author.Needs.{needs}
+use Rattle.walk.specs.Modes.{byPrint}
 use Rattle.tables.specs.Checks.{arrays}
 use Rattle.murm_config.specs.Told.{toldConfig}
 use Rattle.murm.proofs.Builds.{no-index}
@@ -10,7 +11,7 @@ returns : tie.Need-returns
 returns c =
     let s = c .before .before .before .before .before .before .before .before .before .before .before .before .before .before .before .args in
     let b = c .before .before .before .before .before .before .before .build-by in
-    no-index (toldConfig (s .config)) (arrays (s .fingerprints .now) (s .parents .now) (s .codes .now)) _ _ _ _ (b .kept .1 .1 .1 .1 .1 .0) (b .ensures)
+    no-index byPrint (toldConfig (s .config)) (arrays (s .fingerprints .now) (s .parents .now) (s .codes .now)) _ _ _ _ (b .kept .1 .1 .1 .1 .1 .1 .0) (b .ensures)
 
 pub build-spec : {M : Type 1} → statement M
 build-spec =

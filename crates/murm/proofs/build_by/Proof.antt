@@ -7,6 +7,7 @@ use Rattle.tables.proofs.Accepted.{accepted, roomy}
 use Rattle.tables.proofs.FromBuild.{build-passed}
 use Rattle.refusal.proofs.Numbers.{passed, refused}
 use Rattle.index.specs.Told.{toldBy}
+use Rattle.known.specs.Known.{toldMode}
 use Rattle.murm_config.specs.Told.{toldConfig, toldMurm}
 use Rattle.murm.proofs.Builds.{refused-build, passed-build}
 use Rattle.murm.proofs.build_by.Statement.{statement}
@@ -33,14 +34,14 @@ returns c =
     let b = c .before .before .before .before .before .before .before .before .build-widths in
     let s = c .before .before .before .before .before .before .before .before .before .before .before .before .before .before .before .before .before .before .before .before in
     let e = b .ensures in
-    passed-build (toldConfig (s .args .config)) (lent s) (allowed (c .before .before .before .before .before .before .before .before .before .before .before .before .before)) (toldMurm (b .result))
-    (b .last .1 .1 .0) (b .last .1 .1 .1 .0) (b .last .1 .1 .1 .1 .0) (b .last .1 .1 .1 .1 .1 .0)
+    passed-build (toldMode (s .args .mode)) (toldConfig (s .args .config)) (lent s) (allowed (c .before .before .before .before .before .before .before .before .before .before .before .before .before)) (toldMurm (b .result))
+    (b .last .1 .1 .1 .0) (b .last .1 .1 .1 .1 .0) (b .last .1 .1 .1 .1 .1 .0) (b .last .1 .1 .1 .1 .1 .1 .0)
     (e .0) (e .1 .0) (e .1 .1 .0) (e .1 .1 .1 .0) (e .1 .1 .1 .1)
 
 returns-2 : tie.Need-returns-2
 returns-2 c =
     let s = c .before .before .before .before .before .before .before .before in
-    refused-build (toldConfig (s .args .config)) (lent s) (refused (c .before .before .before .check-build .ensures) (c .before .r .given .1))
+    refused-build (toldMode (s .args .mode)) (toldConfig (s .args .config)) (lent s) (refused (c .before .before .before .check-build .ensures) (c .before .r .given .1))
 
 pub build-by-spec : {M : Type 1} → statement M
 build-by-spec =

@@ -6,6 +6,7 @@ use borrow.Author.Needs.{needs}
 use Rattle.tables.specs.Tables.{walkOf}
 use Rattle.tables.specs.Checks.{limitsOf}
 use Rattle.index.specs.Told.{toldBy}
+use Rattle.known.specs.Known.{toldMode}
 use Rattle.murm_widths.proofs.Parts.{lent-length, row-is, prints-back, parents-back, codes-back, index-back}
 use Rattle.murm_widths.proofs.build_part.Statement.{statement}
 use Rattle.murm_widths.proofs.build_part.Tie as tie
@@ -30,15 +31,16 @@ returns c =
     let b = c .before .before .before .before .before .before .before .before .build-width in
     let r = b .ensures in
     let k = r .columns in
+    let mode = toldMode (s .mode) in
     let l = limitsOf 0 (s .gates) (s .entries) (s .basis) in
     let a = s .v * s .entries in
     let w = s .v + 1 in
     record {
-      row = row-is (b .result) (walkOf l w) (k .count-is) (r .depth-is) (r .full-is);
-      prints = prints-back l w a (s .entries) _ (k .count-is) (s .fingerprints .now) _ (k .prints);
-      parents = parents-back l w a (s .entries) _ (k .count-is) (s .parents .now) _ (k .parents);
-      codes = codes-back l w a (s .entries) _ (k .count-is) (s .codes .now) _ (k .gates);
-      index = index-back l w (s .v * s .size) (s .size) _ (k .count-is) (s .index .now) _ (toldBy (s .by)) _ _ (k .prints) (k .index);
+      row = row-is (b .result) (walkOf mode l w) (k .count-is) (r .depth-is) (r .full-is);
+      prints = prints-back mode l w a (s .entries) _ (k .count-is) (s .fingerprints .now) _ (k .prints);
+      parents = parents-back mode l w a (s .entries) _ (k .count-is) (s .parents .now) _ (k .parents);
+      codes = codes-back mode l w a (s .entries) _ (k .count-is) (s .codes .now) _ (k .gates);
+      index = index-back mode l w (s .v * s .size) (s .size) _ (k .count-is) (s .index .now) _ (toldBy (s .by)) _ _ (k .prints) (k .index);
     }
 
 pub build-part-spec : {M : Type 1} → statement M

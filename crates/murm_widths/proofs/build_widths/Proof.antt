@@ -6,12 +6,14 @@ use mathlib.Core.List.{List}
 use lib.ListN.{length}
 use borrow.Author.Needs.{needs}
 use Rattle.ints.specs.Lists.{over}
+use Rattle.walk.specs.Modes.{Mode}
 use Rattle.walk.specs.Index.{By, indexed, kept}
 use Rattle.tables.specs.Tables.{walkOf, printsOf, parentsOf, codesOf}
 use Rattle.tables.specs.Checks.{Limits, limitsOf}
 use Rattle.tables.proofs.Filled.{room-at}
 use Rattle.tables.proofs.Indexes.{part-fits, part-sizes, indexed-parts}
 use Rattle.index.specs.Told.{toldBy}
+use Rattle.known.specs.Known.{toldMode}
 use Rattle.murm_config.specs.Told.{toldConfig, toldWidth, toldMurm}
 use Rattle.murm_widths.proofs.Widths.{recordTo, record-none, record-more, record-all, Done, done-none, done-more, done-all}
 use Rattle.murm_widths.proofs.Widths.{prints-same, parents-same, codes-same}
@@ -19,35 +21,36 @@ use Rattle.murm_widths.proofs.build_widths.Statement.{statement}
 use Rattle.murm_widths.proofs.build_widths.Tie as tie
 
 -- what is done to the part of a width, in each array and in the index
-module _ (l : Limits) where
+module _ (mode : Mode) (l : Limits) where
   abbrev prints : ℕ → List ℕ → List ℕ
-  prints w = over (printsOf l w)
+  prints w = over (printsOf mode l w)
 
   abbrev parents : ℕ → List ℕ → List ℕ
-  parents w = over (parentsOf l w)
+  parents w = over (parentsOf mode l w)
 
   abbrev codes : ℕ → List ℕ → List ℕ
-  codes w = over (codesOf l w)
+  codes w = over (codesOf mode l w)
 
   abbrev places : By → ℕ → List ℕ → List ℕ
-  places by w = kept by (printsOf l w) (length (walkOf l w .nodes))
+  places by w = kept by (printsOf mode l w) (length (walkOf mode l w .nodes))
 
 abbrev Inv-loop : tie.InvT-loop
-Inv-loop fingerprints₀ parents₀ codes₀ index₀ lookup q g e b size table₀ v₀ fingerprints₁ parents₁ codes₁ index₁ table v =
-    (v ≤ q) × (toldMurm table ≡ recordTo (limitsOf q g e b) v) × Done (prints (limitsOf q g e b)) e v fingerprints₀ fingerprints₁
-    × Done (parents (limitsOf q g e b)) e v parents₀ parents₁ × Done (codes (limitsOf q g e b)) e v codes₀ codes₁
-    × Done (places (limitsOf q g e b) (toldBy lookup)) size v index₀ index₁
+Inv-loop fingerprints₀ parents₀ codes₀ index₀ how lookup q g e b size table₀ v₀ fingerprints₁ parents₁ codes₁ index₁ table v =
+    (v ≤ q) × (toldMurm table ≡ recordTo (toldMode how) (limitsOf q g e b) v) × Done (prints (toldMode how) (limitsOf q g e b)) e v fingerprints₀ fingerprints₁
+    × Done (parents (toldMode how) (limitsOf q g e b)) e v parents₀ parents₁ × Done (codes (toldMode how) (limitsOf q g e b)) e v codes₀ codes₁
+    × Done (places (toldMode how) (limitsOf q g e b) (toldBy lookup)) size v index₀ index₁
 
 abbrev μ-loop : tie.MeasureT-loop
-μ-loop fingerprints₀ parents₀ codes₀ index₀ lookup q g e b size table₀ v₀ fingerprints₁ parents₁ codes₁ index₁ table v = q - v
+μ-loop fingerprints₀ parents₀ codes₀ index₀ how lookup q g e b size table₀ v₀ fingerprints₁ parents₁ codes₁ index₁ table v = q - v
 
 loop-holds : tie.Need-loop-holds Inv-loop μ-loop
 loop-holds c =
     let m = c .before .before .before .before .before .before .args .config in
+    let mode = toldMode (c .before .before .before .before .before .before .args .mode) in
     let b = c .before .bits .ensures in (
       search needs,
-      c .empty .ensures ∙ (record-none (toldConfig m)
-          ∙ ap (λ (z : ℕ). recordTo (limitsOf (m .«max_qubits») (m .«max_gates») (m .«max_entries_per_qubit») z) 0) (sym b)),
+      c .empty .ensures ∙ (record-none mode (toldConfig m)
+          ∙ ap (λ (z : ℕ). recordTo mode (limitsOf (m .«max_qubits») (m .«max_gates») (m .«max_entries_per_qubit») z) 0) (sym b)),
       done-none _ _ _,
       done-none _ _ _,
       done-none _ _ _,
@@ -87,17 +90,18 @@ loop-again c =
     let b = t .before .before .before .bits .result in
     let s = t .before .before .before .before .before .before .before .before in
     let m = s .args .config in
+    let mode = toldMode (s .args .mode) in
     let l = limitsOf (m .«max_qubits») (m .«max_gates») (m .«max_entries_per_qubit») b in
     let v = u .v in
     let h : v < 5 = omega (arith, t .loop-test .taken, s .pre .0 .1) in (
       omega (arith, t .loop-test .taken),
-      c .with-width .ensures ∙ record-more l v (toldMurm (u .table)) (toldWidth (p .result)) h (u .inv .1) (p .ensures .row),
-      done-more (prints l) _ v _ _ _ (ap over (prints-same l (v + 1))) (p .kept .1 .1 .1 .1 .1 .1 .0) (p .ensures .prints) (u .inv .2),
-      done-more (parents l) _ v _ _ _ (ap over (parents-same l (v + 1))) (p .kept .1 .1 .1 .1 .1 .1 .1 .0) (p .ensures .parents) (u .inv .3),
-      done-more (codes l) _ v _ _ _ (ap over (codes-same l (v + 1))) (p .kept .1 .1 .1 .1 .1 .1 .1 .1 .0) (p .ensures .codes) (u .inv .4),
-      done-more (places l (toldBy (s .args .by))) _ v _ _ _
-          (ap (λ (z : List ℕ). kept (toldBy (s .args .by)) z (length (walkOf l (v + 1) .nodes))) (prints-same l (v + 1)))
-          (p .kept .1 .1 .1 .1 .1 .1 .1 .1 .1 .0) (p .ensures .index) (u .inv .5),
+      c .with-width .ensures ∙ record-more mode l v (toldMurm (u .table)) (toldWidth (p .result)) h (u .inv .1) (p .ensures .row),
+      done-more (prints mode l) _ v _ _ _ (ap over (prints-same mode l (v + 1))) (p .kept .1 .1 .1 .1 .1 .1 .1 .0) (p .ensures .prints) (u .inv .2),
+      done-more (parents mode l) _ v _ _ _ (ap over (parents-same mode l (v + 1))) (p .kept .1 .1 .1 .1 .1 .1 .1 .1 .0) (p .ensures .parents) (u .inv .3),
+      done-more (codes mode l) _ v _ _ _ (ap over (codes-same mode l (v + 1))) (p .kept .1 .1 .1 .1 .1 .1 .1 .1 .1 .0) (p .ensures .codes) (u .inv .4),
+      done-more (places mode l (toldBy (s .args .by))) _ v _ _ _
+          (ap (λ (z : List ℕ). kept (toldBy (s .args .by)) z (length (walkOf mode l (v + 1) .nodes))) (prints-same mode l (v + 1)))
+          (p .kept .1 .1 .1 .1 .1 .1 .1 .1 .1 .1 .0) (p .ensures .index) (u .inv .5),
     )
 
 returns : tie.Need-returns Inv-loop μ-loop
@@ -105,18 +109,19 @@ returns c =
     let u = c .before .loop in
     let s = c .before .before .before .before .before .before .before .before .args in
     let m = s .config in
+    let mode = toldMode (s .mode) in
     let b = c .before .before .before .bits in
     let e : limitsOf (m .«max_qubits») (m .«max_gates») (m .«max_entries_per_qubit») (b .result) ≡ toldConfig m =
     ap (limitsOf (m .«max_qubits») (m .«max_gates») (m .«max_entries_per_qubit»)) (b .ensures) in
     let f : u .v ≡ m .«max_qubits» = omega arith in (
-      record-all _ (toldConfig m) (u .v) _ e f (u .inv .1),
+      record-all mode _ (toldConfig m) (u .v) _ e f (u .inv .1),
       (
-        done-all _ _ _ _ _ _ _ (ap prints e) f (u .inv .2),
+        done-all _ _ _ _ _ _ _ (ap (prints mode) e) f (u .inv .2),
         (
-          done-all _ _ _ _ _ _ _ (ap parents e) f (u .inv .3),
+          done-all _ _ _ _ _ _ _ (ap (parents mode) e) f (u .inv .3),
           (
-            done-all _ _ _ _ _ _ _ (ap codes e) f (u .inv .4),
-            done-all _ _ _ _ _ _ _ (ap (λ (z : Limits). places z (toldBy (s .by))) e) f (u .inv .5),
+            done-all _ _ _ _ _ _ _ (ap (codes mode) e) f (u .inv .4),
+            done-all _ _ _ _ _ _ _ (ap (λ (z : Limits). places mode z (toldBy (s .by))) e) f (u .inv .5),
           ),
         ),
       ),

@@ -6,7 +6,7 @@ use Rattle.exact.proofs.Answered.{step-given, step-refused}
 use Rattle.exact.proofs.Prints.{fingerprint-equal}
 use Rattle.places.proofs.Placed.{area-le}
 use Rattle.matrix.proofs.Steps.{at-answer}
-use Rattle.node_matrix.proofs.Copies.{copied-ready, copied-given, copied-refused}
+use Rattle.node_matrix.proofs.Copies.{copied-ready, copied-given, copied-left, copied-refused}
 use Rattle.node_matrix.proofs.candidate_print.Statement.{statement}
 use Rattle.node_matrix.proofs.candidate_print.Tie as tie
 
@@ -25,7 +25,7 @@ returns c =
     let a = c .before .before in
     let m = a .before .before in
     let s = at-answer (c .enum-told .given .1) (a .apply-gate-left .ensures) in
-    (copied-refused _ _ _ (m .copy-matrix .ensures) (step-refused _ _ _ (s .answer)), s .left .long)
+    (copied-refused _ _ _ (m .copy-matrix .ensures) (step-refused _ _ _ (s .answer)), (tt, s .left .long))
 
 unitary-fingerprint-requires : tie.Need-unitary-fingerprint-requires
 unitary-fingerprint-requires c κs =
@@ -41,7 +41,7 @@ returns-2 c =
     let a = k .before .before in
     let m = a .before .before in
     let s = at-answer (k .k .given .1) (a .apply-gate-left .ensures) in
-    (copied-given _ _ _ (m .copy-matrix .ensures) (step-given _ _ _ (s .answer)) (c .unitary-fingerprint .ensures ∙ fingerprint-equal _ (s .left .equal)), s .left .long)
+    (copied-given _ _ _ (m .copy-matrix .ensures) (step-given _ _ _ (s .answer)) (c .unitary-fingerprint .ensures ∙ fingerprint-equal _ (s .left .equal)), (copied-left _ _ _ (m .copy-matrix .ensures) (s .left), s .left .long))
 
 pub candidate-print-spec : {M : Type 1} → statement M
 candidate-print-spec =

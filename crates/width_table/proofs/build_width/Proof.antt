@@ -6,6 +6,7 @@ use borrow.Author.Needs.{needs}
 use Rattle.generators.specs.Generators.{generators}
 use Rattle.exact.proofs.Prints.{fingerprint-equal}
 use Rattle.places.proofs.Placed.{area-le}
+use Rattle.known.specs.Known.{toldMode}
 use Rattle.width_table.proofs.Root.{root-start, none-whole, some-whole, gates-room, gates-are}
 use Rattle.width_table.proofs.build_width.Statement.{statement}
 use Rattle.width_table.proofs.build_width.Tie as tie
@@ -26,8 +27,9 @@ returns : tie.Need-returns
 returns c =
     let r = c .before .before .before .before .before .before .before .before .before in
     let s = r .before .before .before .before .before .before .before .before .before .before .before .before .before .before .before .before .args .limits in
+    let mode = toldMode (r .before .before .before .before .before .before .before .before .before .before .before .before .before .before .before .before .args .mode) in
     let e = r .before .before .before .before .before .unitary-fingerprint .ensures ∙ fingerprint-equal (s .width) (r .before .before .before .before .before .before .before .before .identity .ensures .0 .holds .equal) in
-    none-whole s (sym (r .before .before .before .before .before .before .before .before .before .before .library-gates .ensures .0) ∙ c .if1 .taken) (r .put-root .ensures s e)
+    none-whole mode s (sym (r .before .before .before .before .before .before .before .before .before .before .library-gates .ensures .0) ∙ c .if1 .taken) (r .put-root .ensures s e)
 
 part-deepen-all-end : tie.Need-part-deepen-all-end
 part-deepen-all-end c =
@@ -46,16 +48,16 @@ deepen-all-requires c κs =
     ((p .0 .0, p .0 .1, p .0 .3), (gates-are _ _ (g .1 .0) (g .1 .1 .1) (g .0), root-start l (p .0 .2) (p .1) (r .put-root .ensures l e)))
 
 same-length-5 : tie.Need-same-length-5
-same-length-5 c = let d = c .before .before .before .before .before .before .before .before in d .deepen-all .kept .1 .1 .1 .0 ∙ d .before .before .before .before .before .before .before .before .before .before .before .before .before .before .before .before .put-root .kept .1 .1 .0
+same-length-5 c = let d = c .before .before .before .before .before .before .before .before in d .deepen-all .kept .1 .1 .1 .1 .0 ∙ d .before .before .before .before .before .before .before .before .before .before .before .before .before .before .before .before .put-root .kept .1 .1 .0
 
 same-length-6 : tie.Need-same-length-6
-same-length-6 c = let d = c .before .before .before .before .before .before .before .before in d .deepen-all .kept .1 .1 .1 .1 .0 ∙ d .before .before .before .before .before .before .before .before .before .before .before .before .before .before .before .before .put-root .kept .1 .1 .1 .0
+same-length-6 c = let d = c .before .before .before .before .before .before .before .before in d .deepen-all .kept .1 .1 .1 .1 .1 .0 ∙ d .before .before .before .before .before .before .before .before .before .before .before .before .before .before .before .before .put-root .kept .1 .1 .1 .0
 
 same-length-7 : tie.Need-same-length-7
-same-length-7 c = let d = c .before .before .before .before .before .before .before .before in d .deepen-all .kept .1 .1 .1 .1 .1 .0 ∙ d .before .before .before .before .before .before .before .before .before .before .before .before .before .before .before .before .put-root .kept .1 .1 .1 .1 .0
+same-length-7 c = let d = c .before .before .before .before .before .before .before .before in d .deepen-all .kept .1 .1 .1 .1 .1 .1 .0 ∙ d .before .before .before .before .before .before .before .before .before .before .before .before .before .before .before .before .put-root .kept .1 .1 .1 .1 .0
 
 same-length-8 : tie.Need-same-length-8
-same-length-8 c = let d = c .before .before .before .before .before .before .before .before in d .deepen-all .kept .1 .1 .1 .1 .1 .1 .0 ∙ d .before .before .before .before .before .before .before .before .before .before .before .before .before .before .before .before .put-root .kept .1 .1 .1 .1 .1 .0
+same-length-8 c = let d = c .before .before .before .before .before .before .before .before in d .deepen-all .kept .1 .1 .1 .1 .1 .1 .1 .0 ∙ d .before .before .before .before .before .before .before .before .before .before .before .before .before .before .before .before .put-root .kept .1 .1 .1 .1 .1 .0
 
 returns-2 : tie.Need-returns-2
 returns-2 c =
@@ -66,7 +68,7 @@ returns-2 c =
     let p = s .pre in
     let g = r .before .before .before .before .before .before .before .before .before .before .library-gates .ensures in
     let e = r .before .before .before .before .before .unitary-fingerprint .ensures ∙ fingerprint-equal (l .width) (r .before .before .before .before .before .before .before .before .identity .ensures .0 .holds .equal) in
-    some-whole l (λ z. d .before .before .before .before .before .before .before .if1 .left (g .0 ∙ z)) (d .deepen-all .ensures (root-start l (p .0 .2) (p .1) (r .put-root .ensures l e)))
+    some-whole (toldMode (s .args .mode)) l (λ z. d .before .before .before .before .before .before .before .if1 .left (g .0 ∙ z)) (d .deepen-all .ensures (root-start l (p .0 .2) (p .1) (r .put-root .ensures l e)))
 
 pub build-width-spec : {M : Type 1} → statement M
 build-width-spec =

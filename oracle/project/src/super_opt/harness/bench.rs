@@ -1,13 +1,15 @@
 //! Mode `bench`: port and original on the same work in one process, in turns.
 //! `bench` times lists, fingerprints, tables and answers; `bench kinds` also
 //! lists of one kind of gate; `bench tables` tables and answers only; `bench index`
-//! large tables and answers through an index.
+//! large tables and answers through an index; `bench modes` builds of the port alone,
+//! in each mode.
 
 use std::hint::black_box;
 use std::io::{self, Write};
 use std::time::{Duration, Instant};
 
 use super::bench_index;
+use super::bench_modes;
 use super::bench_tables;
 use super::codes::{FURTHER, code_of, kinds, list_codes_of, list_gate, valid_gate};
 use super::lists::Parts;
@@ -41,13 +43,19 @@ struct Case<G> {
 
 pub(super) fn run(arguments: &[String], out: &mut dyn Write) -> io::Result<()> {
     let words: Vec<&str> = arguments.iter().map(String::as_str).collect();
+    if words == ["modes"] {
+        return bench_modes::run(out);
+    }
     writeln!(out, "width work original port ratio")?;
     match words[..] {
         [] => time_all(false, out)?,
         ["kinds"] => time_all(true, out)?,
         ["tables"] => {}
         ["index"] => return bench_index::run(out),
-        _ => return Err(io::Error::other("usage: oracle bench [kinds|tables|index]")),
+        _ => {
+            let usage = "usage: oracle bench [kinds|tables|index|modes]";
+            return Err(io::Error::other(usage));
+        }
     }
     bench_tables::run(out)
 }
@@ -161,21 +169,31 @@ fn check<G>(width: usize, case: &Case<G>) {
 
 /// The least times of one pass over the work, by the original and by the port.
 pub(super) fn race(mut original: impl FnMut(), mut port: impl FnMut()) -> (f64, f64) {
+    let start = Instant::now();
+    let clock = || start.elapsed().as_secs_f64();
+    let times = turns(&mut [&mut original, &mut port], clock);
+    (times[0], times[1])
+}
+
+/// The least times of one pass over each work, one after the other in each round, by a
+/// clock that tells seconds.
+pub(super) fn turns(works: &mut [&mut dyn FnMut()], clock: impl Fn() -> f64) -> Vec<f64> {
     let pass = |work: &mut dyn FnMut(), times: usize| {
-        let start = Instant::now();
+        let start = clock();
         for _ in 0..times {
             work();
         }
-        start.elapsed().as_secs_f64() / times as f64
+        (clock() - start) / times as f64
     };
-    let once = (pass(&mut original, 1), pass(&mut port, 1));
-    let times = |once: f64| (ROUND.as_secs_f64() / once.max(1e-7)) as usize + 1;
-    let (original_times, port_times) = (times(once.0), times(once.1));
-    let rounds = (WHOLE.as_secs_f64() / (once.0 + once.1)) as usize;
-    let mut least = (f64::INFINITY, f64::INFINITY);
+    let once: Vec<f64> = works.iter_mut().map(|work| pass(work, 1)).collect();
+    let times = |once: &f64| (ROUND.as_secs_f64() / once.max(1e-7)) as usize + 1;
+    let times: Vec<usize> = once.iter().map(times).collect();
+    let rounds = (WHOLE.as_secs_f64() / once.iter().sum::<f64>()) as usize;
+    let mut least = vec![f64::INFINITY; works.len()];
     for _ in 0..rounds.clamp(FEWEST, ROUNDS) {
-        least.0 = least.0.min(pass(&mut original, original_times));
-        least.1 = least.1.min(pass(&mut port, port_times));
+        for (place, work) in works.iter_mut().enumerate() {
+            least[place] = least[place].min(pass(work, times[place]));
+        }
     }
     least
 }

@@ -5,7 +5,7 @@ use std::io::{self, Write};
 use std::time::Instant;
 
 use super::bench_tables::{built, limits, time_asked, time_build, write_rates};
-use super::port::{By, Table};
+use super::port::{By, Mode, Table};
 use super::tables::Limits;
 use crate::circuit::GateSet;
 use crate::super_opt::murm::{LibraryGate, library_gates};
@@ -53,7 +53,7 @@ pub(super) fn run(out: &mut dyn Write) -> io::Result<()> {
             true => format!("{:.0}", each(least(|| time_once(limits)))),
             false => "-".to_owned(),
         };
-        let (table, mut index) = built(limits, By::Index);
+        let (table, mut index) = built(limits, Mode::ByPrint, By::Index);
         let fill = least(|| time_fill(&table, &mut index));
         writeln!(
             out,

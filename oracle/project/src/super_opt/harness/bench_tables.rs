@@ -8,7 +8,7 @@ use std::io::{self, Write};
 use super::bench::race;
 use super::indexes::sizes;
 use super::lists::Parts;
-use super::port::{By, Lookup, Reply, Table};
+use super::port::{By, Lookup, Mode, Reply, Table};
 use super::random::Random;
 use super::tables::{Limits, nodes_of};
 use crate::circuit::GateSet;
@@ -19,17 +19,17 @@ use crate::super_opt::murm::{Murm, library_circuit_matrix, library_gates};
 /// 536 entries up to this gate limit. The original tries all generators on up to
 /// 65,536 / generators nodes before it looks whether the table is full, so it
 /// does more work here than the port.
-const GATES: u32 = 8;
+pub(super) const GATES: u32 = 8;
 const ENTRIES: u32 = 2048;
 
 /// Limits of tables that are not saturated, where both do the same work: the
 /// gate limit by Q.
-const WHOLE_GATES: [u32; 5] = [8, 4, 3, 2, 2];
-const WHOLE_ENTRIES: u32 = 12000;
+pub(super) const WHOLE_GATES: [u32; 5] = [8, 4, 3, 2, 2];
+pub(super) const WHOLE_ENTRIES: u32 = 12000;
 
 /// The basis whose table is asked; the other is the original's default.
 const BASIS: u32 = 3967;
-const BASES: [u32; 2] = [383, BASIS];
+pub(super) const BASES: [u32; 2] = [383, BASIS];
 
 /// How many matrices are asked at a width, and of how many gates those are that
 /// the table does not have.
@@ -80,7 +80,7 @@ pub(super) fn run(out: &mut dyn Write) -> io::Result<()> {
 pub(super) fn time_asked(by: By, names: [&str; 2], out: &mut dyn Write) -> io::Result<()> {
     let limits = limits(5, GATES, ENTRIES, BASIS);
     let original = limits.build();
-    let (table, index) = built(limits, by);
+    let (table, index) = built(limits, Mode::ByPrint, by);
     let lookup = Lookup { by, index: &index };
     for width in 1..=5 {
         let nodes = nodes(&original, width);
@@ -103,7 +103,7 @@ pub(super) fn limits(qubits: u32, gates: u32, entries: u32, basis: u32) -> Limit
 }
 
 /// The port's table, and the index that it was built through; the scan has none.
-pub(super) fn built(limits: Limits, by: By) -> (Table, Vec<u32>) {
+pub(super) fn built(limits: Limits, mode: Mode, by: By) -> (Table, Vec<u32>) {
     let qubits = limits.qubits as usize;
     let mut table = Table::with_places(limits, qubits * limits.entries as usize);
     let places = match by {
@@ -111,7 +111,7 @@ pub(super) fn built(limits: Limits, by: By) -> (Table, Vec<u32>) {
         By::Index => qubits * sizes(limits.entries)[0],
     };
     let mut index = vec![0; places];
-    let refusal = table.build_by(by, &mut index);
+    let refusal = table.build_by(mode, by, &mut index);
     assert_eq!(refusal, 0, "the limits are not refused");
     (table, index)
 }
@@ -119,7 +119,7 @@ pub(super) fn built(limits: Limits, by: By) -> (Table, Vec<u32>) {
 /// How many entries the table has, and the least times of one build by the
 /// original and by the port, which must come to the same nodes.
 pub(super) fn time_build(limits: Limits, by: By) -> (usize, (f64, f64)) {
-    let (mut table, mut index) = built(limits, by);
+    let (mut table, mut index) = built(limits, Mode::ByPrint, by);
     let original = limits.build();
     let mut count = 0;
     for width in 1..=limits.qubits as usize {
@@ -143,7 +143,7 @@ pub(super) fn time_build(limits: Limits, by: By) -> (usize, (f64, f64)) {
             black_box(black_box(limits).build());
         },
         || {
-            black_box(table.build_by(by, &mut index));
+            black_box(table.build_by(Mode::ByPrint, by, &mut index));
         },
     );
     (count, times)

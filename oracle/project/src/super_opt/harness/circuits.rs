@@ -47,7 +47,7 @@ pub(super) fn write_run(input: &[u8], out: &mut dyn Write) -> io::Result<()> {
 }
 
 /// The first run, and what follows it.
-fn first_run(runs: &[u8]) -> Option<(&[u8], &[u8])> {
+pub(super) fn first_run(runs: &[u8]) -> Option<(&[u8], &[u8])> {
     let end = runs.iter().position(|&byte| byte == b'\n')?;
     let (line, rest) = (&runs[..end], &runs[end + 1..]);
     let length = str::from_utf8(line).ok()?.strip_prefix("run ")?;

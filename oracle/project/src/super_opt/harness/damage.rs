@@ -1,19 +1,22 @@
 //! Mode `damage`: tables that the port built are altered in one place or in
-//! some, and asked for answers, nodes and lists; then indexes, by `indexes`. What
-//! the port says must be what `rules` decides; every list answered must give the
-//! matrix asked, by an exact product; and of the lent list only the places of a list
-//! may change.
+//! some, and asked for answers, nodes and lists; then indexes, by `indexes`, and tables
+//! with clashes, by `clashes`. What the port says must be what `rules` decides; every
+//! list answered must give the matrix asked, by an exact product; and of the lent list
+//! only the places of a list may change. `damage clashes` asks the tables with clashes
+//! alone.
 
 use std::io::{self, Write};
 
 use super::altered::{Place, places, values};
+use super::clashes;
 use super::indexes;
 use super::orders;
-use super::port::{Finding, Reply, Table};
+use super::port::{By, Finding, Reply, Table};
 use super::random::Random;
 use super::rules::{Asked, Matrix, times_root, turned, written};
 use super::tables::Limits;
 use super::tally::Tally;
+use super::weakened;
 
 /// Q, G, E and B of the tables that are altered.
 pub(super) const TABLES: [[u32; 4]; 14] = [
@@ -42,9 +45,20 @@ pub(super) const MOST: usize = 64;
 /// The code of T on qubit 0.
 pub(super) const T: u32 = 20480;
 
-pub(super) fn run(_: &[String], out: &mut dyn Write) -> io::Result<()> {
+pub(super) fn run(arguments: &[String], out: &mut dyn Write) -> io::Result<()> {
     let mut tally = Tally::new();
+    let words: Vec<&str> = arguments.iter().map(String::as_str).collect();
+    match words[..] {
+        [] => (),
+        ["clashes"] => {
+            clashes::run(&mut tally);
+            weakened::run(&mut tally, out)?;
+            return tally.report_part(out);
+        }
+        _ => return Err(io::Error::other("usage: oracle damage [clashes]")),
+    }
     refused_builds(&mut tally);
+    mode_numbers(&mut tally);
     for limits in TABLES {
         damage(limits_of(limits), &mut tally);
     }
@@ -52,6 +66,8 @@ pub(super) fn run(_: &[String], out: &mut dyn Write) -> io::Result<()> {
     planted(&mut tally);
     long_chain(&mut tally);
     indexes::run(&mut tally);
+    clashes::run(&mut tally);
+    weakened::run(&mut tally, out)?;
     tally.report(out)
 }
 
@@ -271,6 +287,25 @@ fn refused_builds(tally: &mut Tally) {
             && table.record == lent.record;
         if refusal != expected || same != (expected != 0) {
             tally.differs(format!("build {limits:?} ended with {refusal}"));
+        }
+    }
+}
+
+/// Every number is that of a mode: 0 of the one, all others of the other. Both come to
+/// the same table here.
+fn mode_numbers(tally: &mut Tally) {
+    for limits in TABLES.map(limits_of) {
+        let expected = built(limits, tally);
+        let places = limits.qubits as usize * indexes::sizes(limits.entries)[0];
+        for mode in [0, 1, 2, 255, 256, 65536, 1 << 31, 4294967294, 4294967295] {
+            for by in [By::Scan, By::Index] {
+                let mut table = lent(limits);
+                let number = table.build_numbered(mode, by, &mut vec![0; places]);
+                if number != 0 || !indexes::same(&table, &expected) {
+                    let line = limits.line();
+                    tally.differs(format!("{line} in the mode {mode} by {by:?}: {number}"));
+                }
+            }
         }
     }
 }

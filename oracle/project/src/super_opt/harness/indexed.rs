@@ -1,15 +1,18 @@
 //! Mode `index`: the tables that standard input names, as for the mode `lines`, built
-//! by the port through an index, and asked through it. Arrays, record and answers
-//! must be the original's; the index must be what `rules` makes of the table, place
-//! by place, and what a fill leaves. The scan must say the same and leave the index.
-//! Lines that name no table and ask for no matrix are passed over.
+//! by the port in each mode through an index, and asked through it. Arrays, record
+//! and answers must be the original's; the index must be what `rules` makes of the
+//! table, place by place, and what a fill leaves. The scan must say the same and leave
+//! the index. Lines that name no table and ask for no matrix are passed over. With the
+//! word `runs` the tables are those of runs, as for the mode `circuits`: the first line
+//! of each.
 
-use std::io::{self, BufRead, Write};
+use std::io::{self, BufRead, Read, Write};
 use std::panic::{AssertUnwindSafe, catch_unwind};
 
-use super::indexes::{sizes, used};
+use super::circuits::first_run;
+use super::indexes::{same, sizes, used};
 use super::lines::question;
-use super::port::{self, By, Finding, Lookup, Reply, Table};
+use super::port::{self, By, Finding, Lookup, Mode, Reply, Table};
 use super::random::Random;
 use super::rules::fill;
 use super::tables::{Built, Limits, PLACES, Question, counted, nodes_of};
@@ -35,12 +38,26 @@ struct Counts {
     nodes: usize,
     indexes: usize,
     places: usize,
+    kept: Kept,
     answers: usize,
     lists: usize,
     finds: usize,
     found: usize,
     by_scan: usize,
     differences: usize,
+}
+
+/// What was built again in the mode that keeps clashes, and compared: tables by the
+/// scan and through an index, and nodes, places of arrays and places of indexes of
+/// both together.
+#[derive(Default)]
+struct Kept {
+    refused: usize,
+    by_scan: usize,
+    by_index: usize,
+    nodes: usize,
+    array_places: usize,
+    index_places: usize,
 }
 
 impl Counts {
@@ -59,7 +76,39 @@ impl Counts {
     }
 }
 
-pub(super) fn run(_: &[String], out: &mut dyn Write) -> io::Result<()> {
+pub(super) fn run(arguments: &[String], out: &mut dyn Write) -> io::Result<()> {
+    let words: Vec<&str> = arguments.iter().map(String::as_str).collect();
+    match words[..] {
+        [] => lines(out),
+        ["runs"] => runs(out),
+        _ => Err(io::Error::other("usage: oracle index [runs]")),
+    }
+}
+
+/// The tables that the program `circuits` builds. Inputs that name none are passed
+/// over.
+fn runs(out: &mut dyn Write) -> io::Result<()> {
+    let mut counts = Counts::default();
+    let mut random = Random::new(71);
+    let mut input = Vec::new();
+    io::stdin().lock().read_to_end(&mut input)?;
+    let mut rest = &input[..];
+    while !rest.is_empty() {
+        let Some((input, after)) = first_run(rest) else {
+            return Err(io::Error::other("a run has another form"));
+        };
+        let line = input.split_inclusive(|&byte| byte == b'\n').next();
+        let line = str::from_utf8(line.unwrap_or_default()).unwrap_or_default();
+        if let Some(limits) = Limits::of_numbers(line) {
+            table(limits, &mut random, &mut counts);
+        }
+        rest = after;
+    }
+    counts.report_tables(out)?;
+    counts.end(out)
+}
+
+fn lines(out: &mut dyn Write) -> io::Result<()> {
     let mut counts = Counts::default();
     let mut random = Random::new(61);
     let mut both = None;
@@ -69,7 +118,7 @@ pub(super) fn run(_: &[String], out: &mut dyn Write) -> io::Result<()> {
         let text = str::from_utf8(&line).unwrap_or_default();
         let (word, rest) = text.split_once(' ').unwrap_or_default();
         match (word, &both) {
-            ("table", _) => {
+            ("table" | "clashes", _) => {
                 let limits = Limits::of_numbers(rest);
                 both = limits.and_then(|limits| table(limits, &mut random, &mut counts));
             }
@@ -83,30 +132,54 @@ pub(super) fn run(_: &[String], out: &mut dyn Write) -> io::Result<()> {
 }
 
 impl Counts {
-    fn report(&self, out: &mut dyn Write) -> io::Result<()> {
+    fn report_tables(&self, out: &mut dyn Write) -> io::Result<()> {
         let Self {
             tables,
             refused,
             nodes,
             indexes,
             places,
-            answers,
-            lists,
-            finds,
-            found,
-            by_scan,
-            differences,
+            ..
         } = self;
         writeln!(
             out,
             "{tables} tables of {nodes} nodes, {refused} refused; {indexes} indexes of {places} places, each built and filled"
         )?;
+        let Kept {
+            refused,
+            by_scan,
+            by_index,
+            nodes,
+            array_places,
+            index_places,
+        } = self.kept;
         writeln!(
             out,
-            "{answers} answers through an index, {lists} of them lists; {finds} finds, {found} of them nodes; {by_scan} of both by the scan; {differences} differences"
+            "again in the mode that keeps clashes: {by_scan} tables by the scan and {by_index} through an index, with {nodes} nodes, {array_places} places of arrays and {index_places} places of indexes; {refused} refused"
+        )
+    }
+
+    fn report(&self, out: &mut dyn Write) -> io::Result<()> {
+        self.report_tables(out)?;
+        let Self {
+            answers,
+            lists,
+            finds,
+            found,
+            by_scan,
+            ..
+        } = self;
+        writeln!(
+            out,
+            "{answers} answers through an index, {lists} of them lists; {finds} finds, {found} of them nodes; {by_scan} of both by the scan"
         )?;
+        self.end(out)
+    }
+
+    fn end(&self, out: &mut dyn Write) -> io::Result<()> {
+        writeln!(out, "{} differences", self.differences)?;
         out.flush()?;
-        match differences {
+        match self.differences {
             0 => Ok(()),
             _ => Err(io::Error::other("the port says something else")),
         }
@@ -123,13 +196,6 @@ fn lent(limits: Limits, places: usize) -> Table {
     table
 }
 
-fn same(one: &Table, other: &Table) -> bool {
-    one.record == other.record
-        && one.fingerprints == other.fingerprints
-        && one.parents == other.parents
-        && one.codes == other.codes
-}
-
 /// Builds a table by the original, by the port's scan and through an index of each
 /// size, and compares them.
 fn table(limits: Limits, random: &mut Random, counts: &mut Counts) -> Option<Both> {
@@ -139,13 +205,16 @@ fn table(limits: Limits, random: &mut Random, counts: &mut Counts) -> Option<Bot
         let lent = lent(limits, PLACES as usize);
         // Q and E may be anything here, and the index is not looked at before them.
         let before = used(random.one_of(&[0, 1, 16, 17, 5 << 10]), random);
-        for by in [By::Scan, By::Index] {
-            let (mut table, mut index) = (lent.clone(), before.clone());
-            let number = table.build_by(by, &mut index);
-            let kept = same(&table, &lent) && index == before;
-            counts.check(number == u64::from(row) && kept, || {
-                format!("{name} by {by:?}: {number}, expected {row}, kept {kept}")
-            });
+        for mode in Mode::BOTH {
+            for by in [By::Scan, By::Index] {
+                let (mut table, mut index) = (lent.clone(), before.clone());
+                let number = table.build_by(mode, by, &mut index);
+                let kept = same(&table, &lent) && index == before;
+                counts.check(number == u64::from(row) && kept, || {
+                    format!("{name} {mode:?} by {by:?}: {number}, expected {row}, kept {kept}")
+                });
+                counts.kept.refused += usize::from(mode == Mode::Keeping);
+            }
         }
         return None;
     }
@@ -160,19 +229,33 @@ fn table(limits: Limits, random: &mut Random, counts: &mut Counts) -> Option<Bot
     };
     let expected = told(&original, counts);
     let places = expected.fingerprints.len();
+    let nodes: usize = (1..=limits.qubits as usize)
+        .map(|width| expected.count(width))
+        .sum();
     let mut indexes = Vec::new();
-    for size in sizes(limits.entries) {
+    for (round, size) in sizes(limits.entries).into_iter().enumerate() {
         let length = limits.qubits as usize * size;
         let before = used(length, random);
         let mut index = before.clone();
-        let mut scanned = lent(limits, places);
-        let number = scanned.build_by(By::Scan, &mut index);
-        counts.check(
-            number == 0 && same(&scanned, &expected) && index == before,
-            || format!("{name} by the scan: {number}"),
-        );
+        for mode in Mode::BOTH {
+            // By the scan the index plays no part: once is enough.
+            if mode == Mode::Keeping {
+                if round > 0 {
+                    continue;
+                }
+                counts.kept.by_scan += 1;
+                counts.kept.nodes += nodes;
+                counts.kept.array_places += 3 * places;
+            }
+            let mut scanned = lent(limits, places);
+            let number = scanned.build_by(mode, By::Scan, &mut index);
+            counts.check(
+                number == 0 && same(&scanned, &expected) && index == before,
+                || format!("{name} {mode:?} by the scan: {number}"),
+            );
+        }
         let mut table = lent(limits, places);
-        let number = table.build_by(By::Index, &mut index);
+        let number = table.build_by(Mode::ByPrint, By::Index, &mut index);
         counts.check(number == 0 && same(&table, &expected), || {
             format!("{name} with parts of {size}: {number}")
         });
@@ -184,6 +267,17 @@ fn table(limits: Limits, random: &mut Random, counts: &mut Counts) -> Option<Bot
         counts.check(number == 0 && filled == index, || {
             format!("{name}: a fill with parts of {size}: {number}")
         });
+        let mut kept_index = before;
+        let mut kept = lent(limits, places);
+        let number = kept.build_by(Mode::Keeping, By::Index, &mut kept_index);
+        counts.check(
+            number == 0 && same(&kept, &expected) && kept_index == index,
+            || format!("{name} keeping, with parts of {size}: {number}"),
+        );
+        counts.kept.by_index += 1;
+        counts.kept.nodes += nodes;
+        counts.kept.array_places += 3 * places;
+        counts.kept.index_places += length;
         counts.indexes += 1;
         counts.places += length;
         indexes.push(index);

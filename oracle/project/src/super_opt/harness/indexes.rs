@@ -4,14 +4,14 @@
 
 use super::altered::{places, values};
 use super::damage::{MOST, T, TABLES, asked, lent, limits_of, listed, questions, room};
-use super::port::{By, Finding, Lookup, SCAN, Table, through};
+use super::port::{By, Finding, Lookup, Mode, SCAN, Table, through};
 use super::random::Random;
 use super::rules::{Asked, EMPTY, Matrix};
 use super::tables::Limits;
 use super::tally::Tally;
 
 /// Tables of the widths above 3, beside those that are altered.
-const WIDE: [[u32; 4]; 4] = [
+pub(super) const WIDE: [[u32; 4]; 4] = [
     [4, 2, 14, 3967],
     [4, 8, 16, 2],
     [5, 1, 9, 3967],
@@ -63,27 +63,43 @@ pub(super) fn used(places: usize, random: &mut Random) -> Vec<u32> {
     (0..places).map(one).collect()
 }
 
-/// A table that is built through an index of each size, and by the scan, with the
-/// same arrays and record each time. A fill leaves the index that the build left.
-fn built(limits: Limits, random: &mut Random, tally: &mut Tally) -> Table {
+/// A table that is built in each mode, through an index of each size and by the scan,
+/// with the same arrays and record each time. A fill leaves the index that the build
+/// left.
+pub(super) fn built(limits: Limits, random: &mut Random, tally: &mut Tally) -> Table {
     let mut by_scan = lent(limits);
     let places = limits.qubits as usize * sizes(limits.entries)[0];
     let mut index = used(places, random);
-    tally.build(&mut by_scan, By::Scan, &mut index);
+    tally.build(&mut by_scan, Mode::ByPrint, By::Scan, &mut index);
+    let mut kept = lent(limits);
+    tally.build(&mut kept, Mode::Keeping, By::Scan, &mut index);
+    if !same(&kept, &by_scan) {
+        tally.differs(format!("{} built by the scan", limits.line()));
+    }
     for size in sizes(limits.entries) {
-        let mut table = lent(limits);
         let mut index = used(limits.qubits as usize * size, random);
-        tally.build(&mut table, By::Index, &mut index);
-        let same = table.record == by_scan.record
-            && table.fingerprints == by_scan.fingerprints
-            && table.parents == by_scan.parents
-            && table.codes == by_scan.codes;
-        let mut filled = used(index.len(), random);
-        if !same || !tally.fill(&table, &mut filled) || filled != index {
-            tally.differs(format!("{} built with parts of {size}", limits.line()));
+        for mode in Mode::BOTH {
+            let mut table = lent(limits);
+            tally.build(&mut table, mode, By::Index, &mut index);
+            let mut filled = used(index.len(), random);
+            let filled_as = tally.fill(&table, &mut filled) && filled == index;
+            if !same(&table, &by_scan) || !filled_as {
+                tally.differs(format!(
+                    "{} built {mode:?} with parts of {size}",
+                    limits.line()
+                ));
+            }
         }
     }
     by_scan
+}
+
+/// Whether record and arrays are the same.
+pub(super) fn same(one: &Table, other: &Table) -> bool {
+    one.record == other.record
+        && one.fingerprints == other.fingerprints
+        && one.parents == other.parents
+        && one.codes == other.codes
 }
 
 /// A table and what it is asked, with indexes of many contents.
@@ -261,7 +277,7 @@ fn of_other_tables(random: &mut Random, tally: &mut Tally) {
     for qubits in 1..=5 {
         let build = |basis: u32, tally: &mut Tally| {
             let mut table = lent(limits_of([qubits, 3, 12, basis]));
-            tally.build(&mut table, By::Scan, &mut []);
+            tally.build(&mut table, Mode::ByPrint, By::Scan, &mut []);
             table
         };
         let tables = BASES.map(|basis| build(basis, tally));
@@ -300,10 +316,11 @@ fn equal_fingerprints(random: &mut Random, tally: &mut Tally) {
     ] {
         table.fingerprints.fill(print);
         table.fingerprints[0] = first;
-        // A node that is looked up to answers where its list is what is asked.
-        let answers = |node: usize| match (node == 0) == (print == root_print) {
-            true => Finding::Node(node, usize::from(node != 0)),
-            false => Finding::None,
+        // From a node on, the first whose list is what is asked answers.
+        let answers = |node: usize| match (node == 0, print == root_print) {
+            (true, true) => Finding::Node(0, 0),
+            (false, true) => Finding::None,
+            (_, false) => Finding::Node(node.max(1), 1),
         };
         let lowest = usize::from(first != print);
         let asked = asked(question, 3);
@@ -352,7 +369,7 @@ fn lengths(random: &mut Random, tally: &mut Tally) {
         for entries in [1, 2, 3, 4, 5, 7, 8, 9, 16, 17] {
             let limits = limits_of([qubits, 2, entries, 383]);
             let mut table = lent(limits);
-            tally.build(&mut table, By::Scan, &mut []);
+            tally.build(&mut table, Mode::ByPrint, By::Scan, &mut []);
             let parts = qubits as usize;
             let mut all = vec![0, 1, 2 * entries as usize, parts * 2 * entries as usize];
             for power in 0..8 {
@@ -366,8 +383,10 @@ fn lengths(random: &mut Random, tally: &mut Tally) {
             tally.new_questions();
             for places in all {
                 for by in [By::Index, By::Scan] {
-                    let mut index = used(places, random);
-                    tally.build(&mut lent(limits), by, &mut index);
+                    for mode in Mode::BOTH {
+                        let mut index = used(places, random);
+                        tally.build(&mut lent(limits), mode, by, &mut index);
+                    }
                     let mut index = used(places, random);
                     tally.fill(&table, &mut index);
                     tally.indexes += 1;
@@ -388,8 +407,10 @@ fn long(tally: &mut Tally) {
     tally.new_questions();
     for places in [size, size - 1, size + 1, size / 2, 2 * size, 2_000_000] {
         let mut table = Table::with_places(limits, 1_000_000);
-        let mut index = vec![0; places];
-        tally.build(&mut table, By::Index, &mut index);
+        for mode in Mode::BOTH {
+            let mut index = vec![0; places];
+            tally.build(&mut table, mode, By::Index, &mut index);
+        }
         table.build();
         let mut index = vec![1; places];
         tally.fill(&table, &mut index);

@@ -1,7 +1,7 @@
 //! Mode `lines`: lists, tables, matrices and nodes that standard input names, as
 //! the port's test program reads them. A line that has another form, or no
 //! newline after it, is refused by 14; so is what asks a table where none is at
-//! hand.
+//! hand. A table that keeps clashes is the original's too: it met none.
 
 use std::io::{self, Read, Write};
 use std::panic::{AssertUnwindSafe, catch_unwind};
@@ -17,13 +17,14 @@ const MOST_COEFFICIENTS: usize = 4097;
 pub(super) fn run(_: &[String], out: &mut dyn Write) -> io::Result<()> {
     let mut input = Vec::new();
     io::stdin().lock().read_to_end(&mut input)?;
-    // The last table built. Every line that begins with `table` forgets it.
+    // The last table built. Every line that begins with `table` or `clashes` forgets it.
     let mut table = None;
     for line in input.split_inclusive(|&byte| byte == b'\n') {
         let line = str::from_utf8(line).unwrap_or_default();
-        if line.starts_with("table ") {
+        let (word, rest) = line.split_once(' ').unwrap_or_default();
+        if matches!(word, "table" | "clashes") {
             table = None;
-            match line.strip_prefix("table ").and_then(Limits::of_numbers) {
+            match Limits::of_numbers(rest) {
                 Some(limits) => match limits.refusal(PLACES) {
                     Some(row) => writeln!(out, "refused {row} 0")?,
                     None => table = build(limits, out)?,

@@ -8,8 +8,12 @@ mod bench;
 #[cfg(feature = "port")]
 mod bench_index;
 #[cfg(feature = "port")]
+mod bench_modes;
+#[cfg(feature = "port")]
 mod bench_tables;
 mod circuits;
+#[cfg(feature = "port")]
+mod clashes;
 mod codes;
 #[cfg(feature = "port")]
 mod damage;
@@ -41,6 +45,8 @@ mod tables;
 mod tally;
 #[cfg(feature = "port")]
 mod walks;
+#[cfg(feature = "port")]
+mod weakened;
 
 use std::io::{self, BufWriter, Write};
 use std::process::ExitCode;

@@ -3,7 +3,7 @@
 
 use super::damage::{MOST, TABLES, built, lent, limits_of, listed};
 use super::indexes::{sizes, used};
-use super::port::{By, Finding, Lookup, Reply, Table};
+use super::port::{By, Finding, Lookup, Mode, Reply, Table};
 use super::random::Random;
 use super::rules::{Asked, fill, times_root, written};
 use super::tally::Tally;
@@ -42,8 +42,10 @@ pub(super) fn run(tally: &mut Tally) {
                 fill_index(&table, causes, &mut random, tally);
             }
             for causes in 0..1 << BUILD.len() {
-                for by in [By::Scan, By::Index] {
-                    build(&table, by, causes, &mut random, tally);
+                for mode in Mode::BOTH {
+                    for by in [By::Scan, By::Index] {
+                        build(&table, mode, by, causes, &mut random, tally);
+                    }
                 }
             }
         }
@@ -229,7 +231,7 @@ fn fill_index(table: &Table, causes: usize, random: &mut Random, tally: &mut Tal
 }
 
 /// A build with a set of causes.
-fn build(table: &Table, by: By, causes: usize, random: &mut Random, tally: &mut Tally) {
+fn build(table: &Table, mode: Mode, by: By, causes: usize, random: &mut Random, tally: &mut Tally) {
     let has = |cause: usize| causes >> cause & 1 != 0;
     let mut altered = lent(table.limits);
     let size = random.one_of(&sizes(table.limits.entries));
@@ -264,7 +266,7 @@ fn build(table: &Table, by: By, causes: usize, random: &mut Random, tally: &mut 
         By::Scan => causes & !(1 << 5),
         By::Index => causes,
     };
-    let number = tally.build(&mut altered, by, &mut index);
+    let number = tally.build(&mut altered, mode, by, &mut index);
     if number != first(&BUILD, causes).unwrap_or(0) {
         tally.differs(format!("causes {causes:#b} of a build by {by:?}: {number}"));
     }

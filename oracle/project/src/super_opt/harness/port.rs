@@ -18,6 +18,7 @@ unsafe extern "C" {
     fn bench_query(width: u32, exponent: u16, entries: *const i8, places: usize) -> u64;
     fn bench_fingerprint(entries: *const i8, places: usize, width: usize, exponent: u16) -> u64;
     fn bench_build(
+        mode: u32,
         by: u32,
         limits: *const u32,
         limit_places: usize,
@@ -153,6 +154,25 @@ macro_rules! over {
     }};
 }
 
+/// When a candidate of a build is known: where an entry has its fingerprint, or
+/// where one has it and is equal up to phase.
+#[derive(Clone, Copy, Debug, PartialEq)]
+pub(super) enum Mode {
+    ByPrint,
+    Keeping,
+}
+
+impl Mode {
+    pub(super) const BOTH: [Mode; 2] = [Mode::ByPrint, Mode::Keeping];
+
+    fn number(self) -> u32 {
+        match self {
+            Mode::ByPrint => 0,
+            Mode::Keeping => 1,
+        }
+    }
+}
+
 /// How nodes are looked up.
 #[derive(Clone, Copy, Debug, PartialEq)]
 pub(super) enum By {
@@ -264,14 +284,20 @@ impl Table {
 
     /// 0, or the number of the refusal.
     pub(super) fn build(&mut self) -> u64 {
-        self.build_by(By::Scan, &mut [])
+        self.build_by(Mode::ByPrint, By::Scan, &mut [])
     }
 
-    /// The same with a look-up and a lent index.
-    pub(super) fn build_by(&mut self, by: By, index: &mut [u32]) -> u64 {
+    /// The same in a mode, with a look-up and a lent index.
+    pub(super) fn build_by(&mut self, mode: Mode, by: By, index: &mut [u32]) -> u64 {
+        self.build_numbered(mode.number(), by, index)
+    }
+
+    /// The same with the mode's number: 0 is by fingerprint, any other keeping.
+    pub(super) fn build_numbered(&mut self, mode: u32, by: By, index: &mut [u32]) -> u64 {
         let limits = self.limits();
         unsafe {
             bench_build(
+                mode,
                 by.number(),
                 limits.as_ptr(),
                 limits.len(),

@@ -1,5 +1,8 @@
-//! What a table answers, written from docs/SPECIFICATION.md alone: nothing here
-//! is the original's or the port's. All arithmetic is on 64-bit integers.
+//! What a table answers, written from the documents alone, docs/SPECIFICATION.md
+//! and the request that has clashing fingerprints both kept: nothing here is the
+//! original's or the port's. All arithmetic is on 64-bit integers.
+
+use std::iter;
 
 use super::port::{By, Finding, Lookup, Reply, Table};
 use super::tables::Limits;
@@ -175,14 +178,14 @@ impl Matrix {
         fold ^ fold >> 31
     }
 
-    fn equal_up_to_phase(&self, other: &Self) -> bool {
+    pub(super) fn equal_up_to_phase(&self, other: &Self) -> bool {
         self.width == other.width
             && self.exponent == other.exponent
             && self.phased() == other.phased()
     }
 
     /// The matrix of one gate, by what it does to each basis state.
-    fn of_gate(width: u32, code: u32) -> Self {
+    pub(super) fn of_gate(width: u32, code: u32) -> Self {
         let (kind, bits) = gate(code, width).expect("the code is valid");
         let mut matrix = Self::identity(width);
         let size = matrix.size();
@@ -205,7 +208,7 @@ impl Matrix {
         matrix
     }
 
-    fn product(&self, other: &Self) -> Self {
+    pub(super) fn product(&self, other: &Self) -> Self {
         let size = self.size();
         let entry = |place: usize| {
             (0..size).fold([0; 4], |total, middle| {
@@ -223,7 +226,7 @@ impl Matrix {
 
     /// Whether a power of omega takes this value to the other's. The smaller
     /// exponent is raised, entries and denominator times sqrt(2).
-    fn is_power_of_omega_times(&self, other: &Self) -> bool {
+    pub(super) fn is_power_of_omega_times(&self, other: &Self) -> bool {
         let raised = |matrix: &Self, exponent: u32| -> Vec<Entry> {
             let raise = |&entry: &Entry| {
                 (matrix.exponent..exponent).fold(entry, |entry, _| times_root(entry))
@@ -297,23 +300,45 @@ pub(super) fn bad_record(table: &Table) -> bool {
         || (1..=limits.qubits).any(bad_count)
 }
 
-/// The list of a node, read by walking parents; nothing where the chain is bad.
-fn chain(table: &Table, width: u32, node: usize) -> Option<Vec<u32>> {
+/// Why a chain is bad.
+#[derive(Clone, Copy, Debug, PartialEq)]
+pub(super) enum Bad {
+    /// A parent that is not below its node.
+    Parent,
+    /// A code that is not valid.
+    Code,
+    /// A code that is not of the basis.
+    Basis,
+    /// More than G gates.
+    Length,
+    /// Node 0 without its marks.
+    Marks,
+}
+
+/// The list of a node, read by walking parents; or what is first met that makes the
+/// chain bad.
+fn chain(table: &Table, width: u32, node: usize) -> Result<Vec<u32>, Bad> {
     let start = (width as usize - 1) * table.limits.entries as usize;
     let mut list = Vec::new();
     let mut node = node;
     while node != 0 {
         let (parent, code) = (table.parents[start + node], table.codes[start + node]);
-        let (kind, _) = gate(code, width)?;
-        let full = list.len() == table.limits.gates as usize;
-        if full || parent as usize >= node || table.limits.basis >> kind.number & 1 == 0 {
-            return None;
+        let (kind, _) = gate(code, width).ok_or(Bad::Code)?;
+        if table.limits.basis >> kind.number & 1 == 0 {
+            return Err(Bad::Basis);
+        }
+        if list.len() == table.limits.gates as usize {
+            return Err(Bad::Length);
+        }
+        if parent as usize >= node {
+            return Err(Bad::Parent);
         }
         list.push(code);
         node = parent as usize;
     }
     list.reverse();
-    (table.parents[start] == MARK && table.codes[start] == MARK).then_some(list)
+    let marks = table.parents[start] == MARK && table.codes[start] == MARK;
+    marks.then_some(list).ok_or(Bad::Marks)
 }
 
 /// What is tried first, whatever is asked of a lent table: 13 of the record, then 5.
@@ -381,16 +406,22 @@ pub(super) fn put_in(part: &mut [u32], fingerprint: u64, node: usize) {
     part[empty.expect("an empty place")] = node as u32;
 }
 
-/// The node that a part of an index leads to, which may hold anything: the first
-/// that is one of the width's and has the fingerprint. An empty place ends it.
-/// Any other number at or above the count is passed over, and so is a node with
-/// another fingerprint. It ends too when every place was looked at.
-pub(super) fn led_to(part: &[u32], prints: &[u64], fingerprint: u64) -> Option<usize> {
+/// The node that a part of an index, which may hold anything, leads to from a start
+/// on: the first on the probe's way that is not below the start, is one of the
+/// width's and has the fingerprint. An empty place ends it. Any other number at or
+/// above the count is passed over, and so are a number below the start and a node
+/// with another fingerprint. It ends too when every place was looked at.
+pub(super) fn led_to(
+    part: &[u32],
+    prints: &[u64],
+    fingerprint: u64,
+    start: usize,
+) -> Option<usize> {
     probe(part.len(), fingerprint)
         .map(|place| part[place])
         .take_while(|&held| held != EMPTY)
         .map(|held| held as usize)
-        .find(|&node| node < prints.len() && prints[node] == fingerprint)
+        .find(|&node| node >= start && node < prints.len() && prints[node] == fingerprint)
 }
 
 /// What a fill leaves of an index of so many places, whatever it held: empty, and
@@ -430,16 +461,98 @@ pub(super) fn prints_of(table: &Table, width: u32) -> &[u64] {
     &table.fingerprints[start..][..count]
 }
 
-/// The node of a width that a fingerprint is looked up to: by the scan the lowest
-/// that has it. Neither table nor index is refused.
-fn looked_up(table: &Table, lookup: Lookup, width: u32, fingerprint: u64) -> Option<usize> {
+/// The node of a width that a fingerprint is looked up to from a start on: by the
+/// scan the lowest not below the start that has it. Neither table nor index is
+/// refused.
+fn looked_up(
+    table: &Table,
+    lookup: Lookup,
+    width: u32,
+    fingerprint: u64,
+    start: usize,
+) -> Option<usize> {
     let prints = prints_of(table, width);
     match lookup.by {
-        By::Scan => prints.iter().position(|&print| print == fingerprint),
+        By::Scan => (start..prints.len()).find(|&node| prints[node] == fingerprint),
         // A width without nodes has no part.
         By::Index if prints.is_empty() => None,
-        By::Index => led_to(part_of(table, lookup.index, width), prints, fingerprint),
+        By::Index => {
+            let part = part_of(table, lookup.index, width);
+            led_to(part, prints, fingerprint, start)
+        }
     }
+}
+
+/// The nodes with a fingerprint in the order in which they are looked at: the one
+/// that it is looked up to from 0 on, and after each the one from the next number
+/// on. So they rise, and are at most as many as the width has entries.
+pub(super) fn looked_at<'a>(
+    table: &'a Table,
+    lookup: Lookup<'a>,
+    width: u32,
+    fingerprint: u64,
+) -> impl Iterator<Item = usize> + 'a {
+    let from = move |start: usize| looked_up(table, lookup, width, fingerprint, start);
+    iter::successors(from(0), move |&node| from(node + 1)).take(entry_count(table, width))
+}
+
+/// What becomes of a node that has the fingerprint of a query.
+#[derive(Clone, Debug, PartialEq)]
+pub(super) enum Verdict {
+    /// Its product is equal up to phase to the query: its list is the answer, and
+    /// nothing after it is walked.
+    Answers(Vec<u32>),
+    /// Its chain is good, but its product does not fit: it is passed.
+    DoesNotFit,
+    /// Its chain is good, but its product is another: it is passed.
+    Differs,
+    /// Its chain is bad, and the answer is refused by 13, also where a later node
+    /// would answer.
+    Spoilt(Bad),
+}
+
+impl Verdict {
+    pub(super) fn passes(&self) -> bool {
+        matches!(self, Verdict::DoesNotFit | Verdict::Differs)
+    }
+}
+
+/// The verdict on one node.
+fn verdict(table: &Table, matrix: &Matrix, node: usize) -> Verdict {
+    let list = match chain(table, matrix.width, node) {
+        Ok(list) => list,
+        Err(bad) => return Verdict::Spoilt(bad),
+    };
+    match Matrix::of_list(matrix.width, &list) {
+        Some(product) if product.equal_up_to_phase(matrix) => Verdict::Answers(list),
+        Some(_) => Verdict::Differs,
+        None => Verdict::DoesNotFit,
+    }
+}
+
+/// The verdicts on all nodes with the fingerprint of a query, in the order in which
+/// they are looked at, as if none of them ended it. Neither table nor query is
+/// refused. The fingerprint is given apart, since it may be a weakened one.
+pub(super) fn verdicts<'a>(
+    table: &'a Table,
+    lookup: Lookup<'a>,
+    matrix: &'a Matrix,
+    fingerprint: u64,
+) -> impl Iterator<Item = (usize, Verdict)> + 'a {
+    looked_at(table, lookup, matrix.width, fingerprint)
+        .map(move |node| (node, verdict(table, matrix, node)))
+}
+
+/// The first node that is not passed, with its verdict: on any table, by either
+/// look-up, the answer is the lowest node with the fingerprint whose product is
+/// equal up to phase to the query, unless a bad chain is met before it.
+pub(super) fn search(
+    table: &Table,
+    lookup: Lookup,
+    matrix: &Matrix,
+    fingerprint: u64,
+) -> Option<(usize, Verdict)> {
+    verdicts(table, lookup, matrix, fingerprint).find(|(_, verdict)| !verdict.passes())
 }
 
 /// The part of an index for a width that the table has. The index is not refused.
@@ -450,49 +563,42 @@ pub(super) fn part_of<'a>(table: &Table, index: &'a [u32], width: u32) -> &'a [u
 
 /// The answer with a lent list of so many places.
 pub(super) fn decide(table: &Table, lookup: Lookup, asked: &Asked, room: usize) -> Reply {
-    if let Some(number) = lent_refused(table, lookup).or_else(|| query_refused(asked)) {
+    if let Some(number) = asked_refused(table, lookup, asked) {
         return Reply::Refused(number);
     }
     if room < table.limits.gates as usize {
         return Reply::Refused(12);
     }
-    let (matrix, fingerprint) = asked.value.as_ref().expect("a query that is not refused");
-    let Some(node) = looked_up(table, lookup, asked.width, *fingerprint) else {
-        return Reply::None;
-    };
-    let Some(list) = chain(table, asked.width, node) else {
-        return Reply::Refused(13);
-    };
-    match Matrix::of_list(asked.width, &list) {
-        Some(product) if product.equal_up_to_phase(matrix) => Reply::List(list),
-        _ => Reply::None,
+    match end(table, lookup, asked) {
+        Some((_, Verdict::Answers(list))) => Reply::List(list),
+        Some(_) => Reply::Refused(13),
+        None => Reply::None,
     }
 }
 
 /// What a find says: the answer's checks but for 12, and the node whose list the
 /// answer would be.
 pub(super) fn find(table: &Table, lookup: Lookup, asked: &Asked) -> Finding {
-    if let Some(number) = lent_refused(table, lookup).or_else(|| query_refused(asked)) {
+    if let Some(number) = asked_refused(table, lookup, asked) {
         return Finding::Refused(number);
     }
-    let (matrix, fingerprint) = asked.value.as_ref().expect("a query that is not refused");
-    let Some(node) = looked_up(table, lookup, asked.width, *fingerprint) else {
-        return Finding::None;
-    };
-    let Some(list) = chain(table, asked.width, node) else {
-        return Finding::Refused(13);
-    };
-    match Matrix::of_list(asked.width, &list) {
-        Some(product) if product.equal_up_to_phase(matrix) => Finding::Node(node, list.len()),
-        _ => Finding::None,
+    match end(table, lookup, asked) {
+        Some((node, Verdict::Answers(list))) => Finding::Node(node, list.len()),
+        Some(_) => Finding::Refused(13),
+        None => Finding::None,
     }
 }
 
-/// The node that a query's fingerprint is looked up to, where a find says none: its
-/// list did not pass the recheck.
-pub(super) fn passed_over(table: &Table, lookup: Lookup, asked: &Asked) -> Option<usize> {
-    let (_, fingerprint) = asked.value.as_ref()?;
-    looked_up(table, lookup, asked.width, *fingerprint)
+/// What is tried before a node is looked up: of the table, of the index, of the
+/// matrix.
+pub(super) fn asked_refused(table: &Table, lookup: Lookup, asked: &Asked) -> Option<u64> {
+    lent_refused(table, lookup).or_else(|| query_refused(asked))
+}
+
+/// The node that ends the search for a query that is not refused.
+fn end(table: &Table, lookup: Lookup, asked: &Asked) -> Option<(usize, Verdict)> {
+    let (matrix, fingerprint) = asked.value.as_ref().expect("a query that is not refused");
+    search(table, lookup, matrix, *fingerprint)
 }
 
 /// What a write says with a lent list of so many places: 13 of the record and 5,
@@ -508,8 +614,8 @@ pub(super) fn write(table: &Table, width: u32, node: usize, room: usize) -> Repl
         return Reply::Refused(12);
     }
     match chain(table, width, node) {
-        Some(list) => Reply::List(list),
-        None => Reply::Refused(13),
+        Ok(list) => Reply::List(list),
+        Err(_) => Reply::Refused(13),
     }
 }
 

@@ -1,15 +1,15 @@
 //! What an altered table or index is asked, what it must say by `rules`, and how
 //! often each kind of outcome came.
 
-use std::collections::HashSet;
+use std::collections::{HashMap, HashSet};
 use std::io::{self, Write};
 
-use super::port::{By, Finding, Lookup, Reply, SCAN, Table};
+use super::port::{By, Finding, Lookup, Mode, Reply, SCAN, Table};
 use super::rules::{
-    Asked, EMPTY, bad_record, decide, fill, find, gives, part_of, passed_over, prints_of, probe,
-    write, written,
+    Asked, Bad, EMPTY, Verdict, asked_refused, bad_record, decide, fill, find, gives, part_of,
+    prints_of, probe, verdicts, write, written,
 };
-use super::walks;
+use super::walks::{self, Manner};
 
 /// Every kind of outcome of an answer, of a find and of a write; of an answer and a
 /// find through an index; and of a fill and a build. No other may come, and each
@@ -34,8 +34,9 @@ const RECORD: &str = "13 of the record";
 const CHAIN: &str = "13 of a chain";
 
 /// What must come among them: two causes together, lists that only one of find
-/// and write is about, and what an index may lead to.
-const AMONG: [&str; 14] = [
+/// and write is about, what an index may lead to, and what several nodes with one
+/// fingerprint come to.
+const AMONG: [&str; 31] = [
     SHORT_FIRST,
     PASSED_OVER,
     NO_NODE_SHORT,
@@ -44,12 +45,29 @@ const AMONG: [&str; 14] = [
     JUST_ENOUGH,
     UNBUILT_COUNT,
     MISSED,
-    FOUND_MORE,
+    MISSED_BAD,
+    ONLY_BAD,
     OTHER_NODE,
     ABOVE_COUNT,
     ROUND,
     LAST,
     FULL,
+    LATER,
+    LATER_INDEX,
+    EVERY,
+    EVERY_NONE,
+    LATE_BAD,
+    PARENT_FIRST,
+    CODE_FIRST,
+    BASIS_FIRST,
+    LENGTH_FIRST,
+    MARKS,
+    PARENT_AFTER,
+    CODE_AFTER,
+    BASIS_AFTER,
+    LENGTH_AFTER,
+    UNFIT,
+    LOWER,
 ];
 
 const SHORT_FIRST: &str = "answers by 12 whose find is refused by 13 of a chain";
@@ -62,13 +80,40 @@ const UNBUILT_COUNT: &str =
     "writes refused by 16 at a width above Q whose count in the record is larger";
 
 const MISSED: &str = "finds of none through an index where the scan finds a node";
-const FOUND_MORE: &str = "finds of a node through an index where the scan finds none";
+const MISSED_BAD: &str = "finds of a node through an index where the scan is refused by 13";
+const ONLY_BAD: &str =
+    "finds refused by 13 of a chain through an index where the scan finds a node";
 const OTHER_NODE: &str = "finds through an index of another node than by the scan";
 const ABOVE_COUNT: &str =
     "nodes that a probe leads to past a number at or above the count that is not empty";
 const ROUND: &str = "nodes that a probe leads to round the end of the part";
 const LAST: &str = "nodes that a probe leads to at its last step";
 const FULL: &str = "probes of a part without an empty place that lead to no node";
+
+const LATER: &str = "finds by the scan of the second or a later node with the fingerprint";
+const LATER_INDEX: &str = "finds through an index of the second or a later node that it leads to";
+const EVERY: &str = "finds of the last of two or more entries, all of which were looked at";
+const EVERY_NONE: &str = "finds of none after all of two or more entries were looked at";
+const LATE_BAD: &str = "finds refused by 13 at the second or a later node with the fingerprint";
+const PARENT_FIRST: &str =
+    "finds refused by 13, before a node that would answer, for a parent that is not below its node";
+const CODE_FIRST: &str =
+    "finds refused by 13, before a node that would answer, for a code that is not valid";
+const BASIS_FIRST: &str =
+    "finds refused by 13, before a node that would answer, for a code that is not of the basis";
+const LENGTH_FIRST: &str =
+    "finds refused by 13, before a node that would answer, for more than G gates";
+const MARKS: &str = "finds refused by 13 for node 0, which all chains come to";
+const PARENT_AFTER: &str =
+    "nodes found before one with the fingerprint that has a parent that is not below its node";
+const CODE_AFTER: &str =
+    "nodes found before one with the fingerprint that has a code that is not valid";
+const BASIS_AFTER: &str =
+    "nodes found before one with the fingerprint that has a code that is not of the basis";
+const LENGTH_AFTER: &str = "nodes found before one with the fingerprint that has more than G gates";
+const UNFIT: &str = "nodes found after one with the fingerprint whose product does not fit";
+const LOWER: &str =
+    "finds through an index that would end otherwise if nodes were looked at as they stand there";
 
 /// How often each of some kinds came.
 struct Counts {
@@ -160,6 +205,14 @@ fn build_kind(number: u64) -> &'static str {
     }
 }
 
+/// Altered tables, altered indexes, questions, and what came among them.
+struct Sums {
+    tables: usize,
+    indexes: usize,
+    questions: usize,
+    among: Vec<usize>,
+}
+
 pub(super) struct Tally {
     pub(super) tables: usize,
     pub(super) indexes: usize,
@@ -171,8 +224,12 @@ pub(super) struct Tally {
     fills: Counts,
     builds: Counts,
     index_builds: Counts,
+    keeping_builds: Counts,
+    keeping_index_builds: Counts,
     among: Counts,
     differences: usize,
+    /// What the part with clashes came to.
+    part: Option<Sums>,
     /// Questions by number, and lists that give them. It is emptied with each
     /// new choice of questions.
     exact: HashSet<(usize, Vec<u32>)>,
@@ -191,10 +248,40 @@ impl Tally {
             fills: Counts::new(&FILLS),
             builds: Counts::new(&BUILDS),
             index_builds: Counts::new(&INDEX_BUILDS),
+            keeping_builds: Counts::new(&BUILDS),
+            keeping_index_builds: Counts::new(&INDEX_BUILDS),
             among: Counts::new(&AMONG),
             differences: 0,
+            part: None,
             exact: HashSet::new(),
         }
+    }
+
+    fn sums(&self) -> Sums {
+        Sums {
+            tables: self.tables,
+            indexes: self.indexes,
+            questions: self.answers.total() + self.index_answers.total(),
+            among: self.among.counts.clone(),
+        }
+    }
+
+    /// The part with clashes begins.
+    pub(super) fn begin_part(&mut self) {
+        self.part = Some(self.sums());
+    }
+
+    /// It ends.
+    pub(super) fn end_part(&mut self) {
+        let now = self.sums();
+        let before = self.part.take().expect("a part that began");
+        let among = now.among.iter().zip(&before.among);
+        self.part = Some(Sums {
+            tables: now.tables - before.tables,
+            indexes: now.indexes - before.indexes,
+            questions: now.questions - before.questions,
+            among: among.map(|(now, before)| now - before).collect(),
+        });
     }
 
     /// Other questions follow, numbered anew.
@@ -312,16 +399,65 @@ impl Tally {
         if lookup.by == By::Index {
             self.follow(table, lookup.index, asked, &expected);
         }
-        if expected == Finding::None
-            && let Some(node) = passed_over(table, lookup, asked)
-        {
-            let reply = self.write(table, asked.width, node, table.limits.gates as usize);
-            match reply {
-                Reply::List(_) => _ = self.among.add(PASSED_OVER),
-                _ => self.differs(format!("node {node} that was passed over: {reply:?}")),
-            }
+        if asked_refused(table, lookup, asked).is_none() {
+            self.several(table, lookup, asked);
         }
         found
+    }
+
+    /// Which of the special cases a find is whose nodes are passed, or that others
+    /// would follow. A node that is passed is written: a write does not recheck.
+    fn several(&mut self, table: &Table, lookup: Lookup, asked: &Asked) {
+        let (matrix, print) = asked.value.as_ref().expect("a query that is not refused");
+        let all: Vec<(usize, Verdict)> = verdicts(table, lookup, matrix, *print).collect();
+        let ends = all.iter().position(|(_, verdict)| !verdict.passes());
+        let (passed, rest) = all.split_at(ends.unwrap_or(all.len()));
+        let mut written: Vec<usize> = passed.iter().map(|(node, _)| *node).collect();
+        if written.len() > 2 {
+            written = vec![written[0], written[written.len() - 1]];
+        }
+        for node in written {
+            let reply = self.write(table, asked.width, node, table.limits.gates as usize);
+            if !matches!(reply, Reply::List(_)) {
+                self.differs(format!("node {node} that was passed: {reply:?}"));
+            }
+        }
+        let later = !passed.is_empty();
+        let entries = prints_of(table, asked.width).len();
+        let every = entries > 1 && all.len() == entries && rest.len() < 2;
+        let Some(((_, end), after)) = rest.split_first() else {
+            self.note(later, PASSED_OVER);
+            self.note(every, EVERY_NONE);
+            return;
+        };
+        match end {
+            Verdict::Spoilt(bad) => {
+                self.note(later, LATE_BAD);
+                self.note(*bad == Bad::Marks, MARKS);
+                let answered =
+                    |(_, verdict): &(usize, Verdict)| matches!(verdict, Verdict::Answers(_));
+                if after.iter().any(answered) {
+                    self.among.add(first_of(*bad));
+                }
+            }
+            _ => {
+                let by_scan = lookup.by == By::Scan;
+                self.note(later, if by_scan { LATER } else { LATER_INDEX });
+                self.note(every, EVERY);
+                let unfit = |(_, verdict): &(usize, Verdict)| *verdict == Verdict::DoesNotFit;
+                self.note(passed.iter().any(unfit), UNFIT);
+                for bad in [Bad::Parent, Bad::Code, Bad::Basis, Bad::Length] {
+                    let spoilt = |(_, verdict): &(usize, Verdict)| *verdict == Verdict::Spoilt(bad);
+                    self.note(after.iter().any(spoilt), after_of(bad));
+                }
+            }
+        }
+    }
+
+    fn note(&mut self, holds: bool, name: &str) {
+        if holds {
+            self.among.add(name);
+        }
     }
 
     /// Which of the special cases a find through an index is.
@@ -331,7 +467,12 @@ impl Tally {
         }
         match (expected, find(table, SCAN, asked)) {
             (Finding::None, Finding::Node(..)) => _ = self.among.add(MISSED),
-            (Finding::Node(..), Finding::None) => _ = self.among.add(FOUND_MORE),
+            (Finding::Node(..), Finding::Refused(13)) => _ = self.among.add(MISSED_BAD),
+            (Finding::Refused(13), Finding::Node(..)) => _ = self.among.add(ONLY_BAD),
+            // Every node with the fingerprint was passed.
+            (Finding::Node(..), Finding::None) => {
+                self.differs("a find of a node where the scan finds none".to_owned());
+            }
             (Finding::Node(node, _), Finding::Node(lowest, _)) if *node != lowest => {
                 self.among.add(OTHER_NODE);
             }
@@ -345,6 +486,7 @@ impl Tally {
             return;
         }
         let part = part_of(table, index, asked.width);
+        self.as_they_stand(table, part, asked, expected);
         let (mut above, mut start) = (false, None);
         for (step, place) in probe(part.len(), *print).enumerate() {
             let held = part[place];
@@ -366,6 +508,32 @@ impl Tally {
             above |= held as usize >= prints.len();
         }
         self.among.add(FULL);
+    }
+
+    /// Whether a find through an index would end otherwise if each node that the
+    /// probe comes to were looked at, in the order in which they stand there.
+    fn as_they_stand(&mut self, table: &Table, part: &[u32], asked: &Asked, expected: &Finding) {
+        let (matrix, print) = asked.value.as_ref().expect("a query that is not refused");
+        let prints = prints_of(table, asked.width);
+        let mut order: Vec<usize> = probe(part.len(), *print)
+            .map(|place| part[place])
+            .take_while(|&held| held != EMPTY)
+            .map(|held| held as usize)
+            .filter(|&node| prints.get(node) == Some(print))
+            .collect();
+        if order.is_sorted() {
+            return;
+        }
+        let mut seen = HashSet::new();
+        order.retain(|&node| seen.insert(node));
+        let all: HashMap<usize, Verdict> = verdicts(table, SCAN, matrix, *print).collect();
+        let end = order.iter().find(|&node| !all[node].passes());
+        let other = match end.map(|node| (*node, &all[node])) {
+            Some((node, Verdict::Answers(list))) => Finding::Node(node, list.len()),
+            Some(_) => Finding::Refused(13),
+            None => Finding::None,
+        };
+        self.note(other != *expected, LOWER);
     }
 
     /// Fills an index from a table; whether it is filled.
@@ -394,10 +562,16 @@ impl Tally {
     }
 
     /// Builds a table in what is lent; the number told.
-    pub(super) fn build(&mut self, table: &mut Table, by: By, index: &mut [u32]) -> u64 {
-        let expected = walks::build(table, Lookup { by, index });
+    pub(super) fn build(
+        &mut self,
+        table: &mut Table,
+        mode: Mode,
+        by: By,
+        index: &mut [u32],
+    ) -> u64 {
+        let expected = walks::build(table, Manner::plain(mode), Lookup { by, index });
         let lent = (table.clone(), index.to_vec());
-        let number = table.build_by(by, index);
+        let number = table.build_by(mode, by, index);
         let (wanted, (left, kept)) = match expected {
             Ok(built) => (0, built),
             Err(number) => (number, lent),
@@ -408,16 +582,19 @@ impl Tally {
             && table.codes == left.codes;
         if number != wanted || !same || index[..] != kept[..] {
             self.differs(format!(
-                "{} build by {by:?} with an index of {} places: {number}, expected {wanted}, arrays and record the same: {same}, {} places of the index differ",
+                "{} build {mode:?} by {by:?} with an index of {} places: {number}, expected {wanted}, arrays and record the same: {same}, {} places of the index differ",
                 left.limits.line(),
                 index.len(),
                 differing(index, &kept),
             ));
         }
-        let known = match by {
-            By::Scan => self.builds.add(build_kind(number)),
-            By::Index => self.index_builds.add(build_kind(number)),
+        let counts = match (mode, by) {
+            (Mode::ByPrint, By::Scan) => &mut self.builds,
+            (Mode::ByPrint, By::Index) => &mut self.index_builds,
+            (Mode::Keeping, By::Scan) => &mut self.keeping_builds,
+            (Mode::Keeping, By::Index) => &mut self.keeping_index_builds,
         };
+        let known = counts.add(build_kind(number));
         self.kind_is(known, table, "build");
         number
     }
@@ -481,6 +658,44 @@ impl Tally {
         exact
     }
 
+    /// What the part with clashes came to.
+    fn write_part(&self, out: &mut dyn Write) -> io::Result<()> {
+        let Some(part) = &self.part else {
+            return Ok(());
+        };
+        let Sums {
+            tables,
+            indexes,
+            questions,
+            among,
+        } = part;
+        writeln!(
+            out,
+            "with clashes: {tables} altered tables, {indexes} indexes, {questions} questions"
+        )?;
+        for (name, count) in self.among.names.iter().zip(among) {
+            if *count > 0 {
+                writeln!(out, "  {count} {name}")?;
+            }
+        }
+        out.flush()
+    }
+
+    /// That part alone; an error where there are differences.
+    pub(super) fn report_part(&self, out: &mut dyn Write) -> io::Result<()> {
+        self.write_part(out)?;
+        writeln!(out, "{} differences", self.differences)?;
+        out.flush()?;
+        self.end()
+    }
+
+    fn end(&self) -> io::Result<()> {
+        match self.differences {
+            0 => Ok(()),
+            _ => Err(io::Error::other("the port says something else")),
+        }
+    }
+
     /// All counts; an error where there are differences, or where a kind of
     /// outcome never came.
     pub(super) fn report(&self, out: &mut dyn Write) -> io::Result<()> {
@@ -504,6 +719,11 @@ impl Tally {
             ("fills", &self.fills),
             ("builds", &self.builds),
             ("builds through an index", &self.index_builds),
+            ("builds that keep clashes", &self.keeping_builds),
+            (
+                "builds that keep clashes, through an index",
+                &self.keeping_index_builds,
+            ),
         ];
         for (name, counts) in all {
             writeln!(out, "{} {name}: {}", counts.total(), counts.line())?;
@@ -511,6 +731,7 @@ impl Tally {
         for (name, count) in self.among.names.iter().zip(&self.among.counts) {
             writeln!(out, "{count} {name}")?;
         }
+        self.write_part(out)?;
         out.flush()?;
         let among = ("among them", &self.among);
         let missing: Vec<String> = all
@@ -524,10 +745,30 @@ impl Tally {
                 missing.join("; ")
             )));
         }
-        match self.differences {
-            0 => Ok(()),
-            _ => Err(io::Error::other("the port says something else")),
-        }
+        self.end()
+    }
+}
+
+/// A bad chain before a node that would answer, by what makes it bad.
+fn first_of(bad: Bad) -> &'static str {
+    match bad {
+        Bad::Parent => PARENT_FIRST,
+        Bad::Code => CODE_FIRST,
+        Bad::Basis => BASIS_FIRST,
+        Bad::Length => LENGTH_FIRST,
+        // No node of the width would answer then.
+        Bad::Marks => "another number",
+    }
+}
+
+/// The same after the node that answers.
+fn after_of(bad: Bad) -> &'static str {
+    match bad {
+        Bad::Parent => PARENT_AFTER,
+        Bad::Code => CODE_AFTER,
+        Bad::Basis => BASIS_AFTER,
+        Bad::Length => LENGTH_AFTER,
+        Bad::Marks => "another number",
     }
 }
 

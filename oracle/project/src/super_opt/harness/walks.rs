@@ -1,15 +1,39 @@
-//! A build, written from docs/SPECIFICATION.md alone, by the scan and through an
-//! index that is cleared and kept up. It is for small tables: every node's matrix
-//! is kept.
+//! A build, written from the documents alone, in either mode, by the scan and through
+//! an index that is cleared and kept up. It is for small tables: every node's matrix
+//! is kept. Fingerprints may be weakened, so that they clash.
 
-use super::port::{By, Lookup, Table};
+use std::iter;
+
+use super::port::{By, Lookup, Mode, Table};
 use super::rules::{EMPTY, MARK, Matrix, gate, led_to, part_size, put_in};
 use super::tables::Limits;
+
+/// How a build is done: in which mode, and with which fingerprints. Weakened ones are
+/// the remainders by a number.
+#[derive(Clone, Copy)]
+pub(super) struct Manner {
+    pub(super) mode: Mode,
+    pub(super) weak: Option<u64>,
+}
+
+impl Manner {
+    /// With the fingerprints as they are.
+    pub(super) fn plain(mode: Mode) -> Self {
+        Self { mode, weak: None }
+    }
+
+    /// A matrix's fingerprint.
+    pub(super) fn print(self, matrix: &Matrix) -> u64 {
+        let print = matrix.fingerprint();
+        self.weak.map_or(print, |weak| print % weak)
+    }
+}
 
 /// One width as it is built.
 struct Walk<'a> {
     width: u32,
     limits: Limits,
+    manner: Manner,
     prints: Vec<u64>,
     parents: Vec<u32>,
     codes: Vec<u32>,
@@ -22,7 +46,11 @@ struct Walk<'a> {
 
 /// What a build leaves of a table's arrays and record, and of an index; or its
 /// refusal: 1 to 5, then 17.
-pub(super) fn build(lent: &Table, lookup: Lookup) -> Result<(Table, Vec<u32>), u64> {
+pub(super) fn build(
+    lent: &Table,
+    manner: Manner,
+    lookup: Lookup,
+) -> Result<(Table, Vec<u32>), u64> {
     let limits = lent.limits;
     let lengths = [
         lent.fingerprints.len(),
@@ -44,7 +72,7 @@ pub(super) fn build(lent: &Table, lookup: Lookup) -> Result<(Table, Vec<u32>), u
     let mut table = lent.clone();
     table.record = [0; 15];
     for width in 1..=limits.qubits {
-        let walk = Walk::new(width, limits, parts.next()).to_its_end();
+        let walk = Walk::new(width, limits, manner, parts.next()).to_its_end();
         let (row, count) = (width as usize - 1, walk.prints.len());
         let start = row * limits.entries as usize;
         table.fingerprints[start..][..count].copy_from_slice(&walk.prints);
@@ -58,10 +86,11 @@ pub(super) fn build(lent: &Table, lookup: Lookup) -> Result<(Table, Vec<u32>), u
 
 impl<'a> Walk<'a> {
     /// Node 0 alone.
-    fn new(width: u32, limits: Limits, part: Option<&'a mut [u32]>) -> Self {
+    fn new(width: u32, limits: Limits, manner: Manner, part: Option<&'a mut [u32]>) -> Self {
         let mut walk = Self {
             width,
             limits,
+            manner,
             prints: Vec::new(),
             parents: Vec::new(),
             codes: Vec::new(),
@@ -75,7 +104,7 @@ impl<'a> Walk<'a> {
     }
 
     fn append(&mut self, matrix: Matrix, parent: u32, code: u32) {
-        let (node, print) = (self.prints.len(), matrix.fingerprint());
+        let (node, print) = (self.prints.len(), self.manner.print(&matrix));
         if let Some(part) = &mut self.part {
             put_in(part, print, node);
         }
@@ -85,11 +114,23 @@ impl<'a> Walk<'a> {
         self.matrices.push(matrix);
     }
 
-    fn is_known(&self, print: u64) -> bool {
-        match &self.part {
-            Some(part) => led_to(part, &self.prints, print).is_some(),
-            None => self.prints.contains(&print),
+    /// By fingerprint: whether some entry has the candidate's. Keeping: "exactly if
+    /// some entry of its width has the same fingerprint and is equal up to phase".
+    fn is_known(&self, matrix: &Matrix) -> bool {
+        let mut entries = self.with_print(self.manner.print(matrix));
+        match self.manner.mode {
+            Mode::ByPrint => entries.next().is_some(),
+            Mode::Keeping => entries.any(|node| self.matrices[node].equal_up_to_phase(matrix)),
         }
+    }
+
+    /// The entries with a fingerprint, rising.
+    fn with_print(&self, print: u64) -> impl Iterator<Item = usize> {
+        let from = move |start: usize| match &self.part {
+            Some(part) => led_to(part, &self.prints, print, start),
+            None => (start..self.prints.len()).find(|&node| self.prints[node] == print),
+        };
+        iter::successors(from(0), move |&node| from(node + 1))
     }
 
     fn to_its_end(mut self) -> Self {
@@ -123,7 +164,7 @@ impl<'a> Walk<'a> {
             return true;
         }
         let mut matrix = self.matrices[node].clone();
-        if !matrix.step(code) || self.is_known(matrix.fingerprint()) {
+        if !matrix.step(code) || self.is_known(&matrix) {
             return true;
         }
         if self.prints.len() == self.limits.entries as usize {
@@ -135,7 +176,7 @@ impl<'a> Walk<'a> {
 }
 
 /// The codes of a basis at a width, rising.
-fn generators(basis: u32, width: u32) -> Vec<u32> {
+pub(super) fn generators(basis: u32, width: u32) -> Vec<u32> {
     let of_basis = |code: &u32| match gate(*code, width) {
         Some((kind, _)) => basis >> kind.number & 1 != 0,
         None => false,

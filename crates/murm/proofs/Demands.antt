@@ -11,7 +11,7 @@ use Rattle.murm.specs.Demands.{Demands}
 pub demands : Demands
 demands = record {
   refusals = exactly;
-  second = λ n codes bytes. demand-2 n codes bytes;
+  second = λ n codes numbers. demand-2 n codes numbers;
   third = demand;
   apart = find-write;
   either = either-lookup;

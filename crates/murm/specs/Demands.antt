@@ -17,13 +17,13 @@ use Rattle.tables.specs.Exactly.{Exactly}
 
 -- demand 2's first half, of a list: tables/specs/Demand2.antt
 abbrev pub Demand2 : ℕ → List ℕ → List ℤ → Type 0
-Demand2 n codes bytes = lists.Demand2 n codes bytes
+Demand2 n codes numbers = lists.Demand2 n codes numbers
 
 -- demand 3: the record `Demand3` of tables/specs/Demand3.antt, with `Built` and `FilledFrom` of tables/specs/Built.antt; of a find and a write: `FindWrite`; which
 -- node answers: `AnswerRule`, over a width's part `FindRule` of walk/specs/Meaning.antt
 pub record Demands : Type 0 where
   pub refusals : Exactly
-  pub second : (n : ℕ) (codes : List ℕ) (bytes : List ℤ) → Demand2 n codes bytes
+  pub second : (n : ℕ) (codes : List ℕ) (numbers : List ℤ) → Demand2 n codes numbers
   pub third : Demand3
   pub apart : FindWrite
   pub either : EitherLookup

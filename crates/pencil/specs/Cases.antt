@@ -20,7 +20,7 @@ use Rattle.exact.specs.Fits.{stepFits}
 use Rattle.exact.specs.Phase.{flat, phaseOf}
 use Rattle.exact.specs.Answers.{Answer}
 use Rattle.exact.specs.Answers as e
-use Rattle.tables.specs.Checks.{byteCount}
+use Rattle.tables.specs.Checks.{coefficientCount}
 use Rattle.tables.specs.Lists.{listed}
 
 -- what a row speaks of: an element, a test, a number, a sum with its refusal's number, an entry's answer with its refusal's number and
@@ -126,7 +126,7 @@ cases =
     ∷ (test (stepFits 1 (gateOf 1 0) (act 1 (gateOf 1 0) (square (int (pos 64)) zeroω (int (pos 64)) zeroω))) is test true)
     -- Cz on qubits 0 and 1 in rising order is valid, in the other order it is not (SPECIFICATION 2.1, 2.4)
     ∷ (test (valid 2 36880) is test true)
-    ∷ (answer (listed 2 (37120 ∷ []) (replicate (byteCount 2) (pos 0)) .answer) is answer (e.refused 7 0))
+    ∷ (answer (listed 2 (37120 ∷ []) (replicate (coefficientCount 2) (pos 0)) .answer) is answer (e.refused 7 0))
     -- T charges: of T, Ccx, Ccz, Tdg and H together, and of the six kinds that lists alone take (SPECIFICATION 2.9)
     ∷ (number (charge (20480 ∷ 40978 ∷ 45074 ∷ 24576 ∷ 0 ∷ [])) is number 16)
     ∷ (number (charge (61440 ∷ 65536 ∷ 77840 ∷ 81936 ∷ 102416 ∷ 106514 ∷ [])) is number 0)

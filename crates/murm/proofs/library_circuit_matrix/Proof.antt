@@ -8,17 +8,17 @@ use borrow.Author.Needs.{needs}
 use Rattle.places.proofs.Placed.{area-le}
 use Rattle.exact.specs.Answers.{refused}
 use Rattle.lists.proofs.Walking.{ended-at}
-use Rattle.tables.specs.Checks.{byteCount}
+use Rattle.tables.specs.Checks.{coefficientCount}
 use Rattle.tables.specs.Lists.{firstInvalid, outcome}
-use Rattle.tables.proofs.Coefficients.{byte-count}
+use Rattle.tables.proofs.Coefficients.{coefficient-count}
 use Rattle.tables.proofs.Lists.{all-valid, list-6, list-9, list-7, list-8}
 use Rattle.murm.proofs.Answers.{list-held}
 use Rattle.murm.proofs.library_circuit_matrix.Statement.{statement}
 use Rattle.murm.proofs.library_circuit_matrix.Tie as tie
 
 -- the width is up to 5, and the places of its matrix are counted
-sized : (c : tie.After-area) → (c .before .before .before .args .width ≤ 5) × (4 * (c .area .result) ≡ byteCount (c .before .before .before .args .width))
-sized c = (omega (arith, c .before .if1 .left), ap (λ (k : ℕ). 4 * k) (c .area .ensures) ∙ sym (byte-count _))
+sized : (c : tie.After-area) → (c .before .before .before .args .width ≤ 5) × (4 * (c .area .result) ≡ coefficientCount (c .before .before .before .args .width))
+sized c = (omega (arith, c .before .if1 .left), ap (λ (k : ℕ). 4 * k) (c .area .ensures) ∙ sym (coefficient-count _))
 
 mul-size : tie.Need-mul-size
 mul-size c = record { fits = omega (arith, c .area .ensures, area-le (c .before .before .before .args .width) (sized c .0)) }
@@ -32,7 +32,7 @@ returns-2 c =
     list-9 (s .width) (s .codes .now) (s .out .now) (sized (c .before) .0) (λ q. c .if2 .taken (q ∙ sym (sized (c .before) .1)))
 
 -- the lent places are as many as the matrix has coefficients
-exact : (c : tie.Else2) → let s = c .before .before .before .before .args in length (s .out .now) ≡ byteCount (s .width)
+exact : (c : tie.Else2) → let s = c .before .before .before .before .args in length (s .out .now) ≡ coefficientCount (s .width)
 exact c = c .if2 .left ∙ sized (c .before) .1
 
 returns-3 : tie.Need-returns-3
@@ -63,7 +63,7 @@ returns-4 c =
     let w = ended-at (c .before .before .before .before .before .before .k .given .1) (c .before .before .before .before .before .before .before .before .apply-gates .ensures .0) in
     let l = c .before .before .before .before .before .before .before .before .apply-gates .last .0 in
     let a = e .before .before .before in
-    let size : 4 * (a .area .result) - 0 ≡ byteCount (s .width) = omega (arith, sized a .1) in
+    let size : 4 * (a .area .result) - 0 ≡ coefficientCount (s .width) = omega (arith, sized a .1) in
     let copied = c .before .copy-places .ensures ∙ ap (λ (k : ℕ). take k l) size in
     list-held (s .width) (s .codes .now) (s .out .now) (sized a .0) (exact (e .before .before)) (codes-valid e) _ l _ copied (w .answer) (w .end)
 

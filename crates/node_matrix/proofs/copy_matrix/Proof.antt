@@ -38,7 +38,9 @@ copy-matrix-spec =
     (λ c κs. search needs)
     (λ c. omega (arith, area-le _ (c .before .pre .0), c .area .ensures))
     (λ c. copied-none _ _)
+    (λ c. search needs)
     shared-slice-copy-out-to
+    (λ c. search needs)
     slice-set-from-to
     (λ c. search needs)
     (λ c. search needs)

@@ -1,5 +1,6 @@
 -- The demands hold of what the public entries answer. Assumes nothing.
 use Rattle.walk.proofs.Meaning.{find-rule}
+use Rattle.walk.proofs.Fitting.{fitting}
 use Rattle.tables.proofs.Demand2.{demand-2}
 use Rattle.tables.proofs.Demand3.{demand, beside}
 use Rattle.tables.proofs.FindWrite.{find-write}
@@ -18,4 +19,5 @@ demands = record {
   beside = beside;
   rule = find-rule;
   answers = answer-rule;
+  fitting = fitting;
 }

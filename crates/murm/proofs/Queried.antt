@@ -27,7 +27,7 @@ use Rattle.tables.proofs.Coefficients.{coefficient-count}
 use Rattle.murm.proofs.Answers.{query-allowed}
 use Rattle.tables.proofs.Demand2.{accepted-formed, accepted-lowest}
 
--- a coefficient within the limit is not -128
+-- a coefficient within the limit is not -32768
 not-below : (x : ℤ) → natAbs x ≤ limit → eqZ x (negsuc limit) ≡ false
 not-below (pos n) h = refl
 not-below (negsuc n) h = ne-eqb n limit (omega (arith, h))

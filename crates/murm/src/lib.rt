@@ -105,14 +105,14 @@ pub fn library_circuit_matrix(width: u32, codes: &[u32], out: &mut [Coefficient]
     }
 }
 
-// Whether a coefficient is -128.
+// Whether a coefficient is -32768.
 fn past_limit(x: Coefficient) -> bool
     ensures { λ r. ⌜ PastLimit x r ⌝ }
 {
     (x as Wide) < -LIMIT
 }
 
-// Row 10: whether no coefficient is -128. There is no early return: this loop is many times faster without one.
+// Row 10: whether no coefficient is -32768. There is no early return: this loop is many times faster without one.
 fn in_range(entries: &[Coefficient]) -> bool
     ensures { λ r. ⌜ InRange (now (entries .entry)) r ⌝ }
 {

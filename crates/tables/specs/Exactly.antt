@@ -94,7 +94,7 @@ pub data BadRecord (t : Table) : Type 0 where
   bad-limits : (r p : ℕ) → First r p (limitCauses (t .limits)) → BadRecord t
   bad-count : (w : ℕ) → 0 < w → w ≤ t .limits .qubits → (widthAt t w .count ≡ 0) ⊎ (t .limits .entries < widthAt t w .count) → BadRecord t
 
--- one of the coefficients is -128, one below the limit's negative
+-- one of the coefficients is -32768, one below the limit's negative
 pub record Below (numbers : List ℤ) : Type 0 where
   pub place : ℕ
   pub inside : place < length numbers

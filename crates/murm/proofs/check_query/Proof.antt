@@ -44,7 +44,7 @@ returns-3 c = record {
   small = λ e. absurd (omega (arith, e));
 }
 
--- no coefficient is -128
+-- no coefficient is -32768
 ranged : (c : tie.Else3) → let s = c .before .before .before .before .before .args in InRange (s .entries .now) true
 ranged c = subst (λ (b : Bool). InRange (c .before .before .before .before .before .args .entries .now) b) (not-false _ (c .if3 .left)) (c .before .in-range .ensures)
 

@@ -145,8 +145,8 @@ fn check_query(width: u32, exponent: u16, entries: &[Coefficient]) -> Check
         return Check::Refused(Refusal::WidthTooLarge);
     }
     let n = width as usize;
-    let size = 4 * places::area(n);
-    if entries.len() != size {
+    let count = 4 * places::area(n);
+    if entries.len() != count {
         return Check::Refused(Refusal::LengthNotExact);
     }
     if !in_range(entries) {

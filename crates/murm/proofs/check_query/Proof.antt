@@ -21,8 +21,8 @@ use Rattle.murm.proofs.check_query.Tie as tie
 sized : (c : tie.After-area) → (c .before .before .args .width ≤ 5) × (4 * (c .area .result) ≡ coefficientCount (c .before .before .args .width))
 sized c = (omega (arith, c .before .if1 .left), ap (λ (k : ℕ). 4 * k) (c .area .ensures) ∙ sym (coefficient-count _))
 
-mul-size : tie.Need-mul-size
-mul-size c = record { fits = omega (arith, c .area .ensures, area-le (c .before .before .args .width) (sized c .0)) }
+mul-count : tie.Need-mul-count
+mul-count c = record { fits = omega (arith, c .area .ensures, area-le (c .before .before .args .width) (sized c .0)) }
 
 -- the lent coefficients are as many as the matrix has
 exact : (c : tie.Else2) → let s = c .before .before .before .args in length (s .entries .now) ≡ coefficientCount (s .width)
@@ -77,7 +77,7 @@ check-query-spec =
     (tie.spec
     returns
     (λ c κs. search needs)
-    mul-size
+    mul-count
     returns-2
     (λ c κs. search needs)
     returns-3

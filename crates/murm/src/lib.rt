@@ -95,7 +95,8 @@ pub fn library_circuit_matrix(width: u32, codes: &[u32], out: &mut [Coefficient]
     if i < codes.len() {
         return Listed::Refused(Refusal::NotValid(i));
     }
-    let mut data = matrix::identity_data(n);
+    let mut data: [Coefficient; 4096] = [0; 4096];
+    matrix::put_identity(&mut data, n);
     match lists::apply_gates(&mut data, n, codes) {
         Walked::Fits(k) => {
             copy_places(out, &data[0..size]);

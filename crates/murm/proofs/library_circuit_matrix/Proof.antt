@@ -1,6 +1,6 @@
 -- `library_circuit_matrix` meets its contract: each test that was passed decides its row of the definition, and an accepted list's places
 -- are copied out.
-use mathlib.Core.Path.{_≡_, sym, ap, _∙_}
+use mathlib.Core.Path.{_≡_, refl, sym, ap, _∙_}
 use Prim.Native.Nat.{ℕ, _*_, _-_, _≤_}
 use native.Mathlib.Omega.{arith}
 use lib.ListN.{length, take}
@@ -47,18 +47,18 @@ codes-valid c = omega (arith, c .before .first-invalid .ensures, c .if3 .left)
 
 apply-gates-requires : tie.Need-apply-gates-requires
 apply-gates-requires c κs =
-    let e = c .before .before in
-    (sized (e .before .before .before) .0, (all-valid _ _ (codes-valid e), c .before .identity-data .ensures .0))
+    let e = c .before .before .before in
+    (sized (e .before .before .before) .0, (all-valid _ _ (codes-valid e), c .before .put-identity .ensures .0))
 
 part-copy-places-end : tie.Need-part-copy-places-end
 part-copy-places-end c =
     let w = ended-at (c .before .before .before .k .given .1) (c .before .before .before .before .before .apply-gates .ensures .0) in
-    let a = c .before .before .before .before .before .before .before .before .before .before .before in
+    let a = c .before .before .before .before .before .before .before .before .before .before .before .before in
     omega (arith, w .end .long, a .area .ensures, area-le (a .before .before .before .args .width) (sized a .0))
 
 returns-4 : tie.Need-returns-4
 returns-4 c =
-    let e = c .before .before .before .before .before .before .before .before .before .before .before in
+    let e = c .before .before .before .before .before .before .before .before .before .before .before .before in
     let s = e .before .before .before .before .before .before .args in
     let w = ended-at (c .before .before .before .before .before .before .k .given .1) (c .before .before .before .before .before .before .before .before .apply-gates .ensures .0) in
     let l = c .before .before .before .before .before .before .before .before .apply-gates .last .0 in
@@ -69,9 +69,9 @@ returns-4 c =
 
 returns-5 : tie.Need-returns-5
 returns-5 c =
-    let s = c .before .before .before .before .before .before .before .before .before .before .before .before .args in
+    let s = c .before .before .before .before .before .before .before .before .before .before .before .before .before .args in
     let w = ended-at (c .before .j .given .1) (c .before .before .before .apply-gates .ensures .0) in
-    let e = c .before .before .before .before .before .before in
+    let e = c .before .before .before .before .before .before .before in
     list-8 (s .width) (s .codes .now) (s .out .now) (sized (e .before .before .before) .0) (exact (e .before .before)) (codes-valid e) _ (w .answer)
 
 pub library-circuit-matrix-spec : {M : Type 1} → statement M
@@ -84,7 +84,7 @@ library-circuit-matrix-spec =
     returns-2
     (λ c κs. search needs)
     returns-3
-    (λ c κs. search needs)
+    (λ c κs. (refl, sized (c .before .before .before .before) .0))
     apply-gates-requires
     (λ c. search needs)
     (λ c. search needs)

@@ -7,7 +7,7 @@
    - The array `out` overlaps no other array. The others are only read, and may overlap each other.
    - No other thread writes to an array during the call, or reads `out`.
    Nothing else is asked: every width, limit, count, code and coefficient is either answered or refused. No pointer is kept after the call, no memory
-   is taken, and calls in several threads do not disturb each other. A call takes up to 28 kB of stack, as measured.
+   is taken, and calls in several threads do not disturb each other. A call takes up to 20 kB of stack, as measured.
 
    What is returned, in both functions: one number r (14.2).
    - MURM_REFUSAL(r) is not 0: the call is refused by that number. MURM_POSITION(r) is the position, 0 except for 7 and 8; a position above

@@ -77,7 +77,10 @@ mod lists {
         for width in 1..=MAX_WIDTH {
             let exact = coefficient_count(width).unwrap();
             assert_eq!(refused(width, &codes, exact), Refusal::DoesNotFit(116));
-            assert_eq!(refused(width, &codes[..117], exact), Refusal::DoesNotFit(116));
+            assert_eq!(
+                refused(width, &codes[..117], exact),
+                Refusal::DoesNotFit(116)
+            );
             let mut out = vec![NUMBER; exact];
             assert!(library_circuit_matrix(width, &codes[..116], &mut out).is_ok());
             assert!(out.iter().any(|&place| place != NUMBER));

@@ -10,11 +10,12 @@ use super::codes::{FURTHER, kinds, list_codes_of};
 use super::edges;
 use super::further;
 use super::inputs::{MOST_GATES, TRAP, evenly, foreign_codes, list, valid_codes};
+use super::lent::Mode;
 use super::lists::{List, MOST_WIDTH};
 use super::random::Random;
 use super::run_queries::{Asker, trapped};
 use super::table_inputs::{bases, basis};
-use super::tables::Limits;
+use super::tables::{Built, Limits};
 
 /// The input of one run.
 type Run = Vec<u8>;
@@ -400,7 +401,7 @@ fn asked_as(limits: [u32; 4], seed: u64, queries: usize, further: bool) -> Run {
     let limits = Limits::of(limits);
     let mut asker = Asker {
         limits,
-        table: limits.build(),
+        table: Built::of(limits, Mode::ByPrint).table,
         random: Random::new(seed),
         further,
     };

@@ -3,16 +3,18 @@
 use super::codes::{code_of, valid_gates};
 use super::further;
 use super::inputs::{TRAP, foreign_codes, list};
+use super::lent::Table;
 use super::lists::{List, MOST_WIDTH};
 use super::random::Random;
+use super::rules::written;
 use super::tables::Limits;
 use crate::circuit::GateSet;
-use crate::super_opt::murm::{LibraryGate as Gate, Murm, library_gates};
+use crate::super_opt::murm::{LibraryGate as Gate, library_gates};
 
 /// A table at hand, and what its queries are chosen by.
 pub(super) struct Asker {
     pub(super) limits: Limits,
-    pub(super) table: Murm,
+    pub(super) table: Table,
     pub(super) random: Random,
     /// Whether every second query may have the six kinds that no table has.
     pub(super) further: bool,
@@ -80,16 +82,13 @@ impl Asker {
     /// The list of a node, the last or any.
     fn node(&mut self) -> List {
         let width = self.width();
-        let table = self.table.width(width).0;
-        let count = table.len();
+        let count = self.table.count(width);
         let node = match self.random.below(4) {
             0 => count - 1,
             _ => self.random.below(count),
         };
-        list(
-            width,
-            table.circuit(node).into_iter().map(code_of).collect(),
-        )
+        let codes = written(&self.table, width as u32, node);
+        list(width, codes.expect("a table as it was built"))
     }
 
     /// The list of a node with gates in it that cancel, of any kinds.

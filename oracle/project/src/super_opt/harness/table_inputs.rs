@@ -6,9 +6,10 @@ use std::io::{self, Write};
 
 use super::codes::FURTHER;
 use super::inputs::evenly;
+use super::lent::Mode;
 use super::questions::{Asker, finds};
 use super::random::Random;
-use super::tables::{Limits, PLACES};
+use super::tables::{Built, Limits, PLACES};
 
 /// How much is asked after a table.
 #[derive(Clone, Copy)]
@@ -121,7 +122,7 @@ fn questions(limits: Limits, asked: Asked, random: Random) -> [Vec<String>; 4] {
     }
     let mut asker = Asker {
         limits,
-        table: limits.build(),
+        table: Built::of(limits, Mode::ByPrint).table,
         random,
     };
     let matrices = match asked {

@@ -21,6 +21,8 @@ mod edges;
 // Much of what is written from the documents alone is for the port's archives.
 #[cfg_attr(not(feature = "port"), allow(dead_code))]
 mod exact;
+mod far;
+mod far_edges;
 mod further;
 mod further_edges;
 mod gates;
@@ -68,6 +70,7 @@ const MODES: &[(&str, Mode)] = &[
     #[cfg(feature = "port")]
     ("index", indexed::run),
     ("circuits", circuits::run),
+    ("edges", far_edges::run),
     ("gates", gates::run),
     ("inputs", inputs::run),
     ("lines", lines::run),

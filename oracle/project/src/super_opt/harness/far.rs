@@ -50,10 +50,16 @@ pub(super) fn sample() -> Vec<List> {
         traps(),
         narrow(roots(), 2),
         evenly(narrow(random(), 2), 12),
-        evenly(narrow(returning(), 3), 12),
+        some_returning(),
         some_edges(),
     ]
     .concat()
+}
+
+pub(super) fn some_returning() -> Vec<List> {
+    let mut lists = returning();
+    lists.retain(|list| list.width <= 3);
+    evenly(lists, 12)
 }
 
 /// For each part and edge at the widths 1 and 2 the first list found, without its last
@@ -136,13 +142,27 @@ fn returning() -> Vec<List> {
     lists
 }
 
-/// A list of H, T and Tdg and some other gates of tables, its inverse, and up to three
-/// gates. In most of them coefficients pass 127 before they shrink again.
+/// A list, its inverse, and up to three gates.
 pub(super) fn returning_codes(width: usize, random: &mut Random) -> Vec<u32> {
-    let others: Vec<u32> = list_codes(width)
-        .into_iter()
-        .filter(|code| code / 4096 < 12)
-        .collect();
+    let mut codes = there_and_back(width, random);
+    let others = of_tables(width);
+    for _ in 0..random.below(4) {
+        codes.push(random.one_of(&others));
+    }
+    codes
+}
+
+/// The codes of the eleven kinds.
+fn of_tables(width: usize) -> Vec<u32> {
+    let mut codes = list_codes(width);
+    codes.retain(|code| code / 4096 < 12);
+    codes
+}
+
+/// A list of H, T and Tdg and some other gates of tables, and its inverse. In most of
+/// them coefficients pass 127 before they shrink again.
+pub(super) fn there_and_back(width: usize, random: &mut Random) -> Vec<u32> {
+    let others = of_tables(width);
     let mut codes = Vec::new();
     let count = 30 + random.below(90);
     while codes.len() < count {
@@ -155,9 +175,6 @@ pub(super) fn returning_codes(width: usize, random: &mut Random) -> Vec<u32> {
     }
     let mut back = inverse(&codes);
     codes.append(&mut back);
-    for _ in 0..random.below(4) {
-        codes.push(random.one_of(&others));
-    }
     codes
 }
 

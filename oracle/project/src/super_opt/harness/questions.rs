@@ -4,6 +4,7 @@
 
 use super::codes::{code_of, valid_gates};
 use super::exact::{LIMIT, Matrix, turned};
+use super::further::growing_codes_of;
 use super::inputs::list;
 use super::lent::Table;
 use super::lists::MOST_WIDTH;
@@ -83,7 +84,26 @@ const SORTS: &[Sort] = &[
     Asker::between,
 ];
 
+/// Every sort of question about coefficients past 127, each a few lines.
+const FAR_SORTS: &[Sort] = &[
+    Asker::past_byte,
+    Asker::same_low_byte,
+    Asker::widest,
+    Asker::far_product,
+    Asker::far_divisible,
+    Asker::limit_and_past,
+];
+
 impl Asker {
+    /// Questions about coefficients past 127: each sort once, or some.
+    pub(super) fn far(&mut self, all: bool) -> Vec<String> {
+        if all {
+            return FAR_SORTS.iter().flat_map(|sort| sort(self)).collect();
+        }
+        let sort = self.random.one_of(FAR_SORTS);
+        sort(self)
+    }
+
     /// Each sort once, and nodes of every width.
     pub(super) fn all(&mut self) -> Vec<String> {
         let mut lines: Vec<String> = SORTS.iter().flat_map(|sort| sort(self)).collect();
@@ -286,6 +306,70 @@ impl Asker {
         let place = self.random.below(question.coefficients.len());
         question.coefficients[place] = i16::MIN;
         vec![question.line()]
+    }
+
+    /// One coefficient of a node's matrix is past 127, or is -128.
+    fn past_byte(&mut self) -> Vec<String> {
+        let mut question = self.any_node();
+        let place = self.random.below(question.coefficients.len());
+        let past = [-128, 128, -129, 129, 255, -255, 256, 32766, 32767, -32767];
+        question.coefficients[place] = self.random.one_of(&past);
+        let first = question.line();
+        question.coefficients[place] = -128;
+        vec![first, question.line()]
+    }
+
+    /// A node's matrix with some coefficients changed by multiples of 256.
+    fn same_low_byte(&mut self) -> Vec<String> {
+        let mut question = self.any_node();
+        for _ in 0..1 + self.random.below(3) {
+            let place = self.random.below(question.coefficients.len());
+            question.coefficients[place] += self.random.one_of(&[256, -256, 512, 4096, -8192]);
+        }
+        vec![question.line()]
+    }
+
+    fn widest(&mut self) -> Vec<String> {
+        let exponent = self.random.below(65536) as u16;
+        vec![self.noise(exponent, 32767)]
+    }
+
+    /// The product of a list that lets coefficients grow, up to its first gate that
+    /// does not fit.
+    fn far_product(&mut self) -> Vec<String> {
+        let width = self.width();
+        let count = 60 + self.random.below(60);
+        let codes = growing_codes_of(width, count, &mut self.random);
+        let matrix = Matrix::of_list(width as u32, &codes, LIMIT);
+        let matrix = matrix.unwrap_or_else(|(_, before)| before);
+        vec![self.turned(matrix).line()]
+    }
+
+    /// Large coefficients that are all even, over sqrt(2) and over 1.
+    fn far_divisible(&mut self) -> Vec<String> {
+        let width = self.width();
+        let coefficients: Vec<i16> = (0..4 << (2 * width))
+            .map(|_| 2 * (self.random.below(32767) as i16 - 16383))
+            .collect();
+        let exponent = 1 + self.random.below(65535) as u16;
+        let over = |exponent| line(width as u32, exponent, coefficients.clone());
+        vec![over(exponent), over(0)]
+    }
+
+    /// -32768 beside 32767 and -32767; and where all entries are divisible, so that it
+    /// would be refused by 11 after that.
+    fn limit_and_past(&mut self) -> Vec<String> {
+        let width = self.width();
+        let mut ends: Vec<i16> = (0..4 << (2 * width))
+            .map(|_| self.random.one_of(&[32767, -32767]))
+            .collect();
+        let within = line(width as u32, 0, ends.clone());
+        let divisible = line(width as u32, 3, ends.clone());
+        let place = self.random.below(ends.len());
+        ends[place] = i16::MIN;
+        let past = line(width as u32, 0, ends);
+        let even = vec![i16::MIN; 4 << (2 * width)];
+        vec![within, divisible, past, line(width as u32, 1, even)]
     }
 
     /// Too few places, or too many, or none.

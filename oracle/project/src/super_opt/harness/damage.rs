@@ -171,6 +171,8 @@ pub(super) fn questions(table: &Table) -> Vec<Asked> {
         low[4 * size - 4] += 256;
         all.push(Asked::new(width, 0, low));
         all.push(Asked::new(width, 0, vec![i16::MIN; 4 * size - 1]));
+        all.push(Asked::new(width, 0, vec![0; 8 * size]));
+        all.push(Asked::new(width, 0, vec![0; 2 * size]));
         all.push(Asked::new(width, 0, Vec::new()));
     }
     all.push(asked(&Matrix::identity(0), 0));

@@ -4,22 +4,20 @@
 //! the index must be what `rules` makes of the table, place by place, and what a fill
 //! leaves. The scan must say the same and leave the index. Lines that name no table and
 //! ask for no matrix are passed over. With the word `runs` the tables are those of runs,
-//! as for the mode `circuits`: the first line of each. With the word `far` they are
-//! some in which the original overflows, and nothing is read.
+//! as for the mode `circuits`: the first line of each.
 
 use std::io::{self, BufRead, Read, Write};
 use std::panic::catch_unwind;
 
 use super::circuits::first_run;
 use super::indexes::{same, sizes, used};
-use super::exact::{LIMIT, Matrix, ORIGINAL_LIMIT, most};
 use super::lent::{By, Finding, Lookup, Mode, Reply, Table};
 use super::lines::question;
 use super::lists::guarded;
 use super::measure::Measure;
 use super::port;
 use super::random::Random;
-use super::rules::{fill, written};
+use super::rules::fill;
 use super::tables::{Built, Limits, PLACES, Question, counted};
 
 /// What the lent arrays held.
@@ -28,18 +26,6 @@ const NUMBER: u32 = 0x5a5a_5a5a;
 
 /// The places of a lent list.
 const ROOM: usize = 64;
-
-/// Q, G, E and B of tables that have nodes past 127, and candidates at which the
-/// original overflows. The port's test program has no places for them. By the scan they
-/// would take too long.
-const FAR: [[u32; 4]; 3] = [
-    [1, 64, 400_000, 33],
-    [1, 38, 1_000_000, 33],
-    [1, 64, 400_000, 65],
-];
-
-/// Every so many nodes of a width of such a table are asked.
-const FAR_STEP: usize = 97;
 
 /// A table that both built, with an index for each size of its parts.
 struct Both {
@@ -101,8 +87,7 @@ pub(super) fn run(arguments: &[String], out: &mut dyn Write) -> io::Result<()> {
     match words[..] {
         [] => lines(out),
         ["runs"] => runs(out),
-        ["far"] => far(out),
-        _ => Err(io::Error::other("usage: oracle index [runs|far]")),
+        _ => Err(io::Error::other("usage: oracle index [runs]")),
     }
 }
 
@@ -333,67 +318,6 @@ fn told(built: &Table, counts: &mut Counts) -> Table {
         counts.nodes += count;
     }
     table
-}
-
-/// Tables in which the original overflows, built by the port through an index in each
-/// mode, and asked the products of some of their nodes and others, with the answers of
-/// the second reading.
-fn far(out: &mut dyn Write) -> io::Result<()> {
-    let mut counts = Counts::default();
-    let mut past = 0;
-    for limits in FAR.map(Limits::of) {
-        let name = limits.line();
-        let original = Built::of(limits, Mode::ByPrint);
-        if original.measure != Measure::Second {
-            counts.differ(format!("{name}: the original does not overflow"));
-        }
-        counts.tables += 1;
-        counts.second_tables += 1;
-        let expected = told(&original.table, &mut counts);
-        let length = limits.qubits as usize * sizes(limits.entries)[0];
-        let mut indexes = Vec::new();
-        for mode in Mode::BOTH {
-            let mut index = vec![NUMBER; length];
-            let mut table = lent(limits, expected.fingerprints.len());
-            let number = table.build_by(mode, By::Index, &mut index);
-            counts.check(number == 0 && same(&table, &expected), || {
-                format!("{name} {mode:?}: {number}")
-            });
-            counts.check(fill(&table, length).as_ref() == Ok(&index), || {
-                format!("{name} {mode:?}: the index")
-            });
-            let mut filled = vec![NUMBER; length];
-            let number = table.fill(&mut filled);
-            counts.check(number == 0 && filled == index, || {
-                format!("{name} {mode:?}: a fill: {number}")
-            });
-            counts.indexes += 1;
-            counts.places += length;
-            indexes.push(index);
-        }
-        let both = Both {
-            original,
-            port: expected,
-            indexes,
-        };
-        for node in (0..both.port.count(1)).rev().step_by(FAR_STEP) {
-            let codes = written(&both.port, 1, node).expect("a table as it was built");
-            // A node's, and what the table may not have.
-            for codes in [&codes[..], &[&codes[..], &[0, 20480, 0]].concat()] {
-                let matrix = Matrix::of_list(1, codes, LIMIT).expect("a short list fits");
-                past += usize::from(most(&matrix.entries) > ORIGINAL_LIMIT);
-                let question = Question {
-                    width: 1,
-                    exponent: matrix.exponent as u16,
-                    coefficients: matrix.coefficients(),
-                };
-                ask(&both, &question, Question::answer, answer, &mut counts);
-                ask(&both, &question, Question::found, find, &mut counts);
-            }
-        }
-    }
-    writeln!(out, "{past} matrices past 127")?;
-    counts.report(out)
 }
 
 /// Asks what is the measure once, and the port through each index and by the scan.

@@ -92,6 +92,7 @@ const FAR_SORTS: &[Sort] = &[
     Asker::far_product,
     Asker::far_divisible,
     Asker::limit_and_past,
+    Asker::counted_in_bytes,
 ];
 
 impl Asker {
@@ -370,6 +371,16 @@ impl Asker {
         let past = line(width as u32, 0, ends);
         let even = vec![i16::MIN; 4 << (2 * width)];
         vec![within, divisible, past, line(width as u32, 1, even)]
+    }
+
+    /// Twice as many places, or half as many.
+    fn counted_in_bytes(&mut self) -> Vec<String> {
+        let mut question = self.any_node();
+        let length = question.coefficients.len();
+        let most = 4 << (2 * MOST_WIDTH);
+        let length = self.random.one_of(&[2 * length, length / 2]).min(most + 1);
+        question.coefficients.resize(length, 0);
+        vec![question.line()]
     }
 
     /// Too few places, or too many, or none.

@@ -6,6 +6,7 @@ use super::edges::Edge;
 use super::exact::{LIMIT, Matrix, most};
 use super::far_edges;
 use super::further::growing_codes_of;
+use super::further_edges::Found;
 use super::inputs::{MOST_GATES, TRAP, evenly, list};
 use super::lists::List;
 use super::random::Random;
@@ -63,15 +64,16 @@ pub(super) fn some_returning() -> Vec<List> {
 }
 
 /// For each part and edge at the widths 1 and 2 the first list found, without its last
-/// gate and with it; and one that fits and one that does not at the others.
+/// gate and with it; at the others one that fits, and the first of each that does not.
 pub(super) fn some_edges() -> Vec<List> {
     let mut lists = Vec::new();
     for width in 1..=5 {
-        let mut found = far_edges::firsts(width);
+        let found = far_edges::firsts(width);
         if width > 2 {
-            found.retain(|one| matches!(one.edge, Edge::Reaches | Edge::Passes));
-            found.truncate(2);
-            lists.extend(found.iter().flat_map(|one| one.ends().pop()));
+            let fits = |one: &&Found| matches!(one.edge, Edge::Reaches | Edge::ReachesBelow);
+            let (fit, others): (Vec<&Found>, Vec<&Found>) = found.iter().partition(fits);
+            let taken = fit.into_iter().take(1).chain(others);
+            lists.extend(taken.flat_map(|one| one.ends().pop()));
         } else {
             lists.extend(found.iter().flat_map(|one| one.ends()));
         }

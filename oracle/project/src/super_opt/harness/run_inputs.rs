@@ -527,7 +527,7 @@ fn far_queries() -> Vec<Run> {
     let mut lines: Vec<String> = far::some_edges().iter().map(List::numbers).collect();
     lines.extend(far::some_returning().iter().map(List::numbers));
     lines
-        .chunks(15)
+        .chunks(8)
         .enumerate()
         .map(|(number, lines)| {
             let qubits = 1 + number as u32 % 3;

@@ -7,8 +7,8 @@ use std::io::{self, Write};
 
 use super::bench::race;
 use super::indexes::sizes;
-use super::lists::Parts;
 use super::lent::{By, Lookup, Mode, Reply, Table};
+use super::lists::Parts;
 use super::random::Random;
 use super::tables::{Limits, nodes_of};
 use crate::circuit::GateSet;

@@ -4,8 +4,8 @@
 //! the scan, through an index that is filled from it, and through altered ones.
 
 use super::damage::{MOST, TABLES, asked, limits_of, listed};
-use super::indexes::{WIDE, built, sizes, used};
 use super::exact::{LIMIT, Matrix, ORIGINAL_LIMIT, gate};
+use super::indexes::{WIDE, built, sizes, used};
 use super::lent::{Finding, Reply, Table, through};
 use super::random::Random;
 use super::rules::{Asked, EMPTY, part_size, probe, written};
@@ -628,7 +628,12 @@ fn passes_127(width: u32, asker: &mut Asker) {
         asker.tally.new_questions();
         for power in 0..8 {
             let found = asker.ask(&table, power, &asked(&matrix, power));
-            asker.expect(&table, "a product past 127", &found, &Finding::Node(end, end));
+            asker.expect(
+                &table,
+                "a product past 127",
+                &found,
+                &Finding::Node(end, end),
+            );
         }
         table.fingerprints[start + 3] = matrix.fingerprint();
         let found = asker.ask(&table, 0, &asked(&matrix, 0));

@@ -9,10 +9,10 @@ use std::io::{self, Write};
 
 use super::altered::{Place, places, values};
 use super::clashes;
-use super::indexes;
-use super::orders;
 use super::exact::{LIMIT, Matrix, times_root, turned};
+use super::indexes;
 use super::lent::{By, Finding, Reply, Table};
+use super::orders;
 use super::random::Random;
 use super::rules::{Asked, written};
 use super::tables::Limits;

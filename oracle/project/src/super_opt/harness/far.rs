@@ -31,14 +31,7 @@ const RETURNING: [usize; 5] = [200, 200, 200, 100, 50];
 
 /// All lists of every sort.
 pub(super) fn lists() -> Vec<List> {
-    [
-        traps(),
-        roots(),
-        random(),
-        returning(),
-        far_edges::lists(),
-    ]
-    .concat()
+    [traps(), roots(), random(), returning(), far_edges::lists()].concat()
 }
 
 /// Some lists of every sort, few of them wide, whose matrices are long.
@@ -91,7 +84,10 @@ fn traps() -> Vec<List> {
     lists.push(list(1, [&FAR_TRAP[..], &[20480]].concat()));
     lists.push(list(1, [&FAR_TRAP[..], &[7 * 4096]].concat()));
     lists.push(list(1, [&TRAP[..], &inverse(&TRAP)].concat()));
-    lists.push(list(1, [&FAR_TRAP[..100], &inverse(&FAR_TRAP[..100])].concat()));
+    lists.push(list(
+        1,
+        [&FAR_TRAP[..100], &inverse(&FAR_TRAP[..100])].concat(),
+    ));
     lists
 }
 

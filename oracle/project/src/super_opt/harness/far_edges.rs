@@ -93,7 +93,9 @@ pub(super) fn lists() -> Vec<List> {
 /// For each part and edge the first list found at a width.
 pub(super) fn firsts(width: usize) -> Vec<Found> {
     let found = found(width);
-    let sorts = PARTS.into_iter().flat_map(|part| EDGES.map(|edge| (part, edge)));
+    let sorts = PARTS
+        .into_iter()
+        .flat_map(|part| EDGES.map(|edge| (part, edge)));
     sorts
         .filter_map(|sort| found.iter().find(|one| (one.part, one.edge) == sort))
         .cloned()

@@ -186,8 +186,7 @@ fn look_at_sx(matrix: &Matrix, code: u32, limit: i64) -> Option<(Cause, Edge)> {
 fn look_at_ch(matrix: &Matrix, code: u32, limit: i64) -> Option<(Cause, Edge)> {
     let (active, inactive) = parted(&matrix.raw(code), code);
     let in_active = sole_edge(&active, &inactive, limit).map(|edge| (Cause::ChActive, edge));
-    let in_inactive =
-        || sole_edge(&inactive, &active, limit).map(|edge| (Cause::ChInactive, edge));
+    let in_inactive = || sole_edge(&inactive, &active, limit).map(|edge| (Cause::ChInactive, edge));
     in_active.or_else(in_inactive)
 }
 
@@ -195,12 +194,8 @@ fn look_at_ch(matrix: &Matrix, code: u32, limit: i64) -> Option<(Cause, Edge)> {
 /// forms, do not come so far.
 fn sole_edge(raw: &[Entry], others: &[Entry], limit: i64) -> Option<Edge> {
     match edge_of(raw, limit) {
-        Some(edge @ (Edge::Reaches | Edge::ReachesBelow)) => {
-            (most(others) < limit).then_some(edge)
-        }
-        Some(edge @ (Edge::Passes | Edge::PassesBelow)) => {
-            (most(others) <= limit).then_some(edge)
-        }
+        Some(edge @ (Edge::Reaches | Edge::ReachesBelow)) => (most(others) < limit).then_some(edge),
+        Some(edge @ (Edge::Passes | Edge::PassesBelow)) => (most(others) <= limit).then_some(edge),
         _ if most(raw) > limit && most(others) <= limit => {
             let mut lowered = [raw, others].concat();
             while most(&lowered) > limit && lowered.iter().all(divisible) {

@@ -153,7 +153,10 @@ pub(super) fn number(word: &str) -> Option<u32> {
 
 fn answer(list: &List) -> (Measure, String) {
     let (measure, matrix) = list.judged();
-    (measure, matrix.map_or_else(|refusal| refusal, |matrix| told(&matrix)))
+    (
+        measure,
+        matrix.map_or_else(|refusal| refusal, |matrix| told(&matrix)),
+    )
 }
 
 /// The exponent, the fingerprint and the coefficients, row by row.

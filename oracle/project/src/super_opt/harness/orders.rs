@@ -2,8 +2,8 @@
 //! order of the operation is told; without any there is a list.
 
 use super::damage::{MOST, TABLES, built, lent, limits_of, listed};
-use super::indexes::{sizes, used};
 use super::exact::times_root;
+use super::indexes::{sizes, used};
 use super::lent::{By, Finding, Lookup, Mode, Reply, Table};
 use super::random::Random;
 use super::rules::{Asked, fill, written};

@@ -319,7 +319,13 @@ impl Table {
     }
 
     /// The node that answers a matrix.
-    pub(super) fn find(&self, lookup: Lookup, width: u32, exponent: u16, matrix: &[i16]) -> Finding {
+    pub(super) fn find(
+        &self,
+        lookup: Lookup,
+        width: u32,
+        exponent: u16,
+        matrix: &[i16],
+    ) -> Finding {
         let Lookup { by, index } = lookup;
         let told = over!(
             bench_find,

@@ -126,8 +126,7 @@ fn cause_at(matrix: &Matrix, code: u32, limit: i64) -> Cause {
 pub(super) fn parted(raw: &Matrix, code: u32) -> (Vec<[i64; 4]>, Vec<[i64; 4]>) {
     let control = 1 << (raw.width - 1 - code / 256 % 16);
     let active = |&place: &usize| (place >> raw.width) & control != 0;
-    let (active, inactive): (Vec<usize>, Vec<usize>) =
-        (0..raw.entries.len()).partition(active);
+    let (active, inactive): (Vec<usize>, Vec<usize>) = (0..raw.entries.len()).partition(active);
     let entries = |places: Vec<usize>| places.into_iter().map(|place| raw.entries[place]);
     (entries(active).collect(), entries(inactive).collect())
 }

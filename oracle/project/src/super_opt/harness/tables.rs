@@ -309,7 +309,9 @@ impl Question {
             return Verdict::None(print);
         };
         let codes: Vec<u32> = gates.iter().map(code_of_gate).collect();
-        let nodes = built.original_nodes(self.width).expect("a width with a list");
+        let nodes = built
+            .original_nodes(self.width)
+            .expect("a width with a list");
         let prints = rules::prints_of(&built.table, self.width);
         let node = prints.iter().position(|&other| other == print);
         let node = node.expect("a list has a node");

@@ -7,8 +7,8 @@ use std::io::{self, Write};
 use super::exact::gives;
 use super::lent::{By, Finding, Lookup, Mode, Reply, SCAN, Table};
 use super::rules::{
-    Asked, Bad, EMPTY, Verdict, asked_refused, bad_record, decide, fill, find, part_of,
-    prints_of, probe, verdicts, write, written,
+    Asked, Bad, EMPTY, Verdict, asked_refused, bad_record, decide, fill, find, part_of, prints_of,
+    probe, verdicts, write, written,
 };
 use super::walks::{self, Manner};
 

@@ -7,8 +7,8 @@
 use std::io::{self, Write};
 
 use super::damage::limits_of;
-use super::indexes::{same, sizes};
 use super::exact::{LIMIT, Matrix};
+use super::indexes::{same, sizes};
 use super::lent::{Finding, Lookup, Mode, SCAN, Table, through};
 use super::rules::{EMPTY, Verdict, search, verdicts, written};
 use super::tables::Limits;
@@ -184,7 +184,8 @@ fn each_once(table: &Table, width: u32, layers: &[Vec<Matrix>]) -> Result<(), St
         .collect();
     for node in 0..count {
         let list = written(table, width, node).ok_or("a bad chain")?;
-        let product = Matrix::of_list(width, &list, LIMIT).map_err(|_| "a node that does not fit")?;
+        let product =
+            Matrix::of_list(width, &list, LIMIT).map_err(|_| "a node that does not fit")?;
         let layer = layers.get(list.len()).ok_or("a node that is too deep")?;
         let same = |place: &usize| layer[*place].is_power_of_omega_times(&product);
         let place = (0..layer.len()).find(same).ok_or("a shorter one exists")?;

@@ -8,7 +8,7 @@
 #define CHECK(condition) check((condition), #condition, __LINE__)
 
 /* What lent places hold before a call. */
-#define BYTE 93
+#define NUMBER 9393
 #define WORD UINT32_C(305419896)
 
 static int checks, failed;
@@ -27,69 +27,73 @@ static uint64_t refused(uint32_t number, uint32_t position) {
 
 /* ---- a list becomes a matrix */
 
-static int8_t bytes[4097];
+static int16_t numbers[8193];
 
-/* What a list returns, with the first places of `bytes` lent. */
+/* What a list returns, with the first places of `numbers` lent. */
 static uint64_t list(uint32_t width, const uint32_t *codes, size_t count, size_t places) {
-    memset(bytes, BYTE, sizeof bytes);
-    return murm_library_circuit_matrix(width, codes, count, bytes, places);
+    size_t i;
+    for (i = 0; i < COUNT(numbers); i++) numbers[i] = NUMBER;
+    return murm_library_circuit_matrix(width, codes, count, numbers, places);
 }
 
 /* Whether all places from one on are as they were. */
-static int bytes_stay(size_t from) {
+static int numbers_stay(size_t from) {
     size_t i;
-    for (i = from; i < COUNT(bytes); i++)
-        if (bytes[i] != BYTE) return 0;
+    for (i = from; i < COUNT(numbers); i++)
+        if (numbers[i] != NUMBER) return 0;
     return 1;
 }
 
 static void lists(void) {
     static const uint32_t h[] = {0}, cx[] = {32784}, bad[] = {0, 999999, 999999}, high[] = {256};
-    static const int8_t of_h[] = {1, 0, 0, 0, 1, 0, 0, 0, 1, 0, 0, 0, -1, 0, 0, 0};
+    static const int16_t of_h[] = {1, 0, 0, 0, 1, 0, 0, 0, 1, 0, 0, 0, -1, 0, 0, 0};
     uint32_t growing[128], width;
     size_t i;
 
     CHECK(list(1, h, 1, 16) == 1);
-    CHECK(memcmp(bytes, of_h, sizeof of_h) == 0);
-    CHECK(bytes_stay(16));
+    CHECK(memcmp(numbers, of_h, sizeof of_h) == 0);
+    CHECK(numbers_stay(16));
 
     /* Cx exchanges rows 2 and 3. */
     CHECK(list(2, cx, 1, 64) == 0);
-    CHECK(bytes[0] == 1 && bytes[20] == 1 && bytes[44] == 1 && bytes[56] == 1);
-    CHECK(bytes[40] == 0 && bytes[60] == 0);
-    CHECK(bytes_stay(64));
+    CHECK(numbers[0] == 1 && numbers[20] == 1 && numbers[44] == 1 && numbers[56] == 1);
+    CHECK(numbers[40] == 0 && numbers[60] == 0);
+    CHECK(numbers_stay(64));
 
     /* The empty list is the identity, at every width. */
     for (width = 0; width <= 5; width++) {
         size_t rows = (size_t)1 << width, places = 4 * rows * rows;
         CHECK(list(width, h, 0, places) == 0);
         for (i = 0; i < places; i++)
-            if (bytes[i] != (i % (4 * (rows + 1)) == 0)) break;
+            if (numbers[i] != (i % (4 * (rows + 1)) == 0)) break;
         CHECK(i == places);
-        CHECK(bytes_stay(places));
+        CHECK(numbers_stay(places));
         CHECK(list(width, h, 0, places - 1) == refused(MURM_LENGTH_NOT_EXACT, 0));
-        CHECK(bytes_stay(0));
+        CHECK(numbers_stay(0));
         CHECK(list(width, h, 0, places + 1) == refused(MURM_LENGTH_NOT_EXACT, 0));
-        CHECK(bytes_stay(0));
+        CHECK(numbers_stay(0));
+        /* As many as the matrix has bytes. */
+        CHECK(list(width, h, 0, 2 * places) == refused(MURM_LENGTH_NOT_EXACT, 0));
+        CHECK(numbers_stay(0));
     }
 
-    /* Each refusal, the first of the order 6, 9, 7, 8. H and T in turns do not fit from the gate at 56 on. */
+    /* Each refusal, the first of the order 6, 9, 7, 8. H and T in turns do not fit from the gate at 116 on. */
     for (i = 0; i < COUNT(growing); i++) growing[i] = i % 2 ? 20480 : 0;
     CHECK(list(6, bad, 3, 16) == refused(MURM_WIDTH_TOO_LARGE, 0));
-    CHECK(bytes_stay(0));
+    CHECK(numbers_stay(0));
     CHECK(list(UINT32_MAX, h, 1, 0) == refused(MURM_WIDTH_TOO_LARGE, 0));
     CHECK(list(1, bad, 3, 15) == refused(MURM_LENGTH_NOT_EXACT, 0));
     CHECK(list(1, bad, 3, 16) == refused(MURM_NOT_VALID, 1));
-    CHECK(bytes_stay(0));
+    CHECK(numbers_stay(0));
     CHECK(list(1, high, 1, 16) == refused(MURM_NOT_VALID, 0));
     CHECK(list(0, h, 1, 4) == refused(MURM_NOT_VALID, 0));
-    CHECK(list(1, growing, 128, 16) == refused(MURM_DOES_NOT_FIT, 56));
-    CHECK(bytes_stay(0));
-    CHECK(MURM_REFUSAL(list(1, growing, 56, 16)) == 0);
-    growing[57] = MURM_MARK;
-    CHECK(list(1, growing, 128, 16) == refused(MURM_NOT_VALID, 57));
-    CHECK(bytes_stay(0));
-    CHECK(MURM_REFUSAL(refused(7, 57)) == 7 && MURM_POSITION(refused(7, 57)) == 57);
+    CHECK(list(1, growing, 128, 16) == refused(MURM_DOES_NOT_FIT, 116));
+    CHECK(numbers_stay(0));
+    CHECK(MURM_REFUSAL(list(1, growing, 116, 16)) == 0);
+    growing[117] = MURM_MARK;
+    CHECK(list(1, growing, 128, 16) == refused(MURM_NOT_VALID, 117));
+    CHECK(numbers_stay(0));
+    CHECK(MURM_REFUSAL(refused(7, 117)) == 7 && MURM_POSITION(refused(7, 117)) == 117);
 }
 
 /* ---- a matrix is answered */
@@ -109,7 +113,7 @@ struct call {
     size_t fingerprints_len, parents_len, codes_len;
     uint32_t width;
     uint16_t exponent;
-    int8_t matrix[17];
+    int16_t matrix[33];
     size_t matrix_len;
     uint32_t out[9];
     size_t out_len;
@@ -202,9 +206,10 @@ static void answers(void) {
     AFTER(c.parents_len = 3, refused(MURM_ARRAY_TOO_SHORT, 0));
     AFTER((c.codes_len = 3, c.width = 6), refused(MURM_ARRAY_TOO_SHORT, 0));
     AFTER((c.width = 6, c.matrix_len = 15), refused(MURM_WIDTH_TOO_LARGE, 0));
-    AFTER((c.matrix_len = 15, c.matrix[0] = -128), refused(MURM_LENGTH_NOT_EXACT, 0));
+    AFTER((c.matrix_len = 15, c.matrix[0] = -32768), refused(MURM_LENGTH_NOT_EXACT, 0));
     AFTER(c.matrix_len = 17, refused(MURM_LENGTH_NOT_EXACT, 0));
-    AFTER((c.matrix[0] = -128, c.matrix[12] = 0, c.exponent = 1), refused(MURM_OUT_OF_RANGE, 0));
+    AFTER(c.matrix_len = 32, refused(MURM_LENGTH_NOT_EXACT, 0));
+    AFTER((c.matrix[0] = -32768, c.matrix[12] = 0, c.exponent = 1), refused(MURM_OUT_OF_RANGE, 0));
     AFTER((c.matrix[0] = 2, c.matrix[12] = -2, c.exponent = 1, c.out_len = 7), refused(MURM_NOT_LOWEST, 0));
     AFTER((c.out_len = 7, c.codes[3] = MURM_MARK), refused(MURM_LIST_TOO_SHORT, 0));
     AFTER((c.out_len = 7, c.counts[0] = 3), refused(MURM_LIST_TOO_SHORT, 0));

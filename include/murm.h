@@ -42,9 +42,9 @@ enum murm_refusal {
     MURM_ARRAY_TOO_SHORT = 5,   /* one of the three arrays of a table has fewer than q * e places */
     MURM_WIDTH_TOO_LARGE = 6,   /* the width is above 5 */
     MURM_NOT_VALID = 7,         /* a code is not valid at the width; the position is that of the first such code */
-    MURM_DOES_NOT_FIT = 8,      /* a coefficient would be outside -127 to 127; the position is that of the first gate where this is so */
+    MURM_DOES_NOT_FIT = 8,      /* a coefficient would be outside -32767 to 32767; the position is that of the first gate where this is so */
     MURM_LENGTH_NOT_EXACT = 9,  /* a matrix does not have exactly 4 * 4^width coefficients */
-    MURM_OUT_OF_RANGE = 10,     /* a coefficient of the matrix that is asked is -128 */
+    MURM_OUT_OF_RANGE = 10,     /* a coefficient of the matrix that is asked is -32768 */
     MURM_NOT_LOWEST = 11,       /* the matrix that is asked is not in lowest denominator: its exponent is above 0, and all entries are divisible by sqrt(2) */
     MURM_LIST_TOO_SHORT = 12,   /* `out` has fewer than g places */
     MURM_BAD_TABLE = 13         /* the limits or counts are not those of a table, or parents or codes that an answer meets are bad (9.3) */
@@ -55,7 +55,7 @@ enum murm_refusal {
      codes   the gates, the oldest first: kind * 4096 + a * 256 + b * 16 + c (2.1, 2.3)
      out     exactly 4 * 4^width coefficients, four for each entry, the entries row after row (1.7)
    Returns the exponent k, below 65535: the matrix is the entries in `out` over sqrt(2)^k. Refused by 6, 9, 7, 8, tried in this order. */
-uint64_t murm_library_circuit_matrix(uint32_t width, const uint32_t *codes, size_t codes_len, int8_t *out, size_t out_len);
+uint64_t murm_library_circuit_matrix(uint32_t width, const uint32_t *codes, size_t codes_len, int16_t *out, size_t out_len);
 
 /* A matrix is asked of a table, whatever the table holds (chapter 7).
      q, g, e, b          limits of the table: widths 1 to q, lists of up to g gates, up to e nodes for each width, basis b (6.1)
@@ -73,7 +73,7 @@ uint64_t murm_synthesize(uint32_t q, uint32_t g, uint32_t e, uint32_t b,
                          const uint64_t *fingerprints, size_t fingerprints_len,
                          const uint32_t *parents, size_t parents_len,
                          const uint32_t *codes, size_t codes_len,
-                         uint32_t width, uint16_t exponent, const int8_t *matrix, size_t matrix_len,
+                         uint32_t width, uint16_t exponent, const int16_t *matrix, size_t matrix_len,
                          uint32_t *out, size_t out_len);
 
 #ifdef __cplusplus

@@ -7,7 +7,7 @@ extern "C" {
         width: u32,
         codes: *const u32,
         codes_len: usize,
-        out: *mut i8,
+        out: *mut i16,
         out_len: usize,
     ) -> u64;
 
@@ -29,14 +29,14 @@ extern "C" {
         codes_len: usize,
         width: u32,
         exponent: u16,
-        matrix: *const i8,
+        matrix: *const i16,
         matrix_len: usize,
         out: *mut u32,
         out_len: usize,
     ) -> u64;
 }
 
-pub(crate) fn library_circuit_matrix(width: u32, codes: &[u32], out: &mut [i8]) -> u64 {
+pub(crate) fn library_circuit_matrix(width: u32, codes: &[u32], out: &mut [i16]) -> u64 {
     // SAFETY: each pointer and length is that of a slice that lives for the call, so it is not
     // null, aligned, and has that many initialized elements. `out` is borrowed as mutable, so that
     // it overlaps no other slice. The function asks nothing else and keeps no pointer.

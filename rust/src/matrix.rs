@@ -32,7 +32,7 @@ pub const fn coefficient_count(width: u32) -> Option<usize> {
 /// let refused = library_circuit_matrix(1, &[Gate::h(1).code()], &mut out);
 /// assert_eq!(refused, Err(Refusal::NotValid(0)));
 /// ```
-pub fn library_circuit_matrix(width: u32, codes: &[u32], out: &mut [i8]) -> Result<u16, Refusal> {
+pub fn library_circuit_matrix(width: u32, codes: &[u32], out: &mut [i16]) -> Result<u16, Refusal> {
     let exponent = answer_of(ffi::library_circuit_matrix(width, codes, out))?;
     Ok(u16::try_from(exponent).expect("an exponent is below 65535"))
 }
@@ -44,7 +44,7 @@ pub fn library_circuit_matrix(width: u32, codes: &[u32], out: &mut [i8]) -> Resu
 /// # Errors
 ///
 /// 6 if the width is above 5, 7 if a gate has a qubit that is not below the width, 8 if a
-/// coefficient would be outside -127 to 127.
+/// coefficient would be outside -32767 to 32767.
 ///
 /// ```
 /// use murm::{matrix_of, Gate};
@@ -73,7 +73,7 @@ pub fn matrix_of(width: u32, gates: &[Gate]) -> Result<Matrix, Refusal> {
 pub struct Matrix {
     width: u32,
     exponent: u16,
-    coefficients: Vec<i8>,
+    coefficients: Vec<i16>,
 }
 
 impl Matrix {
@@ -88,7 +88,7 @@ impl Matrix {
     }
 
     /// All coefficients, four for each entry, the entries row after row.
-    pub fn coefficients(&self) -> &[i8] {
+    pub fn coefficients(&self) -> &[i16] {
         &self.coefficients
     }
 
@@ -97,7 +97,7 @@ impl Matrix {
     /// # Panics
     ///
     /// If the row or the column is not below 2^n, where n is the width.
-    pub fn entry(&self, row: usize, column: usize) -> [i8; 4] {
+    pub fn entry(&self, row: usize, column: usize) -> [i16; 4] {
         let size = 1 << self.width;
         assert!(
             row < size && column < size,

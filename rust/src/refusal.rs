@@ -22,12 +22,12 @@ pub enum Refusal {
     WidthTooLarge,
     /// 7: a code is not valid at the width. With the position of the first such code.
     NotValid(usize),
-    /// 8: a coefficient would be outside -127 to 127. With the position of the first gate where
+    /// 8: a coefficient would be outside -32767 to 32767. With the position of the first gate where
     /// this is so.
     DoesNotFit(usize),
     /// 9: a matrix does not have exactly 4 × 4^n coefficients, where n is the width.
     LengthNotExact,
-    /// 10: a coefficient of the matrix that is asked is -128.
+    /// 10: a coefficient of the matrix that is asked is -32768.
     OutOfRange,
     /// 11: the matrix that is asked is not in lowest denominator: its exponent is above 0, and all
     /// its entries are divisible by sqrt(2).
@@ -98,13 +98,13 @@ impl fmt::Display for Refusal {
             Refusal::DoesNotFit(position) => {
                 write!(
                     f,
-                    "a coefficient would be outside -127 to 127 at the gate at position {position}"
+                    "a coefficient would be outside -32767 to 32767 at the gate at position {position}"
                 )
             }
             Refusal::LengthNotExact => {
                 f.write_str("the matrix does not have exactly 4 × 4^width coefficients")
             }
-            Refusal::OutOfRange => f.write_str("a coefficient of the matrix is -128"),
+            Refusal::OutOfRange => f.write_str("a coefficient of the matrix is -32768"),
             Refusal::NotLowest => f.write_str("the matrix is not in lowest denominator"),
             Refusal::ListTooShort => f.write_str("the lent list has fewer than G places"),
             Refusal::BadTable => {

@@ -47,7 +47,7 @@ pub struct Query<'a> {
     /// The exponent k: all entries are over √2^k.
     pub exponent: u16,
     /// The coefficients, as [`library_circuit_matrix`](crate::library_circuit_matrix) leaves them.
-    pub coefficients: &'a [i8],
+    pub coefficients: &'a [i16],
 }
 
 /// Asks a table for a list of gates whose matrix is a power of ω times the query.

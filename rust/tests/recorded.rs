@@ -13,7 +13,7 @@ use murm::{
 };
 
 /// What lent places hold before a call.
-const BYTE: i8 = 93;
+const NUMBER: i16 = 9393;
 const WORD: u32 = 305419896;
 
 #[derive(Debug, Default, PartialEq)]
@@ -88,17 +88,17 @@ fn compare_list(list: &str, answer: &str, counts: &mut Counts) {
     let words: Vec<u32> = numbers(list);
     let (width, codes) = (words[0], &words[2..]);
     assert_eq!(codes.len(), words[1] as usize);
-    let mut out = vec![BYTE; coefficient_count(width).unwrap_or(0)];
+    let mut out = vec![NUMBER; coefficient_count(width).unwrap_or(0)];
     let result = library_circuit_matrix(width, codes, &mut out);
     if let Some(expected) = refused(answer) {
         assert_eq!(result.map_err(told), Err(expected), "list {list}");
-        assert!(out.iter().all(|&place| place == BYTE), "list {list}");
+        assert!(out.iter().all(|&place| place == NUMBER), "list {list}");
         counts.lists_refused += 1;
     } else {
         let (exponent, rest) = answer.split_once(' ').expect("an exponent");
         let (_fingerprint, coefficients) = rest.split_once(' ').expect("a fingerprint");
         assert_eq!(result, Ok(exponent.parse().unwrap()), "list {list}");
-        assert_eq!(out, numbers::<i8>(coefficients), "list {list}");
+        assert_eq!(out, numbers::<i16>(coefficients), "list {list}");
         counts.matrices += 1;
     }
     // The same by gates, where each code is that of a gate.
@@ -197,7 +197,7 @@ fn read_widths(limits: &str, answers: &mut Peekable<Lines<'_>>) -> Table {
 /// A matrix asked of the last table, with a lent list of 64 places.
 fn compare_query(table: &Table, matrix: &str, answer: &str, counts: &mut Counts) {
     let words: Vec<i64> = numbers(matrix);
-    let coefficients: Vec<i8> = words[2..].iter().map(|&c| c.try_into().unwrap()).collect();
+    let coefficients: Vec<i16> = words[2..].iter().map(|&c| c.try_into().unwrap()).collect();
     let query = Query {
         width: words[0].try_into().unwrap(),
         exponent: words[1].try_into().unwrap(),

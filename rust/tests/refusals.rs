@@ -7,7 +7,7 @@ use murm::{
 };
 
 /// What lent places hold before a call.
-const BYTE: i8 = 93;
+const NUMBER: i16 = 9393;
 const WORD: u32 = 305419896;
 
 mod lists {
@@ -16,13 +16,13 @@ mod lists {
     /// The refusal of a list with a lent matrix of `len` places, which must stay as it was.
     #[track_caller]
     fn refused(width: u32, codes: &[u32], len: usize) -> Refusal {
-        let mut out = vec![BYTE; len];
+        let mut out = vec![NUMBER; len];
         let refusal = library_circuit_matrix(width, codes, &mut out).unwrap_err();
-        assert!(out.iter().all(|&place| place == BYTE));
+        assert!(out.iter().all(|&place| place == NUMBER));
         refusal
     }
 
-    /// H and T in turns: the gate at 56 does not fit.
+    /// H and T in turns: the gate at 116 does not fit.
     fn growing() -> Vec<u32> {
         [Gate::h(0).code(), Gate::t(0).code()].repeat(64)
     }
@@ -46,7 +46,7 @@ mod lists {
     fn length_not_exact() {
         for width in 0..=MAX_WIDTH {
             let exact = coefficient_count(width).unwrap();
-            for len in [0, exact - 1, exact + 1, 4 * exact] {
+            for len in [0, exact - 1, exact + 1, 2 * exact, 4 * exact] {
                 assert_eq!(refused(width, &[], len), Refusal::LengthNotExact);
                 assert_eq!(refused(width, &[MARK], len), Refusal::LengthNotExact);
                 assert_eq!(refused(width, &growing(), len), Refusal::LengthNotExact);
@@ -56,7 +56,7 @@ mod lists {
 
     #[test]
     fn not_valid() {
-        for position in [0, 1, 55, 56, 57, 127] {
+        for position in [0, 1, 115, 116, 117, 127] {
             let mut codes = growing();
             codes[position] = Gate::h(1).code();
             // Each code is looked at before any gate is applied.
@@ -76,24 +76,27 @@ mod lists {
         let codes = growing();
         for width in 1..=MAX_WIDTH {
             let exact = coefficient_count(width).unwrap();
-            assert_eq!(refused(width, &codes, exact), Refusal::DoesNotFit(56));
-            assert_eq!(refused(width, &codes[..57], exact), Refusal::DoesNotFit(56));
-            let mut out = vec![BYTE; exact];
-            assert!(library_circuit_matrix(width, &codes[..56], &mut out).is_ok());
-            assert!(out.iter().any(|&place| place != BYTE));
+            assert_eq!(refused(width, &codes, exact), Refusal::DoesNotFit(116));
+            assert_eq!(
+                refused(width, &codes[..117], exact),
+                Refusal::DoesNotFit(116)
+            );
+            let mut out = vec![NUMBER; exact];
+            assert!(library_circuit_matrix(width, &codes[..116], &mut out).is_ok());
+            assert!(out.iter().any(|&place| place != NUMBER));
         }
     }
 
     #[test]
     fn empty_list() {
         for width in 0..=MAX_WIDTH {
-            let mut out = vec![BYTE; coefficient_count(width).unwrap()];
+            let mut out = vec![NUMBER; coefficient_count(width).unwrap()];
             assert_eq!(library_circuit_matrix(width, &[], &mut out), Ok(0));
             let identity = matrix_of(width, &[]).unwrap();
             assert_eq!(identity.coefficients(), out);
             for row in 0..1 << width {
                 for column in 0..1 << width {
-                    let expected = [i8::from(row == column), 0, 0, 0];
+                    let expected = [i16::from(row == column), 0, 0, 0];
                     assert_eq!(identity.entry(row, column), expected);
                 }
             }
@@ -113,7 +116,7 @@ mod answers {
         codes: Vec<u32>,
         width: u32,
         exponent: u16,
-        coefficients: Vec<i8>,
+        coefficients: Vec<i16>,
         places: usize,
     }
 
@@ -357,14 +360,14 @@ mod answers {
         for width in [0, 2, 3, 4, 5] {
             assert_eq!(after(|c| c.width = width), Err(Refusal::LengthNotExact));
         }
-        for len in [0, 15, 17, 64] {
+        for len in [0, 15, 17, 32, 64] {
             let answer = after(|c| c.coefficients.resize(len, 0));
             assert_eq!(answer, Err(Refusal::LengthNotExact));
         }
         for place in 0..16 {
-            let answer = after(|c| c.coefficients[place] = -128);
+            let answer = after(|c| c.coefficients[place] = -32768);
             assert_eq!(answer, Err(Refusal::OutOfRange));
-            for allowed in [-127, 127] {
+            for allowed in [-32767, -128, 128, 32767] {
                 assert_eq!(after(|c| c.coefficients[place] = allowed), Ok(None));
             }
         }
@@ -457,7 +460,7 @@ mod answers {
             (Refusal::ArrayTooShort, |c| c.parents.truncate(9)),
             (Refusal::WidthTooLarge, |c| c.width = 6),
             (Refusal::LengthNotExact, |c| c.coefficients.push(2)),
-            (Refusal::OutOfRange, |c| c.coefficients[1] = -128),
+            (Refusal::OutOfRange, |c| c.coefficients[1] = -32768),
             (Refusal::NotLowest, |c| {
                 c.exponent = 1;
                 c.coefficients.iter_mut().for_each(|place| *place &= -2);

@@ -15,7 +15,6 @@ ghost use Rattle.candidates.specs.Tries.{CandidateTried, NodeTried};
 use cyclotomic::Coefficient;
 use index::LookupBy;
 use known::BuildMode;
-use matrix::UnitaryMatrix;
 use next_node::Tried;
 use node_matrix::Candidate;
 use synthesis_arena::WidthLimits;
@@ -104,10 +103,10 @@ pub fn try_node(
     let how = mode;
     let lookup = by;
     let l = limits;
-    let one = UnitaryMatrix::identity(l.width as usize);
-    let mut data = one.data;
+    let mut data: [Coefficient; 4096] = [0; 4096];
+    matrix::put_identity(&mut data, l.width as usize);
     let k = node_matrix::form_node(l, node, parents, codes, &mut data);
-    let mut scratch = one.data;
+    let mut scratch: [Coefficient; 4096] = [0; 4096];
     let mut n = count;
     let mut j = 0;
     while j < gates.len() {

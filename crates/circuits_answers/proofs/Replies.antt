@@ -58,7 +58,7 @@ module _ (t : Table) (m : Arrays) (out : List ℕ) where
   unfolding listReply
   list-reply width codes {r} {s} {lent} {coefficients} e l h =
       ap (λ (x : Listed). formedReply t m width out (toldListed x) coefficients) (sym e)
-      ∙ ap (λ (o : ListOutcome). formedReply t m width out (o .answer) (o .bytes)) (h ∙ ap (listed width codes) l)
+      ∙ ap (λ (o : ListOutcome). formedReply t m width out (o .answer) (o .numbers)) (h ∙ ap (listed width codes) l)
 
   -- what a line asks is the case s
   pub line-reply :

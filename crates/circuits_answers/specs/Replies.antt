@@ -8,7 +8,7 @@ use Rattle.ints.specs.Lists.{pick}
 use Rattle.exact.specs.Answers.{Answer}
 use Rattle.exact.specs.Answers as e
 use Rattle.walk.specs.Answers as a
-use Rattle.tables.specs.Checks.{Arrays, byteCount}
+use Rattle.tables.specs.Checks.{Arrays, coefficientCount}
 use Rattle.tables.specs.Tables.{Table, query, synthesized}
 use Rattle.murm.specs.declared.Synthesized.{Synthesized}
 use Rattle.murm.specs.Entries.{toldSynthesized}
@@ -23,7 +23,7 @@ told answer list = a.outcome (toldSynthesized answer) list
 
 -- how many coefficients are lent for a list's matrix: as many as it has, and none for a width that is refused
 abbrev pub lentCount : ℕ → ℕ
-lentCount width = pick (ltb 5 width) 0 (byteCount width)
+lentCount width = pick (ltb 5 width) 0 (coefficientCount width)
 
 unfoldable pub lentCoefficients : ℕ → List ℤ
 lentCoefficients width = replicate (lentCount width) (pos 0)
@@ -40,7 +40,7 @@ formedReply t m width out (e.refused number position) coefficients = a.outcome (
 -- the reply, and what the lent list then holds
 unfoldable pub listReply : Table → Arrays → ℕ → List ℕ → List ℕ → a.Outcome
 listReply t m width codes out =
-    formedReply t m width out (listed width codes (lentCoefficients width) .answer) (listed width codes (lentCoefficients width) .bytes)
+    formedReply t m width out (listed width codes (lentCoefficients width) .answer) (listed width codes (lentCoefficients width) .numbers)
 
 -- ---- a line
 

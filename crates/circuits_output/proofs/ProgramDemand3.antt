@@ -30,7 +30,7 @@ use Rattle.walk.specs.AtWidth.{atWidth, ListOf, parentOf}
 use Rattle.walk.proofs.Held.{map-at}
 use Rattle.walk.proofs.Prefixes.{completed-unsaturated}
 use Rattle.walk.specs.Modes.{byPrint}
-use Rattle.tables.specs.Checks.{Limits, Arrays, byteCount, queryRows}
+use Rattle.tables.specs.Checks.{Limits, Arrays, coefficientCount, queryRows}
 use Rattle.tables.specs.Tables.{Table, Width, walkOf, widthAt, widthOf, parentsOf, codesOf, partOf, Query, query, listRow, synthesized}
 use Rattle.tables.specs.Built.{Built, FilledFrom}
 use Rattle.tables.specs.Demand3 as d
@@ -98,9 +98,9 @@ module _ (w : ℕ) (l : Limits) (m : List ℕ) (of-basis : ListOf w (l .basis) m
 
 -- ---- the list's own refusals
 
-bytes-count : (w : ℕ) → w ≤ 5 → length (lentCoefficients w) ≡ byteCount w
+lent-count : (w : ℕ) → w ≤ 5 → length (lentCoefficients w) ≡ coefficientCount w
 unfolding lentCoefficients
-bytes-count w h = length-replicate {0} {A = ℤ} (lentCount w) (pos 0) ∙ rw (le-ltb 5 w h)
+lent-count w h = length-replicate {0} {A = ℤ} (lentCount w) (pos 0) ∙ rw (le-ltb 5 w h)
 
 -- what a refusal of a list says
 abbrev Own : ℕ → List ℕ → Answer → Type 0
@@ -116,8 +116,8 @@ own w asked = by-width (ltb 5 w) refl
     by-steps allFit h v x = refl
     by-steps (unfitAt i) h v x =
         let a = all-valid w asked v in
-        too-large i h a (demand-2 w asked (lentCoefficients w) .too-large h (bytes-count w h) a i .0
-        (rw (le-ltb 5 w h, eq-eqb (length (lentCoefficients w)) (byteCount w) (bytes-count w h), le-ltb (firstInvalid w asked) (length asked) v, x)))
+        too-large i h a (demand-2 w asked (lentCoefficients w) .too-large h (lent-count w h) a i .0
+        (rw (le-ltb 5 w h, eq-eqb (length (lentCoefficients w)) (coefficientCount w) (lent-count w h), le-ltb (firstInvalid w asked) (length asked) v, x)))
 
     by-codes : (b : Bool) → ltb (firstInvalid w asked) (length asked) ≡ b → w ≤ 5
         → Own w asked (pick b (outcome (e.refused 7 (firstInvalid w asked)) (lentCoefficients w)) (formed w asked (lentCoefficients w) (listAnswer w asked)) .answer)
@@ -128,23 +128,23 @@ own w asked = by-width (ltb 5 w) refl
     by-width true x = rw x (wide (ltb-true 5 w x))
     by-width false x =
         let h = ltb-false 5 w x in
-        rw (x, eq-eqb (length (lentCoefficients w)) (byteCount w) (bytes-count w h)) (by-codes (ltb (firstInvalid w asked) (length asked)) refl h)
+        rw (x, eq-eqb (length (lentCoefficients w)) (coefficientCount w) (lent-count w h)) (by-codes (ltb (firstInvalid w asked) (length asked)) refl h)
 
 -- ---- a list whose matrix is asked
 
-module _ (t : Table) (m : Arrays) (b : Built byPrint t m) (i : FilledFrom t m) (w : ℕ) (asked : List ℕ) (k : ℕ) (bytes : List ℤ)
-    (e : listed w asked (lentCoefficients w) ≡ outcome (given k) bytes) where
+module _ (t : Table) (m : Arrays) (b : Built byPrint t m) (i : FilledFrom t m) (w : ℕ) (asked : List ℕ) (k : ℕ) (numbers : List ℤ)
+    (e : listed w asked (lentCoefficients w) ≡ outcome (given k) numbers) where
   abbrev q : Query
-  q = query w k bytes
+  q = query w k numbers
 
   -- the matrix asked is the product of the list asked
-  asked-is : PowerOf w (paperProduct w asked) (held w k bytes)
-  asked-is = power-of w (demand-2 w asked (lentCoefficients w) .value k bytes e)
+  asked-is : PowerOf w (paperProduct w asked) (held w k numbers)
+  asked-is = power-of w (demand-2 w asked (lentCoefficients w) .value k numbers e)
 
   paper : (l : List ℕ) → PowerOf w (product w l) (paperProduct w l)
   paper l = power-sym w (power-of w (paper-value w l))
 
-  to : (l : List ℕ) → PowerOf w (held w k bytes) (product w l) → PowerOf w (paperProduct w asked) (paperProduct w l)
+  to : (l : List ℕ) → PowerOf w (held w k numbers) (product w l) → PowerOf w (paperProduct w asked) (paperProduct w l)
   to l p = power-trans w asked-is (power-trans w p (paper l))
 
   from : (l : List ℕ) → SameUpToPower (t .limits) w asked l → d.Reaches t q l
@@ -163,7 +163,7 @@ module _ (t : Table) (m : Arrays) (b : Built byPrint t m) (i : FilledFrom t m) (
   unfolding firstRow
   not-refused =
       never-refused t m q lentList b (i .parts)
-      (firstRow-append (queryRows w k bytes) (listRow t lentList ∷ []) (numbered-query w k bytes) (accepted-allowed w asked (lentCoefficients w) k bytes e)
+      (firstRow-append (queryRows w k numbers) (listRow t lentList ∷ []) (numbered-query w k numbers) (accepted-allowed w asked (lentCoefficients w) k numbers e)
       ∙ first-past (listRow t lentList) [] list-short)
 
   complete : Condition (t .limits) w → Complete t m q
@@ -173,53 +173,53 @@ module _ (t : Table) (m : Arrays) (b : Built byPrint t m) (i : FilledFrom t m) (
   -- its text
   text : listText t m w asked ≡ answerText (synthesized t m q lentList)
   unfolding listText listReply
-  text = ap (λ (o : ListOutcome). answerText (formedReply t m w lentList (o .answer) (o .bytes))) e
+  text = ap (λ (o : ListOutcome). answerText (formedReply t m w lentList (o .answer) (o .numbers))) e
 
   given-text : (l : List ℕ) → Gives t m q lentList l → listText t m w asked ≡ answerLine l
   given-text l g = text ∙ (ap answerText g ∙ ap answerLine (take-at l (drop (length l) lentList) (length l) refl))
 
 -- a larger table gives the same list
 module _ (t t′ : Table) (m m′ : Arrays) (b : Built byPrint t m) (b′ : Built byPrint t′ m′) (i : FilledFrom t m) (i′ : FilledFrom t′ m′) (s : NoSmaller (t .limits) (t′ .limits)) where
-  larger-text : (w : ℕ) (asked : List ℕ) (k : ℕ) (bytes : List ℤ) → listed w asked (lentCoefficients w) ≡ outcome (given k) bytes → (l : List ℕ)
-      → Gives t m (query w k bytes) lentList l → listText t′ m′ w asked ≡ answerLine l
-  larger-text w asked k bytes e l g =
+  larger-text : (w : ℕ) (asked : List ℕ) (k : ℕ) (numbers : List ℤ) → listed w asked (lentCoefficients w) ≡ outcome (given k) numbers → (l : List ℕ)
+      → Gives t m (query w k numbers) lentList l → listText t′ m′ w asked ≡ answerLine l
+  larger-text w asked k numbers e l g =
       ⊎-elim
-      (λ (x : Gives t′ m′ (query w k bytes) lentList l). given-text t′ m′ b′ i′ w asked k bytes e l x)
-      (λ (x : Refuses t′ m′ (query w k bytes) lentList 12). absurd (not-refused t′ m′ b′ i′ w asked k bytes e 12 x))
-      (demand .larger byPrint t t′ m m′ b b′ i i′ s (query w k bytes) lentList lentList l g)
+      (λ (x : Gives t′ m′ (query w k numbers) lentList l). given-text t′ m′ b′ i′ w asked k numbers e l x)
+      (λ (x : Refuses t′ m′ (query w k numbers) lentList 12). absurd (not-refused t′ m′ b′ i′ w asked k numbers e 12 x))
+      (demand .larger byPrint t t′ m m′ b b′ i i′ s (query w k numbers) lentList lentList l g)
 
 module _ (t : Table) (m : Arrays) (b : Built byPrint t m) (i : FilledFrom t m) (w : ℕ) (asked : List ℕ) where
-  matrix-means : (k : ℕ) (bytes : List ℤ) → listed w asked (lentCoefficients w) ≡ outcome (given k) bytes → LineMeans (t .limits) w asked (listText t m w asked)
-  matrix-means k bytes e = by (demand .decided t m (query w k bytes) lentList)
+  matrix-means : (k : ℕ) (numbers : List ℤ) → listed w asked (lentCoefficients w) ≡ outcome (given k) numbers → LineMeans (t .limits) w asked (listText t m w asked)
+  matrix-means k numbers e = by (demand .decided t m (query w k numbers) lentList)
     where
-      by : Decided t m (query w k bytes) lentList → LineMeans (t .limits) w asked (listText t m w asked)
+      by : Decided t m (query w k numbers) lentList → LineMeans (t .limits) w asked (listText t m w asked)
       by (d.a-list l g) =
-          let r = demand .right t m (query w k bytes) lentList l g in
-          let x = given-text t m b i w asked k bytes e l g in
+          let r = demand .right t m (query w k numbers) lentList l g in
+          let x = given-text t m b i w asked k numbers e l g in
           a-list l x (subst (ReadsAs l) (sym x) (answer-reads w (t .limits) l (r .1) (omega (arith, r .2, accepted (t .limits) (b .accepted) .gates))))
-          (record { power = to t m b i w asked k bytes e l (r .0); of-basis = r .1 }) (r .2)
+          (record { power = to t m b i w asked k numbers e l (r .0); of-basis = r .1 }) (r .2)
           (λ l′ lent m′ t′ s f. let z = demand .build-built byPrint l′ lent m′ t′ f in
-          larger-text t t′ m m′ b (z .0) i (z .2) (subst (NoSmaller (t .limits)) (sym (z .1)) s) w asked k bytes e l g ∙ sym x)
-          (λ c o z. complete t m b i w asked k bytes e c .shortest lentList l g o (from t m b i w asked k bytes e o z))
+          larger-text t t′ m m′ b (z .0) i (z .2) (subst (NoSmaller (t .limits)) (sym (z .1)) s) w asked k numbers e l g ∙ sym x)
+          (λ c o z. complete t m b i w asked k numbers e c .shortest lentList l g o (from t m b i w asked k numbers e o z))
       by (d.no-list g) =
-          no-list (text t m b i w asked k bytes e ∙ ap answerText g)
-          (λ c p u s o z h. complete t m b i w asked k bytes e c .none-exactly p u (ap (λ (v : Width). v .saturated) (width-is t m b w p u) ∙ s) lentList
-          (not-refused t m b i w asked k bytes e) .0 g o (from t m b i w asked k bytes e o z) h)
-      by (d.a-refusal r n) = absurd (not-refused t m b i w asked k bytes e r n)
+          no-list (text t m b i w asked k numbers e ∙ ap answerText g)
+          (λ c p u s o z h. complete t m b i w asked k numbers e c .none-exactly p u (ap (λ (v : Width). v .saturated) (width-is t m b w p u) ∙ s) lentList
+          (not-refused t m b i w asked k numbers e) .0 g o (from t m b i w asked k numbers e o z) h)
+      by (d.a-refusal r n) = absurd (not-refused t m b i w asked k numbers e r n)
 
-  refused-means : (number position : ℕ) (bytes : List ℤ) → listed w asked (lentCoefficients w) ≡ outcome (e.refused number position) bytes
+  refused-means : (number position : ℕ) (numbers : List ℤ) → listed w asked (lentCoefficients w) ≡ outcome (e.refused number position) numbers
       → LineMeans (t .limits) w asked (listText t m w asked)
   unfolding listText listReply
-  refused-means number position bytes x =
-      refused number position (ap (λ (o : ListOutcome). answerText (formedReply t m w lentList (o .answer) (o .bytes))) x)
+  refused-means number position numbers x =
+      refused number position (ap (λ (o : ListOutcome). answerText (formedReply t m w lentList (o .answer) (o .numbers))) x)
       (subst (Own w asked) (ap (λ (o : ListOutcome). o .answer) x) (own w asked))
 
   line-means : LineMeans (t .limits) w asked (listText t m w asked)
-  line-means = by (listed w asked (lentCoefficients w) .answer) (listed w asked (lentCoefficients w) .bytes) refl
+  line-means = by (listed w asked (lentCoefficients w) .answer) (listed w asked (lentCoefficients w) .numbers) refl
     where
-      by : (a : Answer) (bytes : List ℤ) → listed w asked (lentCoefficients w) ≡ outcome a bytes → LineMeans (t .limits) w asked (listText t m w asked)
-      by (given k) bytes x = matrix-means k bytes x
-      by (e.refused number position) bytes x = refused-means number position bytes x
+      by : (a : Answer) (numbers : List ℤ) → listed w asked (lentCoefficients w) ≡ outcome a numbers → LineMeans (t .limits) w asked (listText t m w asked)
+      by (given k) numbers x = matrix-means k numbers x
+      by (e.refused number position) numbers x = refused-means number position numbers x
 
 -- ---- a table's text: the nodes of the walk
 

@@ -32,10 +32,10 @@ pub record SameUpToPower (l : Limits) (w : ℕ) (asked m : List ℕ) : Type 0 wh
   pub power : PowerOf w (paperProduct w asked) (paperProduct w m)
   pub of-basis : ListOf w (l .basis) m
 
--- what the third part of demand 3 asks of limits and width: a gate limit of at most 13, and no clash; in place of no clash it is enough that each
+-- what the third part of demand 3 asks of limits and width: a gate limit of at most 29, and no clash; in place of no clash it is enough that each
 -- candidate of the completed depths that was skipped as known has a product that is a power of omega times some node's (SPECIFICATION 8.5, 8.14)
 pub record Condition (l : Limits) (w : ℕ) : Type 0 where
-  pub gates : l .gates ≤ 13
+  pub gates : l .gates ≤ 29
   pub prints : NoSharedPrint w (l .basis) (l .gates) ⊎ SkippedRightly byPrint w (l .basis) (l .gates) (l .entries)
 
 -- each table that a build with the same basis and no smaller limit leaves prints the same line. None refuses by 12, since the program lends

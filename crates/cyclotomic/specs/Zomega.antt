@@ -7,20 +7,20 @@ use Prim.Native.Nat.{ℕ, zero, suc, _+_, _*_, _%_, _<_, _≤_}
 use lib.IntN.{ℤ, pos, natAbs, negℤ, _+ℤ_, _-ℤ_, _*ℤ_}
 use lib.Signed.{ltZ, quotZ}
 use lib.Dec.{eqb, leb, ltb}
-use mir.Syntax.{Width, w8, w16}
+use mir.Syntax.{Width, w16, w32}
 use Rattle.ints.specs.Lists.{pick}
 use Rattle.cyclotomic.specs.declared.Cyclotomic.{Cyclotomic}
 
 -- the largest stored coefficient, and the negative of the least one (SPECIFICATION 1.3)
 abbrev pub limit : ℕ
-limit = 127
+limit = 32767
 
 -- the width of a coefficient, and the width in which sums are formed
 abbrev pub near : Width
-near = w8
+near = w16
 
 abbrev pub far : Width
-far = w16
+far = w32
 
 -- an entry, by its four coefficients; it stands for a + b omega + c omega² + d omega³ (SPECIFICATION 1.1)
 abbrev pub Zω : Type 0

@@ -1,5 +1,5 @@
 // An element of Z[omega], a + b omega + c omega^2 + d omega^3 with omega^4 = -1: an entry of a matrix, before its division by sqrt(2)^k.
-// A stored coefficient is between -127 and 127, so every turn is representable. Sums are formed one width wider and narrowed after a
+// A stored coefficient is between -32767 and 32767, so every turn is representable. Sums are formed one width wider and narrowed after a
 // test. matrix.rs of the original, `Cyclotomic`.
 ghost use mathlib.Core.Path.{_≡_};
 ghost use Prim.Native.Nat.{_+_, _≤_};
@@ -9,12 +9,12 @@ ghost use Rattle.cyclotomic.specs.Zomega.{limit, mk, zeroω, oneω, add�
 ghost use Rattle.cyclotomic.specs.Told.{told, checked};
 
 // A coefficient's type, and the type in which sums are formed.
-pub type Coefficient = i8;
+pub type Coefficient = i16;
 
-pub type Wide = i16;
+pub type Wide = i32;
 
 // The largest coefficient, and the negative of the least one.
-pub const LIMIT: Wide = 127;
+pub const LIMIT: Wide = 32767;
 
 pub struct Cyclotomic {
     pub a: Coefficient,

@@ -19,8 +19,8 @@ use Rattle.exact.specs.Matrix.{Exact, allDivisible, lowered, lower, iden
 use Rattle.exact.specs.Rows.{Gate, phase, exchange, had, then, raw, act, gateOf}
 use Rattle.exact.specs.Lists.{after, product}
 use Rattle.exact.specs.Fits.{mostK, allFits, within, stepFits, Steps, allFit, unfitAt, next, stepsFrom, steps}
-use Rattle.exact.proofs.Words.{AllWithin, AllSmall, total, RowLaw, Proper, Plain}
-use Rattle.exact.specs.Unitary.{conj, inner, Unitary}
+use Rattle.exact.proofs.Words.{AllWithin, AllSmall, Proper, Plain}
+use Rattle.exact.specs.Unitary.{conj, inner, Unitary, total, RowLaw}
 use Rattle.exact.proofs.Linear.{raise-most}
 use Rattle.exact.proofs.Values.{pick-ind}
 use Rattle.exact.proofs.Coded.{proper, AllPlain}
@@ -72,10 +72,8 @@ module _ (n : ℕ) where
   entry-bound {x} s r c p q = rw (s .sums r p) at (total-least (2 ^ n) (λ c. squares (x .e r c)) c q)
 
   -- every coefficient is within b where the row's sum is below (b + 1)²
-  pub all-within : (b : ℕ) {x : Exact} → Unitary n x → 2 ^ x .k < suc b * suc b → AllWithin n b (x .e)
-  all-within b {x} u h = record {
-    small = λ r c p q. small-of-squares b (x .e r c) (lt-of-le-of-lt (entry-bound (row-law u) r c p q) h);
-  }
+  all-within : (b : ℕ) {x : Exact} → RowLaw n x → 2 ^ x .k < suc b * suc b → AllWithin n b (x .e)
+  all-within b {x} s h = record { small = λ r c p q. small-of-squares b (x .e r c) (lt-of-le-of-lt (entry-bound s r c p q) h) }
 
 -- the first step fits, and all the others do
 both-fit : (b : Bool) (s : Steps) → pick b (next s) (unfitAt 0) ≡ allFit → (b ≡ true) × (s ≡ allFit)
@@ -97,7 +95,7 @@ module _ (n : ℕ) where
       by (yes l) = l
       by (no l) = let t : 2 ^ m ≤ 2 ^ x .k = pow-mono (omega arith) in absurd (omega (arith, exponent-most b u w))
 
-  -- 32 · 4 · 127² is below 2^21; the 40 leaves room for a limit of 32767
+  -- 32 · 4 · 32767² is below 2^37, and so below 2^40
   pub k-never : n ≤ 5 → {x : Exact} → Unitary n x → AllSmall n (x .e) → x .k < mostK
   k-never h u w =
       let t : 2 ^ n ≤ 2 ^ 5 = pow-mono h in
@@ -154,52 +152,47 @@ module _ (n : ℕ) where
 
   pub product-small : (l : List ℕ) → steps n l ≡ allFit → AllSmall n (product n l .e)
   unfolding steps product
-  product-small l h = after-small l identity (all-within n limit (unitary-identity n) (omega arith)) h
+  product-small l h = after-small l identity (all-within n limit (row-law n (unitary-identity n)) (omega arith)) h
 
 -- ---- lists of few gates
 
-pub below-square : (b G : ℕ) → 2 ^ G < b * b → 2 ^ G < suc b * suc b
-below-square b G h = omega arith
-
 module _ (n : ℕ) where
-  -- each row's squares sum to 2^k in every product and every raw step
+  -- each row's squares sum to 2^k in every product, and before the lowering of a further gate
   pub row-product : (l : List ℕ) → RowLaw n (product n l)
   row-product l = row-law n (unitary-product n l)
 
   pub row-step : (g : ℕ) (l : List ℕ) → RowLaw n (raw (gateOf n g) (product n l))
   row-step g l = row-law n (unitary-step n g l)
 
-  -- every raw step of a list of at most G gates, each of them one row operation, as those of a basis are (`basis-plain`). Sx is several, and
-  -- raises the exponent twice before its last lowering: of lists with it this is not claimed
-  pub steps-within : (b G : ℕ) → 2 ^ G < suc b * suc b → (g : ℕ) → Plain (gateOf n g) → (l : List ℕ) → AllPlain n l → length l < G
-      → AllWithin n b (raw (gateOf n g) (product n l) .e) × (raw (gateOf n g) (product n l) .k ≤ G)
-  steps-within b G s g t l a h =
-      let k : raw (gateOf n g) (product n l) .k ≤ G = le-trans (raw-k n (gateOf n g) t l a) h in
-      (all-within n b (unitary-step n g l) (lt-of-le-of-lt (pow-mono k) s), k)
+  -- Where 2^G is below (limit + 1)², lists of at most G gates fit, each of the gates one row operation, as those of a basis are (`basis-plain`).
+  -- Sx is several, and raises the exponent twice before its last lowering: of lists with it this is not claimed
+  module _ (G : ℕ) (s : 2 ^ G < suc limit * suc limit) (m : G ≤ mostK) where
+    -- one gate more
+    next-fits : (g : ℕ) → Plain (gateOf n g) → (l : List ℕ) → AllPlain n l → length l < G → stepFits n (gateOf n g) (product n l) ≡ true
+    next-fits g t l a h =
+        let k : raw (gateOf n g) (product n l) .k ≤ G = le-trans (raw-k n (gateOf n g) t l a) h in
+        step-fits n (gateOf n g) t (product n l) (all-within n limit (row-step g l) (lt-of-le-of-lt (pow-mono k) s)) (le-trans k m)
 
-  steps-fit-from : (G : ℕ) → 2 ^ G < suc limit * suc limit → G ≤ mostK → (l : List ℕ) → AllPlain n l → {x : Exact}
-      → Unitary n x → x .k + length l ≤ G → stepsFrom n x l ≡ allFit
-  steps-fit-from G s m [] a u h = refl
-  steps-fit-from G s m (g ∷ l) a {x} u h =
-      let r = raise-most (gateOf n g) (a .0) (x .k) in
-      let q = act-k n (gateOf n g) (a .0) x in
-      let k : raw (gateOf n g) x .k ≤ G = omega arith in
-      let w = all-within n limit (unitary-raw n (gateOf n g) (proper n g) u) (lt-of-le-of-lt (pow-mono k) s) in
-      rw (step-fits n (gateOf n g) (a .0) x w (le-trans k m))
-      (ap next (steps-fit-from G s m l (a .1) (unitary-act n (gateOf n g) (proper n g) u) (omega arith)))
+    -- every step of a list
+    steps-from : (l : List ℕ) → AllPlain n l → {x : Exact} → Unitary n x → x .k + length l ≤ G → stepsFrom n x l ≡ allFit
+    steps-from [] a u h = refl
+    steps-from (g ∷ l) a {x} u h =
+        let r = raise-most (gateOf n g) (a .0) (x .k) in
+        let q = act-k n (gateOf n g) (a .0) x in
+        let k : raw (gateOf n g) x .k ≤ G = omega arith in
+        let w = all-within n limit (row-law n (unitary-raw n (gateOf n g) (proper n g) u)) (lt-of-le-of-lt (pow-mono k) s) in
+        rw (step-fits n (gateOf n g) (a .0) x w (le-trans k m)) (ap next (steps-from l (a .1) (unitary-act n (gateOf n g) (proper n g) u) (omega arith)))
 
-  -- every list of at most G such codes fits at every step
-  pub steps-fit : (G : ℕ) → 2 ^ G < suc limit * suc limit → G ≤ mostK → (l : List ℕ) → AllPlain n l → length l ≤ G → steps n l ≡ allFit
-  unfolding steps
-  steps-fit G s m l a h = steps-fit-from G s m l a (unitary-identity n) (omega arith)
+    all-steps : (l : List ℕ) → AllPlain n l → length l ≤ G → steps n l ≡ allFit
+    unfolding steps
+    all-steps l a h = steps-from l a (unitary-identity n) (omega arith)
 
-  -- 2^13 is below 127², and 2^29 below 32767²: of lists of a basis
-  pub thirteen : (l : List ℕ) → AllPlain n l → length l ≤ 13 → steps n l ≡ allFit
-  thirteen = steps-fit 13 (below-square limit 13 (omega arith)) (omega arith)
+  -- 2^29 is below 32768², and 2^30 is not
+  pub candidate-fits : (g : ℕ) → Plain (gateOf n g) → (l : List ℕ) → AllPlain n l → length l < 29 → stepFits n (gateOf n g) (product n l) ≡ true
+  candidate-fits = next-fits 29 (omega arith) (omega arith)
 
-  pub twenty-nine : (g : ℕ) → Plain (gateOf n g) → (l : List ℕ) → AllPlain n l → length l < 29
-      → AllWithin n 32767 (raw (gateOf n g) (product n l) .e) × (raw (gateOf n g) (product n l) .k ≤ 29)
-  twenty-nine = steps-within 32767 29 (below-square 32767 29 (omega arith))
+  pub list-fits : (l : List ℕ) → AllPlain n l → length l ≤ 29 → steps n l ≡ allFit
+  list-fits = all-steps 29 (omega arith) (omega arith)
 
   -- after steps that fit, from the identity on, the exponent never decides: a step that fits by its coefficients fits (SPECIFICATION 3.4)
   pub k-never-met : n ≤ 5 → (l : List ℕ) → steps n l ≡ allFit → (g : ℕ) → stepFits n (gateOf n g) (product n l) ≡ within n (gateOf n g) (product n l)

@@ -14,7 +14,7 @@ use Rattle.cyclotomic.proofs.Squares.{square-is}
 use Rattle.cyclotomic.proofs.Product.{turn-mul, mul-turn, sqrt2-mul, mul-comm}
 use Rattle.exact.specs.Paper.{sumω}
 use Rattle.exact.specs.Unitary.{conj}
-use Rattle.exact.proofs.Words.{total}
+use Rattle.exact.specs.Unitary.{total}
 
 abbrev conjE : Four → Four
 conjE x = record { a = x .a; b = ⊝ (x .d); c = ⊝ (x .c); d = ⊝ (x .b) }

@@ -1,10 +1,10 @@
 -- Words of the laws and of the contracts below the entries, about exact matrices and gates. No demand rests on them. Assumes nothing.
 use mathlib.Core.Path.{_≡_}
 use mathlib.Core.List.{List, [], _∷_, _++_}
-use Prim.Native.Nat.{ℕ, zero, suc, _+_, _%_, _^_, _<_}
+use Prim.Native.Nat.{ℕ, _+_, _%_, _^_, _<_}
 use Rattle.ints.specs.Lists.{pick}
 use Rattle.cyclotomic.specs.Told.{doesNotFit}
-use Rattle.cyclotomic.specs.Zomega.{Zω, limit, squares, WithinBound}
+use Rattle.cyclotomic.specs.Zomega.{Zω, limit, WithinBound}
 use Rattle.exact.specs.Matrix.{Exact}
 use Rattle.exact.specs.Rows.{Gate, phase, exchange, had, then, act}
 use Rattle.exact.specs.Fits.{stepFits}
@@ -24,15 +24,6 @@ pub record AllWithin (n bound : ℕ) (e : ℕ → ℕ → Zω) : Type 0 where
 -- every coefficient of every entry is within the limit
 abbrev pub AllSmall : ℕ → (ℕ → ℕ → Zω) → Type 0
 AllSmall n e = AllWithin n limit e
-
--- the sum of f over the numbers below m
-abbrev pub total : ℕ → (ℕ → ℕ) → ℕ
-total zero f = 0
-total (suc m) f = total m f + f m
-
--- the squares of the coefficients of each row sum to 2^k
-pub record RowLaw (n : ℕ) (x : Exact) : Type 0 where
-  pub sums : (r : ℕ) → r < 2 ^ n → total (2 ^ n) (λ c. squares (x .e r c)) ≡ 2 ^ x .k
 
 -- ---- one gate
 

@@ -20,7 +20,7 @@
 // The table at hand is that of the last `table` or `clashes` line; with no such line, or if it was refused, a line that asks it prints `refused 14 0`. So
 // do `places` and `fill` while the scan is used.
 // Numbers and lines are those of the program `circuits`, and a line of another form prints `refused 14 0`. The COUNT of a list is up to
-// 256, K up to 65535. A coefficient is such a number, after a `-` or not, from -128 to 127; there are at most 4097. More than 1 MiB of input
+// 256, K up to 65535. A coefficient is such a number, after a `-` or not, from -32768 to 32767; there are at most 4097. More than 1 MiB of input
 // prints `refused 15 0` alone. A new word has its case in `First`, or in `Asks` if it asks the table at hand.
 // A function that reads a line has neither the output nor the arrays, so that its many ways out are short to prove.
 ghost use mathlib.Core.Path.{_≡_};
@@ -440,7 +440,7 @@ enum Scalar {
 }
 
 fn positive(n: u32) -> Scalar {
-    if 127 < n {
+    if 32767 < n {
         return Scalar::Other;
     }
     Scalar::Value(n as Coefficient)
@@ -450,7 +450,7 @@ fn negative(n: u32) -> Scalar {
     if n == 0 {
         return Scalar::Value(0);
     }
-    if 128 < n {
+    if 32768 < n {
         return Scalar::Other;
     }
     Scalar::Value(-1 - (n - 1) as Coefficient)

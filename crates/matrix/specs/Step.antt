@@ -12,7 +12,6 @@ use Rattle.exact.specs.Rows.{Gate, phase, act}
 use Rattle.exact.specs.Answers.{Answer, given, refused}
 use Rattle.exact.specs.Places.{read, held}
 use Rattle.places.specs.Places.{places, Kept}
-use Rattle.matrix.specs.declared.UnitaryMatrix.{UnitaryMatrix}
 use Rattle.matrix.specs.declared.Applied.{Applied}
 use Rattle.matrix.specs.declared.Applied.the-variants.{Done, DoesNotFit}
 
@@ -21,12 +20,6 @@ pub record Holds (n k : ℕ) (l : List ℤ) (x : Exact) : Type 0 where
   pub long : length l ≡ places
   pub equal : Equal n (held n k l) x
   pub small : AllSmall n (read n l)
-
--- the value is the matrix x of width n, with exponent k and coefficients within the limit
-pub record IsMatrix (n k : ℕ) (v : UnitaryMatrix) (x : Exact) : Type 0 where
-  pub width : v .«num_qubits» ≡ n
-  pub exponent : v .«denominator_exponent» ≡ k
-  pub holds : Holds n k (v .data) x
 
 -- the places hold some matrix of width n in lowest denominator, with exponent k and coefficients within the limit
 pub record Ready (n k : ℕ) (l : List ℤ) : Type 0 where

@@ -5,7 +5,8 @@ ghost use mathlib.Core.Bool.{true};
 ghost use mathlib.Core.List.{[], _∷_};
 ghost use Prim.Native.Nat.{_^_, _<_, _≤_};
 ghost use lib.Bits.{bitAnd, bitOr};
-ghost use lib.ListN.{length};
+ghost use lib.IntN.{pos};
+ghost use lib.ListN.{length, replicate};
 ghost use Rattle.circuit.specs.Kinds.{kindAt, isKind};
 ghost use Rattle.circuit.specs.Codes.{valid};
 ghost use Rattle.exact.specs.Matrix.{lower, identity};
@@ -13,7 +14,7 @@ ghost use Rattle.exact.specs.Rows.{phase, exchange, had, then, turnedExchange, 
 ghost use Rattle.exact.proofs.Words.{Proper, AllSmall};
 ghost use Rattle.exact.specs.Places.{read, held};
 ghost use Rattle.places.specs.Places.{places, Kept, Blank};
-ghost use Rattle.matrix.specs.Step.{IsMatrix, Holds, Ready, Stepped, TurnsRows, Controlled};
+ghost use Rattle.matrix.specs.Step.{Holds, Ready, Stepped, TurnsRows, Controlled};
 use circuit::LibraryGate;
 use cyclotomic::Coefficient;
 use cyclotomic::Cyclotomic;
@@ -27,42 +28,18 @@ pub enum Applied {
     DoesNotFit,
 }
 
-// A matrix by value.
-pub struct UnitaryMatrix {
-    pub num_qubits: usize,
-    pub denominator_exponent: u16,
-    pub data: [Coefficient; 4096],
-}
-
-// The identity of width n: 1 at the diagonal's places, 0 at all others.
-pub fn identity_data(n: usize) -> [Coefficient; 4096]
+// The identity of width n, put into places that are all 0: 1 at the diagonal's places.
+pub fn put_identity(m: &mut [Coefficient; 4096], n: usize)
+    requires { ⌜ now m ≡ replicate places (pos 0) ⌝ }
     requires { ⌜ n ≤ 5 ⌝ }
-    ensures identity { λ r. ⌜ Holds n 0 r identity ⌝ }
-    ensures blank { λ r. ⌜ Blank n r ⌝ }
+    ensures identity { λ _. ⌜ Holds n 0 (now (m .exit)) identity ⌝ }
+    ensures blank { λ _. ⌜ Blank n (now (m .exit)) ⌝ }
 {
-    let mut data: [Coefficient; 4096] = [0; 4096];
     let d = places::dim(n);
     let mut i = 0;
     while i < d {
-        places::put_at(&mut data, i * (d + 1), Cyclotomic::one());
+        places::put_at(m, i * (d + 1), Cyclotomic::one());
         i += 1;
-    }
-    data
-}
-
-impl UnitaryMatrix {
-    // The identity of width n.
-    pub fn identity(n: usize) -> UnitaryMatrix
-        requires { ⌜ n ≤ 5 ⌝ }
-        ensures identity { λ r. ⌜ IsMatrix n 0 r identity ⌝ }
-        ensures blank { λ r. ⌜ Blank n (r .data) ⌝ }
-    {
-        let data = identity_data(n);
-        UnitaryMatrix {
-            num_qubits: n,
-            denominator_exponent: 0,
-            data,
-        }
     }
 }
 

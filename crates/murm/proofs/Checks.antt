@@ -48,7 +48,7 @@ module _ {n : ℕ} {codes : List ℕ} {i : ℕ} (w : ValidTo n codes i) where
   pub valid-end : length codes ≤ i → i ≡ firstInvalid n codes
   valid-end h = sym (w .first ∙ ap (λ (l : List ℕ). i + firstInvalid n l) (drop-of-length-le codes {i = i} h) ∙ omega arith)
 
--- ---- coefficients: a signed byte is -128 or within the limit
+-- ---- coefficients: a 16-bit number is -32768 or within the limit
 
 pub past-is : (z : ℤ) → SFits near z → ltZ z (negℤ (pos limit)) ≡ eqZ z (negsuc limit)
 past-is (pos n) f = refl
@@ -70,7 +70,7 @@ below-last [] x = or-false (eqZ x (negsuc limit))
 below-last (y ∷ l) x =
     ap (λ (b : Bool). eqZ y (negsuc limit) || b) (below-last l x) ∙ sym (or-assoc (eqZ y (negsuc limit)) (anyBelow l) (eqZ x (negsuc limit)))
 
--- whether one of the first i coefficients is -128
+-- whether one of the first i coefficients is -32768
 pub record RangeTo (l : List ℤ) (i : ℕ) (found : Bool) : Type 0 where
   pub within : i ≤ length l
   pub told : found ≡ anyBelow (take i l)

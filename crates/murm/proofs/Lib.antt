@@ -1,4 +1,4 @@
-pub mod Bytes
+pub mod Numbers
 pub mod Checks
 pub mod Answers
 pub mod Parts

@@ -45,11 +45,11 @@ toldListed (l.Refused r) = refused (numberOf r) (positionOf r)
 
 -- by the number of the first row that holds, 0 where none does
 abbrev pub printedBy : ℕ → ℕ → List ℤ → ℕ → Answer
-printedBy n k bytes r = pick (eqb r 0) (given (fingerprint n (held n k bytes))) (refused r 0)
+printedBy n k numbers r = pick (eqb r 0) (given (fingerprint n (held n k numbers))) (refused r 0)
 
 -- rows 6, 9, 10, 11; else the fingerprint of the matrix (SPECIFICATION 5.5)
 unfoldable pub fingerprinted : ℕ → ℕ → List ℤ → Answer
-fingerprinted n k bytes = printedBy n k bytes (firstRow (queryRows n k bytes))
+fingerprinted n k numbers = printedBy n k numbers (firstRow (queryRows n k numbers))
 
 -- an answer with a fingerprint, as the definitions have it
 abbrev pub toldFingerprinted : Fingerprinted → Answer

@@ -18,12 +18,12 @@ use Rattle.width_answer.specs.Answers.{ListFound}
 use Rattle.tables.specs.Checks.{anyBelow, firstRow, queryRows, Arrays, placesOf}
 use Rattle.tables.specs.Tables.{Table, Query, matrixOf, recordRow, lookRows, countAt, partOf, limitsAt, partAt}
 
--- whether a coefficient is -128; one that is not is within the limit
+-- whether a coefficient is -32768; one that is not is within the limit
 pub record PastLimit (x : ℤ) (r : Bool) : Type 0 where
   pub told : r ≡ eqZ x (negsuc limit)
   pub small : r ≡ false → natAbs x ≤ limit
 
--- whether no coefficient is -128; then all are within the limit
+-- whether no coefficient is -32768; then all are within the limit
 pub record InRange (l : List ℤ) (r : Bool) : Type 0 where
   pub told : r ≡ not (anyBelow l)
   pub small : r ≡ true → (i : ℕ) → i < length l → natAbs (getD l i (pos 0)) ≤ limit

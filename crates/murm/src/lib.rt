@@ -95,7 +95,8 @@ pub fn library_circuit_matrix(width: u32, codes: &[u32], out: &mut [Coefficient]
     if i < codes.len() {
         return Listed::Refused(Refusal::NotValid(i));
     }
-    let mut data = matrix::identity_data(n);
+    let mut data: [Coefficient; 4096] = [0; 4096];
+    matrix::put_identity(&mut data, n);
     match lists::apply_gates(&mut data, n, codes) {
         Walked::Fits(k) => {
             copy_places(out, &data[0..size]);
@@ -105,14 +106,14 @@ pub fn library_circuit_matrix(width: u32, codes: &[u32], out: &mut [Coefficient]
     }
 }
 
-// Whether a coefficient is -128.
+// Whether a coefficient is -32768.
 fn past_limit(x: Coefficient) -> bool
     ensures { λ r. ⌜ PastLimit x r ⌝ }
 {
     (x as Wide) < -LIMIT
 }
 
-// Row 10: whether no coefficient is -128. There is no early return: this loop is many times faster without one.
+// Row 10: whether no coefficient is -32768. There is no early return: this loop is many times faster without one.
 fn in_range(entries: &[Coefficient]) -> bool
     ensures { λ r. ⌜ InRange (now (entries .entry)) r ⌝ }
 {
@@ -145,8 +146,8 @@ fn check_query(width: u32, exponent: u16, entries: &[Coefficient]) -> Check
         return Check::Refused(Refusal::WidthTooLarge);
     }
     let n = width as usize;
-    let size = 4 * places::area(n);
-    if entries.len() != size {
+    let count = 4 * places::area(n);
+    if entries.len() != count {
         return Check::Refused(Refusal::LengthNotExact);
     }
     if !in_range(entries) {

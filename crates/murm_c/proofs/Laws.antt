@@ -88,24 +88,24 @@ first-between b c (x ∷ xs) r p w (inr (n, f)) = first-between b c xs r p (w .1
 
 -- ---- a list
 
-module _ (n : ℕ) (codes : List ℕ) (bytes : List ℤ) where
+module _ (n : ℕ) (codes : List ℕ) (numbers : List ℤ) where
   -- the whole answer, by the one that is told
-  told : (x : Answer) → listed n codes bytes .answer ≡ x → listed n codes bytes ≡ outcome x (listed n codes bytes .bytes)
-  told x e = ap (λ (z : Answer). outcome z (listed n codes bytes .bytes)) e
+  told : (x : Answer) → listed n codes numbers .answer ≡ x → listed n codes numbers ≡ outcome x (listed n codes numbers .numbers)
+  told x e = ap (λ (z : Answer). outcome z (listed n codes numbers .numbers)) e
 
   -- an accepted list has a width up to 5
-  narrow : (k : ℕ) → listed n codes bytes .answer ≡ given k → n ≤ 5
+  narrow : (k : ℕ) → listed n codes numbers .answer ≡ given k → n ≤ 5
   narrow k e = by (ltb 5 n) refl
     where
       by : (b : Bool) → ltb 5 n ≡ b → n ≤ 5
-      by true x = clash (ap isGiven (ap (λ (o : ListOutcome). o .answer) (list-6 n codes bytes (ltb-true 5 n x)) ∙ e)) refl
+      by true x = clash (ap isGiven (ap (λ (o : ListOutcome). o .answer) (list-6 n codes numbers (ltb-true 5 n x)) ∙ e)) refl
       by false x = ltb-false 5 n x
 
-  exponent-most : (k : ℕ) → listed n codes bytes .answer ≡ given k → k < 65535
+  exponent-most : (k : ℕ) → listed n codes numbers .answer ≡ given k → k < 65535
   unfolding listAnswer
-  exponent-most k e = by (steps n codes) refl (accepted-formed n codes bytes k (listed n codes bytes .bytes) (told (given k) e))
+  exponent-most k e = by (steps n codes) refl (accepted-formed n codes numbers k (listed n codes numbers .numbers) (told (given k) e))
     where
-      by : (s : Steps) → steps n codes ≡ s → formed n codes bytes (bySteps (product n codes .k) s) ≡ outcome (given k) (listed n codes bytes .bytes) → k < 65535
+      by : (s : Steps) → steps n codes ≡ s → formed n codes numbers (bySteps (product n codes .k) s) ≡ outcome (given k) (listed n codes numbers .numbers) → k < 65535
       by allFit f z =
           let j : product n codes .k < mostK = k-never n (narrow k e) (unitary-product n codes) (product-small n codes f) in
           let y : product n codes .k ≡ k = ap (λ (o : ListOutcome). number (o .answer)) z in
@@ -113,41 +113,41 @@ module _ (n : ℕ) (codes : List ℕ) (bytes : List ℤ) where
       by (unfitAt i) f z = clash (ap (λ (o : ListOutcome). isGiven (o .answer)) z) refl
 
   -- the row that refuses it
-  first-row : (r p : ℕ) → listed n codes bytes .answer ≡ refused r p → First r p (listCauses n codes bytes)
-  first-row r p e = exactly .list n codes bytes (listed n codes bytes .bytes) r p .0 (told (refused r p) e) .0
+  first-row : (r p : ℕ) → listed n codes numbers .answer ≡ refused r p → First r p (listCauses n codes numbers)
+  first-row r p e = exactly .list n codes numbers (listed n codes numbers .numbers) r p .0 (told (refused r p) e) .0
 
-  list-refusals : (r p : ℕ) → listed n codes bytes .answer ≡ refused r p → (6 ≤ r) × (r ≤ 9)
+  list-refusals : (r p : ℕ) → listed n codes numbers .answer ≡ refused r p → (6 ≤ r) × (r ≤ 9)
   list-refusals r p e =
-      first-between 6 9 (listCauses n codes bytes) r p
+      first-between 6 9 (listCauses n codes numbers) r p
       ((omega arith, omega arith), ((omega arith, omega arith), ((omega arith, omega arith), ((omega arith, omega arith), tt))))
       (first-row r p e)
 
-  list-read : reading (listNumber (listed n codes bytes .answer)) ≡ listSays (listed n codes bytes .answer)
-  list-read = by (listed n codes bytes .answer) refl
+  list-read : reading (listNumber (listed n codes numbers .answer)) ≡ listSays (listed n codes numbers .answer)
+  list-read = by (listed n codes numbers .answer) refl
     where
-      by : (x : Answer) → listed n codes bytes .answer ≡ x → reading (listNumber x) ≡ listSays x
+      by : (x : Answer) → listed n codes numbers .answer ≡ x → reading (listNumber x) ≡ listSays x
       by (given k) e = let h = exponent-most k e in read-value k (omega arith)
       by (refused r p) e = let h = list-refusals r p e .0 in read-refusal r (capped p) (omega arith) (capped-most p)
 
   -- a position is 0, or that of a code
-  position-inside : (r p : ℕ) → First r p (listCauses n codes bytes) → (p ≡ 0) ⊎ (p < length codes)
+  position-inside : (r p : ℕ) → First r p (listCauses n codes numbers) → (p ≡ 0) ⊎ (p < length codes)
   position-inside r p (inl (e, (c, z))) = inl z
   position-inside r p (inr (x, inl (e, (c, z)))) = inl z
   position-inside r p (inr (x, inr (y, inl (e, w)))) = inr (w .inside)
   position-inside r p (inr (x, inr (y, inr (z, inl (e, w))))) = inr (w .inside)
   position-inside r p (inr (x, inr (y, inr (z, inr (u, f))))) = absurd f
 
-  position-told : (r p : ℕ) → length codes ≤ 4294967296 → listed n codes bytes .answer ≡ refused r p → reading (listNumber (listed n codes bytes .answer)) ≡ refusal r p
+  position-told : (r p : ℕ) → length codes ≤ 4294967296 → listed n codes numbers .answer ≡ refused r p → reading (listNumber (listed n codes numbers .answer)) ≡ refusal r p
   position-told r p h e = list-read ∙ ap listSays e ∙ ap (refusal r) (by (position-inside r p (first-row r p e)))
     where
       by : (p ≡ 0) ⊎ (p < length codes) → capped p ≡ p
       by (inl z) = position-kept p (omega arith)
       by (inr z) = position-kept p (omega arith)
 
-  list-fits : listNumber (listed n codes bytes .answer) < 14 * 4294967296
-  list-fits = by (listed n codes bytes .answer) refl
+  list-fits : listNumber (listed n codes numbers .answer) < 14 * 4294967296
+  list-fits = by (listed n codes numbers .answer) refl
     where
-      by : (x : Answer) → listed n codes bytes .answer ≡ x → listNumber x < 14 * 4294967296
+      by : (x : Answer) → listed n codes numbers .answer ≡ x → listNumber x < 14 * 4294967296
       by (given k) e = let h = exponent-most k e in omega arith
       by (refused r p) e = let h = list-refusals r p e .1 in let c = capped-most p in omega arith
 

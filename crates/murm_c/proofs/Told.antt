@@ -28,8 +28,8 @@ pub reply-refused : (r : Refusal) {t : Synthesized} {n : ℕ} → t ≡ s.Refuse
     → n ≡ replyNumber (toldSynthesized t)
 reply-refused r e h = h ∙ ap (λ (x : Synthesized). replyNumber (toldSynthesized x)) (sym e)
 
-pub list-told : {o : ListOutcome} {t : Answer} {bytes : List ℤ} {n : ℕ} → outcome t bytes ≡ o → n ≡ listNumber t → (n ≡ listNumber (o .answer)) × (bytes ≡ o .bytes)
-list-told w h = (h ∙ ap (λ (o : ListOutcome). listNumber (o .answer)) w, ap (λ (o : ListOutcome). o .bytes) w)
+pub list-told : {o : ListOutcome} {t : Answer} {numbers : List ℤ} {n : ℕ} → outcome t numbers ≡ o → n ≡ listNumber t → (n ≡ listNumber (o .answer)) × (numbers ≡ o .numbers)
+list-told w h = (h ∙ ap (λ (o : ListOutcome). listNumber (o .answer)) w, ap (λ (o : ListOutcome). o .numbers) w)
 
 pub reply-told : (x : Table) (m : Arrays) (q : Query) (out : List ℕ) {y : Table} {t : Reply} {list : List ℕ} {n : ℕ}
     → y ≡ x → a.outcome t list ≡ synthesized y m q out → n ≡ replyNumber t

@@ -64,24 +64,24 @@ sampleWith d s = record {
 
 pub record Laws : Type 0 where
   -- the number tells the cases apart: what is read off it is what the entry answers
-  pub list-read : (n : ℕ) (codes : List ℕ) (bytes : List ℤ) → reading (listNumber (listed n codes bytes .answer)) ≡ listSays (listed n codes bytes .answer)
+  pub list-read : (n : ℕ) (codes : List ℕ) (numbers : List ℤ) → reading (listNumber (listed n codes numbers .answer)) ≡ listSays (listed n codes numbers .answer)
   pub reply-read : (t : Table) (a : Arrays) (q : Query) (out : List ℕ) → a .by ≡ scan
       → reading (replyNumber (synthesized t a q out .reply)) ≡ replySays (synthesized t a q out .reply)
   -- a position up to 4294967295 is told as it is, a larger one as 4294967295; so of a list of up to 2^32 codes every position is told as it is
   pub position-kept : (p : ℕ) → p ≤ 4294967295 → capped p ≡ p
   pub position-capped : (p : ℕ) → 4294967295 < p → capped p ≡ 4294967295
-  pub position-told : (n : ℕ) (codes : List ℕ) (bytes : List ℤ) (r p : ℕ) → length codes ≤ 4294967296 → listed n codes bytes .answer ≡ refused r p
-      → reading (listNumber (listed n codes bytes .answer)) ≡ refusal r p
+  pub position-told : (n : ℕ) (codes : List ℕ) (numbers : List ℤ) (r p : ℕ) → length codes ≤ 4294967296 → listed n codes numbers .answer ≡ refused r p
+      → reading (listNumber (listed n codes numbers .answer)) ≡ refusal r p
   -- a value is small: an exponent is below 65535, a gate count is at most G, and G is then at most 64
-  pub exponent-most : (n : ℕ) (codes : List ℕ) (bytes : List ℤ) (k : ℕ) → listed n codes bytes .answer ≡ given k → k < 65535
+  pub exponent-most : (n : ℕ) (codes : List ℕ) (numbers : List ℤ) (k : ℕ) → listed n codes numbers .answer ≡ given k → k < 65535
   pub count-most : (t : Table) (a : Arrays) (q : Query) (out : List ℕ) (m : ℕ) → synthesized t a q out .reply ≡ answers.given m
       → (m ≤ t .limits .gates) × (t .limits .gates ≤ 64)
   -- the refusals that are told: of a list from 6 to 9, of a matrix by the scan from 5 to 13 and at position 0
-  pub list-refusals : (n : ℕ) (codes : List ℕ) (bytes : List ℤ) (r p : ℕ) → listed n codes bytes .answer ≡ refused r p → (6 ≤ r) × (r ≤ 9)
+  pub list-refusals : (n : ℕ) (codes : List ℕ) (numbers : List ℤ) (r p : ℕ) → listed n codes numbers .answer ≡ refused r p → (6 ≤ r) × (r ≤ 9)
   pub reply-refusals : (t : Table) (a : Arrays) (q : Query) (out : List ℕ) (r p : ℕ) → a .by ≡ scan → synthesized t a q out .reply ≡ answers.refused r p
       → (5 ≤ r) × (r ≤ 13) × (p ≡ 0)
   -- so that every number returned is below 14 × 2^32, far below 2^64
-  pub list-fits : (n : ℕ) (codes : List ℕ) (bytes : List ℤ) → listNumber (listed n codes bytes .answer) < 14 * 4294967296
+  pub list-fits : (n : ℕ) (codes : List ℕ) (numbers : List ℤ) → listNumber (listed n codes numbers .answer) < 14 * 4294967296
   pub reply-fits : (t : Table) (a : Arrays) (q : Query) (out : List ℕ) → a .by ≡ scan → replyNumber (synthesized t a q out .reply) < 14 * 4294967296
   -- the record as numbers loses nothing: what is answered, and what the lent list then holds, depend on the limits and the counts alone
   pub record-kept : (t : Table) (a : Arrays) (q : Query) (out : List ℕ) → synthesized t a q out ≡ synthesized (countsOf t) a q out

@@ -115,7 +115,7 @@ pub extern "C" fn murm_library_circuit_matrix(
     out: &mut [Coefficient],
 ) -> u64
     ensures number { λ r. ⌜ r ≡ listNumber (listed width (now (codes .entry)) (now (out .entry)) .answer) ⌝ }
-    ensures places { λ _. ⌜ now (out .exit) ≡ listed width (now (codes .entry)) (now (out .entry)) .bytes ⌝ }
+    ensures places { λ _. ⌜ now (out .exit) ≡ listed width (now (codes .entry)) (now (out .entry)) .numbers ⌝ }
 {
     list_number(murm::library_circuit_matrix(width, codes, out))
 }

@@ -24,7 +24,7 @@ use Rattle.exact.specs.Places.{entry, read, held}
 use Rattle.places.specs.Places.{places}
 use Rattle.matrix.specs.Step.{Holds, Ready}
 use Rattle.walk.proofs.Sequences.{lt-or}
-use Rattle.node_matrix.specs.Matrices.{Copied, printAfter}
+use Rattle.node_matrix.specs.Matrices.{Copied, CopiedOn, printAfter}
 use Rattle.node_matrix.proofs.Prints.{given-print, refused-print, fits-alike, prints-alike}
 
 -- ---- place by place
@@ -45,6 +45,17 @@ module _ {from old new : List ℤ} {i : ℕ} (w : Copied from old new i) where
 
   pub copied-to : (m : ℕ) → m ≤ i → Copied from old new m
   copied-to m h = record { long = w .long; first = λ j l. w .first j (omega arith) }
+
+-- and from a start on
+pub on-none : (from old : List ℤ) (start : ℕ) → CopiedOn from old old start start
+on-none from old start = record { by = λ l w. w }
+
+pub on-more : {from old new : List ℤ} {start i : ℕ} → CopiedOn from old new start i → {x : ℤ} → i < length old → x ≡ getD from i (pos 0)
+    → CopiedOn from old (set new i x) start (i + 1)
+on-more u h e = record { by = λ l w. copied-more (u .by l w) (omega (arith, w .long)) e }
+
+pub on-to : {from old new : List ℤ} {start i : ℕ} → CopiedOn from old new start i → (m : ℕ) → m ≤ i → CopiedOn from old new start m
+on-to u m h = record { by = λ l w. copied-to (u .by l w) m h }
 
 -- ---- the matrix
 

@@ -39,6 +39,10 @@ pub record Copied (from old new : List ℤ) (i : ℕ) : Type 0 where
   pub long : length new ≡ length old
   pub first : (j : ℕ) → j < i → getD new j (pos 0) ≡ getD from j (pos 0)
 
+-- a list whose first places up to a start are another list's has them up to an end
+pub record CopiedOn (from old new : List ℤ) (start end : ℕ) : Type 0 where
+  pub by : (l : List ℤ) → Copied from l old start → Copied from l new end
+
 -- the fingerprint of the matrix x after the gate g, or that it does not fit
 unfoldable pub printAfter : ℕ → ℕ → Exact → Answer
 printAfter n g x = pick (stepFits n (gateOf n g) x) (given (fingerprint n (act n (gateOf n g) x))) (refused doesNotFit 0)

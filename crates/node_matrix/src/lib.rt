@@ -2,14 +2,14 @@
 // each generator is applied to a copy of its places.
 ghost use mathlib.Core.Path.{_≡_};
 ghost use mathlib.Core.Bool.{true};
-ghost use Prim.Native.Nat.{_*_, _^_, _≤_};
+ghost use Prim.Native.Nat.{_*_, _^_, _≤_, _<_};
 ghost use lib.ListN.{length};
 ghost use Rattle.circuit.specs.Codes.{valid};
 ghost use Rattle.exact.specs.Matrix.{identity};
 ghost use Rattle.exact.specs.Places.{held};
 ghost use Rattle.places.specs.Places.{places};
 ghost use Rattle.matrix.specs.Step.{Holds, Ready};
-ghost use Rattle.node_matrix.specs.Matrices.{Readable, Formed, Copied, printAfter, toldCandidate, LeftIn};
+ghost use Rattle.node_matrix.specs.Matrices.{Readable, Formed, Copied, CopiedOn, printAfter, toldCandidate, LeftIn};
 use circuit::GateSet;
 use circuit::LibraryGate;
 use cyclotomic::Coefficient;
@@ -55,7 +55,32 @@ pub fn form_node(
     }
 }
 
-// The places of a matrix of width n are copied to the first places of another slice.
+// The places from one up to another are copied.
+fn copy_block(from: &[Coefficient], to: &mut [Coefficient], start: usize, end: usize)
+    requires order { ⌜ start ≤ end ⌝ }
+    requires room { ⌜ (end ≤ length (now from)) × (end ≤ length (now to)) ⌝ }
+    ensures copied { λ _. ⌜ CopiedOn (now (from .entry)) (now (to .entry)) (now (to .exit)) start end ⌝ }
+{
+    let mut i = start;
+    while i < end {
+        to[i] = from[i];
+        i += 1;
+    }
+}
+
+// Where the block from a place on ends. A block has at most 1,024 places: longer copies take many times as long where the two arrays lie so that
+// a place to be read is a little below one just written, by their addresses' low 12 bits (docs/SPEED.md).
+fn block_end(start: usize, size: usize) -> usize
+    requires { ⌜ start < size ⌝ }
+    ensures { λ r. ⌜ (start < r) × (r ≤ size) ⌝ }
+{
+    if size - start <= 1024 {
+        return size;
+    }
+    start + 1024
+}
+
+// The places of a matrix of width n are copied to the first places of another slice, block after block.
 fn copy_matrix(n: usize, from: &[Coefficient], to: &mut [Coefficient])
     requires narrow { ⌜ n ≤ 5 ⌝ }
     requires room { ⌜ (4 * (2 ^ n * 2 ^ n) ≤ length (now from)) × (4 * (2 ^ n * 2 ^ n) ≤ length (now to)) ⌝ }
@@ -64,8 +89,9 @@ fn copy_matrix(n: usize, from: &[Coefficient], to: &mut [Coefficient])
     let size = 4 * places::area(n);
     let mut i = 0;
     while i < size {
-        to[i] = from[i];
-        i += 1;
+        let end = block_end(i, size);
+        copy_block(from, to, i, end);
+        i = end;
     }
 }
 

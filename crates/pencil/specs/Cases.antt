@@ -20,7 +20,7 @@ use Rattle.exact.specs.Fits.{stepFits}
 use Rattle.exact.specs.Phase.{flat, phaseOf}
 use Rattle.exact.specs.Answers.{Answer}
 use Rattle.exact.specs.Answers as e
-use Rattle.tables.specs.Checks.{byteCount}
+use Rattle.tables.specs.Checks.{coefficientCount}
 use Rattle.tables.specs.Lists.{listed}
 
 -- what a row speaks of: an element, a test, a number, a sum with its refusal's number, an entry's answer with its refusal's number and
@@ -67,9 +67,9 @@ alone i x = record { k = 0; e = λ r c. pick (eqb r i && eqb c 0) x zeroω }
 
 abbrev pub cases : List Case
 cases =
-    -- turns by 1 and by 4; the second takes -127 to 127, which is within the limit (SPECIFICATION 1.2)
+    -- turns by 1 and by 4; the second takes -32767 to 32767, which is within the limit (SPECIFICATION 1.2)
     (element (turn 1 (mk (pos 1) (pos 2) (pos 3) (pos 4))) is element (mk (negsuc 3) (pos 1) (pos 2) (pos 3)))
-    ∷ (element (turn 4 (mk (pos 1) (negsuc 126) (pos 0) (pos 5))) is element (mk (negsuc 0) (pos 127) (pos 0) (negsuc 4)))
+    ∷ (element (turn 4 (mk (pos 1) (negsuc 32766) (pos 0) (pos 5))) is element (mk (negsuc 0) (pos 32767) (pos 0) (negsuc 4)))
     -- division by √2: two entries that are divisible, with their quotients, and one that is not (SPECIFICATION 1.4)
     ∷ (test (divisible (mk (pos 1) (pos 1) (pos 1) (pos 1))) is test true)
     ∷ (element (overSqrt2 (mk (pos 1) (pos 1) (pos 1) (pos 1))) is element (mk (pos 0) (pos 1) (pos 1) (pos 0)))
@@ -77,9 +77,9 @@ cases =
     ∷ (element (overSqrt2 (int (pos 2))) is element (mk (pos 0) (pos 1) (pos 0) (negsuc 0)))
     ∷ (test (divisible (int (pos 1))) is test false)
     -- a sum at the limit, and a sum and a difference past it (SPECIFICATION 1.3)
-    ∷ (sum (checked (addω (int (pos 127)) (int (pos 0)))) is sum (entry (int (pos 127))))
-    ∷ (sum (checked (addω (int (pos 127)) (int (pos 1)))) is sum (refused 8))
-    ∷ (sum (checked (subω (int (negsuc 126)) (int (pos 1)))) is sum (refused 8))
+    ∷ (sum (checked (addω (int (pos 32767)) (int (pos 0)))) is sum (entry (int (pos 32767))))
+    ∷ (sum (checked (addω (int (pos 32767)) (int (pos 1)))) is sum (refused 8))
+    ∷ (sum (checked (subω (int (negsuc 32766)) (int (pos 1)))) is sum (refused 8))
     -- code 0 is H on qubit 0: its matrix at width 1, and H twice, which is the identity in lowest denominator (SPECIFICATION 3.2, 3.3)
     ∷ (shown 1 (product 1 (0 ∷ [])) is matrix 1 (row (pos 1) (pos 1) (pos 1) (negsuc 0) []))
     ∷ (shown 1 (product 1 (0 ∷ 0 ∷ [])) is matrix 0 (row (pos 1) (pos 0) (pos 0) (pos 1) []))
@@ -112,21 +112,21 @@ cases =
     ∷ (test (valid 3 107009) is test true)
     -- Ch is valid for no basis, not even for one with its bit (SPECIFICATION 2.5)
     ∷ (test (validFor 2 33554432 102416) is test false)
-    -- what fits (SPECIFICATION 3.4). Of Ch a row without its control counts: √2 times it may be 127, and may not be 128. H, 0, takes the same
+    -- what fits (SPECIFICATION 3.4). Of Ch a row without its control counts: √2 times it may be 32767, and may not be 32768. H, 0, takes the same
     -- matrix as it is
-    ∷ (test (stepFits 2 (gateOf 2 102416) (alone 0 (mk (pos 0) (pos 64) (pos 0) (negsuc 62)))) is test true)
-    ∷ (test (stepFits 2 (gateOf 2 102416) (alone 0 (mk (pos 0) (pos 64) (pos 0) (negsuc 63)))) is test false)
-    ∷ (test (stepFits 2 (gateOf 2 0) (alone 0 (mk (pos 0) (pos 64) (pos 0) (negsuc 63)))) is test true)
-    -- of Sx both H count: the first comes to 127 and fits, the second to 128
-    ∷ (test (stepFits 1 (gateOf 1 0) (square (int (pos 64)) (int (pos 1)) (mk (pos 63) (pos 0) (pos 1) (pos 0)) zeroω)) is test true)
-    ∷ (test (stepFits 1 (gateOf 1 65536) (square (int (pos 64)) (int (pos 1)) (mk (pos 63) (pos 0) (pos 1) (pos 0)) zeroω)) is test false)
-    ∷ (test (stepFits 1 (gateOf 1 65536) (square (int (pos 64)) (int (pos 1)) (mk (pos 63) (pos 0) (pos 0) (pos 0)) zeroω)) is test true)
-    -- and where the first comes to 128 Sx does not fit, though lowered it would be within the limit, and the second H after it too
-    ∷ (test (stepFits 1 (gateOf 1 65536) (square (int (pos 64)) zeroω (int (pos 64)) zeroω)) is test false)
-    ∷ (test (stepFits 1 (gateOf 1 0) (act 1 (gateOf 1 0) (square (int (pos 64)) zeroω (int (pos 64)) zeroω))) is test true)
+    ∷ (test (stepFits 2 (gateOf 2 102416) (alone 0 (mk (pos 0) (pos 16384) (pos 0) (negsuc 16382)))) is test true)
+    ∷ (test (stepFits 2 (gateOf 2 102416) (alone 0 (mk (pos 0) (pos 16384) (pos 0) (negsuc 16383)))) is test false)
+    ∷ (test (stepFits 2 (gateOf 2 0) (alone 0 (mk (pos 0) (pos 16384) (pos 0) (negsuc 16383)))) is test true)
+    -- of Sx both H count: the first comes to 32767 and fits, the second to 32768
+    ∷ (test (stepFits 1 (gateOf 1 0) (square (int (pos 16384)) (int (pos 1)) (mk (pos 16383) (pos 0) (pos 1) (pos 0)) zeroω)) is test true)
+    ∷ (test (stepFits 1 (gateOf 1 65536) (square (int (pos 16384)) (int (pos 1)) (mk (pos 16383) (pos 0) (pos 1) (pos 0)) zeroω)) is test false)
+    ∷ (test (stepFits 1 (gateOf 1 65536) (square (int (pos 16384)) (int (pos 1)) (mk (pos 16383) (pos 0) (pos 0) (pos 0)) zeroω)) is test true)
+    -- and where the first comes to 32768 Sx does not fit, though lowered it would be within the limit, and the second H after it too
+    ∷ (test (stepFits 1 (gateOf 1 65536) (square (int (pos 16384)) zeroω (int (pos 16384)) zeroω)) is test false)
+    ∷ (test (stepFits 1 (gateOf 1 0) (act 1 (gateOf 1 0) (square (int (pos 16384)) zeroω (int (pos 16384)) zeroω))) is test true)
     -- Cz on qubits 0 and 1 in rising order is valid, in the other order it is not (SPECIFICATION 2.1, 2.4)
     ∷ (test (valid 2 36880) is test true)
-    ∷ (answer (listed 2 (37120 ∷ []) (replicate (byteCount 2) (pos 0)) .answer) is answer (e.refused 7 0))
+    ∷ (answer (listed 2 (37120 ∷ []) (replicate (coefficientCount 2) (pos 0)) .answer) is answer (e.refused 7 0))
     -- T charges: of T, Ccx, Ccz, Tdg and H together, and of the six kinds that lists alone take (SPECIFICATION 2.9)
     ∷ (number (charge (20480 ∷ 40978 ∷ 45074 ∷ 24576 ∷ 0 ∷ [])) is number 16)
     ∷ (number (charge (61440 ∷ 65536 ∷ 77840 ∷ 81936 ∷ 102416 ∷ 106514 ∷ [])) is number 0)

@@ -26,7 +26,7 @@ numbered-look t by f u c places = (omega arith, (omega arith, (omega (arith, ind
 
 pub numbered-find : (t : Table) (a : Arrays) (q : Query) → Numbered (findRows t a q)
 numbered-find t a q =
-    (omega arith, (omega arith, (omega (arith, index-number (t .limits) (a .by) (length (a .index))), numbered-query (q .width) (q .exponent) (q .bytes))))
+    (omega arith, (omega arith, (omega (arith, index-number (t .limits) (a .by) (length (a .index))), numbered-query (q .width) (q .exponent) (q .numbers))))
 
 -- where no row of an answer holds, none of the find's does, and the lent list is long enough
 pub passed : (t : Table) (a : Arrays) (q : Query) (out : List ℕ) → firstRow (answerRows t a q out) ≡ 0

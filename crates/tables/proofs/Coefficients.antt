@@ -13,14 +13,14 @@ use Rattle.exact.proofs.Words.{Equal}
 use Rattle.exact.specs.Phase.{flat}
 use Rattle.exact.specs.Places.{entry, held}
 use Rattle.exact.proofs.Phases.{flat-lt, at-flat}
-use Rattle.tables.specs.Checks.{byteCount}
-use Rattle.tables.specs.Lists.{bytesOf, coefficients}
+use Rattle.tables.specs.Checks.{coefficientCount}
+use Rattle.tables.specs.Lists.{coefficientsOf, coefficients}
 
 -- ---- sizes
 
 -- 4^n is the number of entries
-pub byte-count : (n : ℕ) → byteCount n ≡ 4 * (2 ^ n * 2 ^ n)
-byte-count n = ap (λ (k : ℕ). 4 * k) (four n)
+pub coefficient-count : (n : ℕ) → coefficientCount n ≡ 4 * (2 ^ n * 2 ^ n)
+coefficient-count n = ap (λ (k : ℕ). 4 * k) (four n)
   where
     four : (n : ℕ) → 4 ^ n ≡ 2 ^ n * 2 ^ n
     four zero = refl
@@ -29,11 +29,11 @@ byte-count n = ap (λ (k : ℕ). 4 * k) (four n)
 -- ---- the coefficients of a matrix
 
 -- by the entries alone
-pub bytes-same : (m : ℕ) (f g : ℕ → Zω) → ((i : ℕ) → i < m → f i ≡ g i) → bytesOf m f ≡ bytesOf m g
-bytes-same zero f g h = refl
-bytes-same (suc m) f g h =
+pub coefficients-same : (m : ℕ) (f g : ℕ → Zω) → ((i : ℕ) → i < m → f i ≡ g i) → coefficientsOf m f ≡ coefficientsOf m g
+coefficients-same zero f g h = refl
+coefficients-same (suc m) f g h =
     let first = h 0 (omega arith) in
-    λ i. first i .a ∷ first i .b ∷ first i .c ∷ first i .d ∷ bytes-same m (λ j. f (suc j)) (λ j. g (suc j)) (λ j q. h (suc j) (omega arith)) i
+    λ i. first i .a ∷ first i .b ∷ first i .c ∷ first i .d ∷ coefficients-same m (λ j. f (suc j)) (λ j. g (suc j)) (λ j q. h (suc j) (omega arith)) i
 
 -- an entry after four other places
 pub entry-later : (a b c d : ℤ) (l : List ℤ) (i : ℕ) → entry l i ≡ entry (a ∷ b ∷ c ∷ d ∷ l) (suc i)
@@ -46,16 +46,16 @@ entry-later a b c d l i =
     at j k e = sym (ap (λ (p : ℕ). getD (a ∷ b ∷ c ∷ d ∷ l) p (pos 0)) e)
 
 -- and an entry of the coefficients is the matrix's entry
-entry-bytes : (m : ℕ) (e : ℕ → Zω) (i : ℕ) → i < m → entry (bytesOf m e) i ≡ e i
+entry-coefficients : (m : ℕ) (e : ℕ → Zω) (i : ℕ) → i < m → entry (coefficientsOf m e) i ≡ e i
 unfolding entry
-entry-bytes zero e i h = absurd (omega arith)
-entry-bytes (suc m) e zero h = each refl refl refl refl
-entry-bytes (suc m) e (suc i) h =
-    sym (entry-later (e 0 .a) (e 0 .b) (e 0 .c) (e 0 .d) (bytesOf m (λ j. e (suc j))) i) ∙ entry-bytes m (λ j. e (suc j)) i (omega arith)
+entry-coefficients zero e i h = absurd (omega arith)
+entry-coefficients (suc m) e zero h = each refl refl refl refl
+entry-coefficients (suc m) e (suc i) h =
+    sym (entry-later (e 0 .a) (e 0 .b) (e 0 .c) (e 0 .d) (coefficientsOf m (λ j. e (suc j))) i) ∙ entry-coefficients m (λ j. e (suc j)) i (omega arith)
 
 pub coefficients-held : (n : ℕ) (x : Exact) → Equal n (held n (x .k) (coefficients n x)) x
 unfolding coefficients
 coefficients-held n x = record {
   exponent = refl;
-  entries = λ r c p q. entry-bytes (2 ^ n * 2 ^ n) (flat n (x .e)) (r * 2 ^ n + c) (flat-lt n r c p q) ∙ at-flat n (x .e) r c q;
+  entries = λ r c p q. entry-coefficients (2 ^ n * 2 ^ n) (flat n (x .e)) (r * 2 ^ n + c) (flat-lt n r c p q) ∙ at-flat n (x .e) r c q;
 }

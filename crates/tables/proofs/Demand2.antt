@@ -24,7 +24,7 @@ use Rattle.exact.proofs.Keeps.{equal-lowest}
 use Rattle.exact.proofs.TooLarge.{too-large-exactly, fits-exactly}
 use Rattle.exact.proofs.Answered.{isGiven, number, given-list, refused-list, list-refused}
 use Rattle.exact.specs.Places.{held}
-use Rattle.tables.specs.Checks.{byteCount}
+use Rattle.tables.specs.Checks.{coefficientCount}
 use Rattle.tables.specs.Lists.{ListOutcome, coefficients, outcome, firstInvalid, formed, listed}
 use Rattle.tables.specs.Demand2.{Demand2}
 use Rattle.tables.proofs.Coefficients.{coefficients-held}
@@ -38,51 +38,51 @@ last-case false true r a b c d o x y z g e = clash g (sym (ap (λ (t : ListOutco
 last-case false false true a b c d o x y z g e = clash g (sym (ap (λ (t : ListOutcome). isGiven (t .answer)) e) ∙ z)
 last-case false false false a b c d o x y z g e = e
 
-module _ (n : ℕ) (codes : List ℕ) (bytes : List ℤ) where
-  pub accepted-formed : (k : ℕ) (after : List ℤ) → listed n codes bytes ≡ outcome (given k) after → formed n codes bytes (listAnswer n codes) ≡ outcome (given k) after
+module _ (n : ℕ) (codes : List ℕ) (numbers : List ℤ) where
+  pub accepted-formed : (k : ℕ) (after : List ℤ) → listed n codes numbers ≡ outcome (given k) after → formed n codes numbers (listAnswer n codes) ≡ outcome (given k) after
   unfolding listed
   accepted-formed k after e =
-      last-case (ltb 5 n) (not (eqb (length bytes) (byteCount n))) (ltb (firstInvalid n codes) (length codes)) (outcome (refused 6 0) bytes)
-      (outcome (refused 9 0) bytes) (outcome (refused 7 (firstInvalid n codes)) bytes) (formed n codes bytes (listAnswer n codes)) (outcome (given k) after) refl refl refl refl e
+      last-case (ltb 5 n) (not (eqb (length numbers) (coefficientCount n))) (ltb (firstInvalid n codes) (length codes)) (outcome (refused 6 0) numbers)
+      (outcome (refused 9 0) numbers) (outcome (refused 7 (firstInvalid n codes)) numbers) (formed n codes numbers (listAnswer n codes)) (outcome (given k) after) refl refl refl refl e
 
-  pub accepted-is : (k : ℕ) (after : List ℤ) → listed n codes bytes ≡ outcome (given k) after → Equal n (held n k after) (product n codes)
+  pub accepted-is : (k : ℕ) (after : List ℤ) → listed n codes numbers ≡ outcome (given k) after → Equal n (held n k after) (product n codes)
   unfolding listAnswer
   accepted-is k after h = by (steps n codes) (accepted-formed k after h)
     where
-      by : (s : Steps) → formed n codes bytes (bySteps (product n codes .k) s) ≡ outcome (given k) after → Equal n (held n k after) (product n codes)
+      by : (s : Steps) → formed n codes numbers (bySteps (product n codes .k) s) ≡ outcome (given k) after → Equal n (held n k after) (product n codes)
       by allFit e =
-          subst (λ (o : ListOutcome). Equal n (held n (number (o .answer)) (o .bytes)) (product n codes)) e (coefficients-held n (product n codes))
+          subst (λ (o : ListOutcome). Equal n (held n (number (o .answer)) (o .numbers)) (product n codes)) e (coefficients-held n (product n codes))
       by (unfitAt i) e = clash (ap (λ (t : ListOutcome). isGiven (t .answer)) e) refl
 
   -- an accepted list leaves the paper's product, by value
-  accepted-value : (k : ℕ) (after : List ℤ) → listed n codes bytes ≡ outcome (given k) after → SameValue n (paperProduct n codes) (held n k after)
+  accepted-value : (k : ℕ) (after : List ℤ) → listed n codes numbers ≡ outcome (given k) after → SameValue n (paperProduct n codes) (held n k after)
   accepted-value k after e =
       same-trans n {y = product n codes} (paper-value n codes) (equal-same n (equal-sym n (accepted-is k after e)))
 
   -- and leaves it in lowest denominator
-  pub accepted-lowest : (k : ℕ) (after : List ℤ) → listed n codes bytes ≡ outcome (given k) after → Lowest n (held n k after)
+  pub accepted-lowest : (k : ℕ) (after : List ℤ) → listed n codes numbers ≡ outcome (given k) after → Lowest n (held n k after)
   accepted-lowest k after e = equal-lowest n (equal-sym n (accepted-is k after e)) (product-lowest n codes)
 
   -- too large exactly where a step passes the limit (SPECIFICATION 8.2)
-  answer-is : (a : Answer) → formed n codes bytes a .answer ≡ a
+  answer-is : (a : Answer) → formed n codes numbers a .answer ≡ a
   answer-is (given k) = refl
   answer-is (refused a i) = refl
 
-  module _ (h : n ≤ 5) (p : length bytes ≡ byteCount n) (v : all (valid n) codes ≡ true) where
-    is-formed : listed n codes bytes ≡ formed n codes bytes (listAnswer n codes)
+  module _ (h : n ≤ 5) (p : length numbers ≡ coefficientCount n) (v : all (valid n) codes ≡ true) where
+    is-formed : listed n codes numbers ≡ formed n codes numbers (listAnswer n codes)
     unfolding listed
-    is-formed = rw (le-ltb 5 n h, eq-eqb (length bytes) (byteCount n) p, le-ltb (firstInvalid n codes) (length codes) (valid-first n codes v))
+    is-formed = rw (le-ltb 5 n h, eq-eqb (length numbers) (coefficientCount n) p, le-ltb (firstInvalid n codes) (length codes) (valid-first n codes v))
 
-    refused-8-exactly : (i : ℕ) → (listed n codes bytes .answer ≡ refused 8 i) ↔ FirstPast n codes i
+    refused-8-exactly : (i : ℕ) → (listed n codes numbers .answer ≡ refused 8 i) ↔ FirstPast n codes i
     refused-8-exactly i = (
       λ e. too-large-exactly n h codes i .0 (list-refused n codes (sym (answer-is (listAnswer n codes)) ∙ sym (ap (λ (o : ListOutcome). o .answer) is-formed) ∙ e)),
-      λ f. sym (ap (λ (o : ListOutcome). o .answer) (list-8 n codes bytes h p (valid-first n codes v) i (refused-list n codes (too-large-exactly n h codes i .1 f)))),
+      λ f. sym (ap (λ (o : ListOutcome). o .answer) (list-8 n codes numbers h p (valid-first n codes v) i (refused-list n codes (too-large-exactly n h codes i .1 f)))),
     )
 
     all-accepted : ((j : ℕ) → j < length codes → stepWithin n codes j ≡ true)
-        → listed n codes bytes ≡ outcome (given (product n codes .k)) (coefficients n (product n codes))
+        → listed n codes numbers ≡ outcome (given (product n codes .k)) (coefficients n (product n codes))
     all-accepted f =
-        sym (list-formed n codes bytes h p (valid-first n codes v) (product n codes .k) (given-list n codes (fits-exactly n h codes .1 f) refl))
+        sym (list-formed n codes numbers h p (valid-first n codes v) (product n codes .k) (given-list n codes (fits-exactly n h codes .1 f) refl))
 
-  pub demand-2 : Demand2 n codes bytes
+  pub demand-2 : Demand2 n codes numbers
   demand-2 = record { value = accepted-value; lowest = accepted-lowest; too-large = refused-8-exactly; accepted = all-accepted }

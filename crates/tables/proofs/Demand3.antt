@@ -67,7 +67,7 @@ module _ {mode : Mode} (t t′ : Table) (a a′ : Arrays) (b : Built mode t a) (
       only-12 : rowOfAnswer t′ a′ q out′ ≡ firstRow (listRow t′ out′ ∷ [])
       only-12 =
           rows-are t′ a′ b′ (x′ .parts) q out′
-          ∙ firstRow-append (queryRows (q .width) (q .exponent) (q .bytes)) (listRow t′ out′ ∷ []) (numbered-query (q .width) (q .exponent) (q .bytes))
+          ∙ firstRow-append (queryRows (q .width) (q .exponent) (q .numbers)) (listRow t′ out′ ∷ []) (numbered-query (q .width) (q .exponent) (q .numbers))
           (query-passed t a q out (gives-asked t a q out l g .0))
 
       by : (h : Bool) → listRow t′ out′ .holds ≡ h → Gives t′ a′ q out′ l ⊎ Refuses t′ a′ q out′ 12
@@ -98,7 +98,7 @@ module _ {mode : Mode} (t : Table) (a : Arrays) (b : Built mode t a) where
       small h = widths-small t a b (q .width) h
 
       low : (out : List ℕ) → rowOfAnswer t a q out ≡ 0 → Lowest (q .width) (matrixOf q)
-      low out e = asked-lowest (q .width) (q .exponent) (q .bytes) (query-passed t a q out e)
+      low out e = asked-lowest (q .width) (q .exponent) (q .numbers) (query-passed t a q out e)
 
   -- row 13 refuses no record, and no chain: whatever the index holds, the node to which it leads is one of the width's
   never-13 : (q : Query) (out : List ℕ) → Refuses t a q out 13 → ⊥

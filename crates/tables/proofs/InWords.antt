@@ -22,7 +22,7 @@ use Rattle.exact.specs.Places.{read}
 use Rattle.walk.proofs.Sequences.{or-cases}
 use Rattle.walk.specs.Walk.{any}
 use Rattle.walk.specs.Index.{By, scan, indexed}
-use Rattle.tables.specs.Checks.{Limits, limitRows, Arrays, placesOf, roomRow, inParts, indexRow, byteCount, anyBelow, queryRows, firstRow}
+use Rattle.tables.specs.Checks.{Limits, limitRows, Arrays, placesOf, roomRow, inParts, indexRow, coefficientCount, anyBelow, queryRows, firstRow}
 use Rattle.tables.specs.Tables.{buildRows, Query, Table, widthAt, allWidths, badCount, recordRow, tableRowsOf, notAWidth, lookRowsOf, findRows, nodeRow, writeRows, answerRows}
 use Rattle.tables.specs.Exactly.{limitCauses, Short, InParts, NotInParts, buildCauses, Below, queryCauses, Cause, cause, BadRecord, bad-limits, bad-count}
 use Rattle.tables.specs.Exactly.{tableCauses, lookCauses, NoNode, no-width, too-few}
@@ -135,17 +135,17 @@ below-one x l rest = record { to = λ e. to (or-cases (eqZ x (negsuc limit)) (an
     from zero h e = let z = ap (λ (y : ℤ). eqZ y (negsuc limit)) e ∙ eqZ-self (negsuc limit) in rw z
     from (suc p) h e = or-right (eqZ x (negsuc limit)) (anyBelow l) (rest .from (record { place = p; inside = omega arith; is = e }))
 
-is-below : (bytes : List ℤ) → Decides (Below bytes) (anyBelow bytes)
+is-below : (numbers : List ℤ) → Decides (Below numbers) (anyBelow numbers)
 unfolding anyBelow
 is-below [] = record { to = λ e. clash e refl; from = λ w. absurd (omega (arith, w .inside)) }
 is-below (x ∷ l) = below-one x l (is-below l)
 
-pub query-in-words : (q : Query) → InWords (queryRows (q .width) (q .exponent) (q .bytes)) (queryCauses q)
+pub query-in-words : (q : Query) → InWords (queryRows (q .width) (q .exponent) (q .numbers)) (queryCauses q)
 query-in-words q =
     more 6 (omega arith) (is-lt 5 (q .width))
-    (more 9 (omega arith) (is-not (is-eq (length (q .bytes)) (byteCount (q .width))))
-    (more 10 (omega arith) (is-below (q .bytes))
-    (more 11 (omega arith) (is-and (is-lt 0 (q .exponent)) (is-true (allDivisible (q .width) (read (q .width) (q .bytes))))) done)))
+    (more 9 (omega arith) (is-not (is-eq (length (q .numbers)) (coefficientCount (q .width))))
+    (more 10 (omega arith) (is-below (q .numbers))
+    (more 11 (omega arith) (is-and (is-lt 0 (q .exponent)) (is-true (allDivisible (q .width) (read (q .width) (q .numbers))))) done)))
 
 -- ---- the record of a lent table
 

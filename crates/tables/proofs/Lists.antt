@@ -12,7 +12,7 @@ use Rattle.ints.proofs.Bools.{and-left, and-right}
 use Rattle.circuit.specs.Codes.{valid}
 use Rattle.exact.specs.Lists.{product}
 use Rattle.exact.specs.Answers.{given, refused, listAnswer}
-use Rattle.tables.specs.Checks.{byteCount}
+use Rattle.tables.specs.Checks.{coefficientCount}
 use Rattle.tables.specs.Lists.{firstInvalid, coefficients, outcome, listed}
 
 -- ---- codes
@@ -36,26 +36,26 @@ valid-first n (g ∷ l) h =
 
 -- ---- the rows
 
-module _ (n : ℕ) (codes : List ℕ) (bytes : List ℤ) where
-  pub list-6 : 5 < n → outcome (refused 6 0) bytes ≡ listed n codes bytes
+module _ (n : ℕ) (codes : List ℕ) (numbers : List ℤ) where
+  pub list-6 : 5 < n → outcome (refused 6 0) numbers ≡ listed n codes numbers
   unfolding listed
   list-6 h = rw (lt-ltb 5 n h)
 
   module _ (h : n ≤ 5) where
-    pub list-9 : (length bytes ≡ byteCount n → ⊥) → outcome (refused 9 0) bytes ≡ listed n codes bytes
+    pub list-9 : (length numbers ≡ coefficientCount n → ⊥) → outcome (refused 9 0) numbers ≡ listed n codes numbers
     unfolding listed
-    list-9 p = rw (le-ltb 5 n h, ne-eqb (length bytes) (byteCount n) p)
+    list-9 p = rw (le-ltb 5 n h, ne-eqb (length numbers) (coefficientCount n) p)
 
-    module _ (p : length bytes ≡ byteCount n) where
-      pub list-7 : firstInvalid n codes < length codes → outcome (refused 7 (firstInvalid n codes)) bytes ≡ listed n codes bytes
+    module _ (p : length numbers ≡ coefficientCount n) where
+      pub list-7 : firstInvalid n codes < length codes → outcome (refused 7 (firstInvalid n codes)) numbers ≡ listed n codes numbers
       unfolding listed
-      list-7 q = rw (le-ltb 5 n h, eq-eqb (length bytes) (byteCount n) p, lt-ltb (firstInvalid n codes) (length codes) q)
+      list-7 q = rw (le-ltb 5 n h, eq-eqb (length numbers) (coefficientCount n) p, lt-ltb (firstInvalid n codes) (length codes) q)
 
       module _ (q : length codes ≤ firstInvalid n codes) where
-        pub list-8 : (i : ℕ) → refused 8 i ≡ listAnswer n codes → outcome (refused 8 i) bytes ≡ listed n codes bytes
+        pub list-8 : (i : ℕ) → refused 8 i ≡ listAnswer n codes → outcome (refused 8 i) numbers ≡ listed n codes numbers
         unfolding listed
-        list-8 i e = rw (le-ltb 5 n h, eq-eqb (length bytes) (byteCount n) p, le-ltb (firstInvalid n codes) (length codes) q, sym e)
+        list-8 i e = rw (le-ltb 5 n h, eq-eqb (length numbers) (coefficientCount n) p, le-ltb (firstInvalid n codes) (length codes) q, sym e)
 
-        pub list-formed : (k : ℕ) → given k ≡ listAnswer n codes → outcome (given k) (coefficients n (product n codes)) ≡ listed n codes bytes
+        pub list-formed : (k : ℕ) → given k ≡ listAnswer n codes → outcome (given k) (coefficients n (product n codes)) ≡ listed n codes numbers
         unfolding listed
-        list-formed k e = rw (le-ltb 5 n h, eq-eqb (length bytes) (byteCount n) p, le-ltb (firstInvalid n codes) (length codes) q, sym e)
+        list-formed k e = rw (le-ltb 5 n h, eq-eqb (length numbers) (coefficientCount n) p, le-ltb (firstInvalid n codes) (length codes) q, sym e)

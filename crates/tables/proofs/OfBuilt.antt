@@ -42,8 +42,8 @@ use Rattle.tables.proofs.Replies.{not-given, one-list, rowOfAnswer, wid
 -- ---- a query that no row refuses
 
 -- row 11: it is in lowest denominator
-pub asked-lowest : (n k : ℕ) (bytes : List ℤ) → firstRow (queryRows n k bytes) ≡ 0 → Lowest n (held n k bytes)
-asked-lowest n k bytes e = record { lowest = λ h. fails (is-true (allDivisible n (read n bytes))) (λ d. none-to (query-in-words (query n k bytes)) e .1 .1 .1 .0 0 ((h, d), refl)) }
+pub asked-lowest : (n k : ℕ) (numbers : List ℤ) → firstRow (queryRows n k numbers) ≡ 0 → Lowest n (held n k numbers)
+asked-lowest n k numbers e = record { lowest = λ h. fails (is-true (allDivisible n (read n numbers))) (λ d. none-to (query-in-words (query n k numbers)) e .1 .1 .1 .0 0 ((h, d), refl)) }
 
 -- ---- the rows of an answer
 
@@ -51,7 +51,7 @@ asked-lowest n k bytes e = record { lowest = λ h. fails (is-true (allDivisible 
 pub only-record : (t : Table) (a : Arrays) (q : Query) (out : List ℕ) → recordRow t .holds ≡ false → rowOfAnswer t a q out ≡ 13 → ⊥
 only-record t a q out r e =
     first-number (λ (k : ℕ). k ≡ 13 → ⊥)
-    (roomRow (t .limits) a ∷ partsRow (t .limits) a ∷ (queryRows (q .width) (q .exponent) (q .bytes) ++ (listRow t out ∷ []))) (other 0 (omega arith)) (
+    (roomRow (t .limits) a ∷ partsRow (t .limits) a ∷ (queryRows (q .width) (q .exponent) (q .numbers) ++ (listRow t out ∷ []))) (other 0 (omega arith)) (
       other 5 (omega arith),
       (
         λ z. absurd (omega (arith, z, index-number (t .limits) (a .by) (length (a .index)))),
@@ -64,7 +64,7 @@ only-record t a q out r e =
     other k h z = absurd (omega (arith, h, z))
 
 -- where no row holds, none of the query's does
-pub query-passed : (t : Table) (a : Arrays) (q : Query) (out : List ℕ) → rowOfAnswer t a q out ≡ 0 → firstRow (queryRows (q .width) (q .exponent) (q .bytes)) ≡ 0
+pub query-passed : (t : Table) (a : Arrays) (q : Query) (out : List ℕ) → rowOfAnswer t a q out ≡ 0 → firstRow (queryRows (q .width) (q .exponent) (q .numbers)) ≡ 0
 query-passed t a q out e = good-look t (a .by) a _ (passed t a q out e .0) .3
 
 -- ---- an answer of the walk, told
@@ -99,7 +99,7 @@ module _ {mode : Mode} (t : Table) (a : Arrays) (b : Built mode t a) where
 
   -- the query's rows and the list's decide, where 17 does not refuse
   pub rows-are : partsRow (t .limits) a .holds ≡ false → (q : Query) (out : List ℕ)
-      → rowOfAnswer t a q out ≡ firstRow (queryRows (q .width) (q .exponent) (q .bytes) ++ (listRow t out ∷ []))
+      → rowOfAnswer t a q out ≡ firstRow (queryRows (q .width) (q .exponent) (q .numbers) ++ (listRow t out ∷ []))
   rows-are p q out = look-passed t (a .by) a _ (good-record t a b) (b .room) p
 
   pub widths-small : (w : ℕ) → w ≤ Q → w ≤ 5

@@ -78,7 +78,7 @@ module _ (t : Table) (a : Arrays) (q : Query) (out : List ℕ) where
     (λ w. let (e, h, z) = first-from words r 0 w in row-refuses t a q out r h (rows-are t a b i q out ∙ e)),
   )
     where
-      words : InWords (queryRows (q .width) (q .exponent) (q .bytes) ++ (listRow t out ∷ [])) (queryCauses q ++ (cause 12 (length out < t .limits .gates) ∷ []))
+      words : InWords (queryRows (q .width) (q .exponent) (q .numbers) ++ (listRow t out ∷ [])) (queryCauses q ++ (cause 12 (length out < t .limits .gates) ∷ []))
       words = words-append (query-in-words q) (more 12 (omega arith) (is-lt (length out) (t .limits .gates)) done)
 
       to : Refuses t a q out r → Refusal r → (0 < r) × (rowOfAnswer t a q out ≡ r)
@@ -86,7 +86,7 @@ module _ (t : Table) (a : Arrays) (q : Query) (out : List ℕ) where
       to n (chain-bad z e w x) = absurd (demand .never-13 mode t a b q out (n ∙ ap (λ (s : ℕ). outcome (refused s 0) out) z))
 
   -- a query that none of these rows refuses is not refused
-  pub never-refused : {mode : Mode} → Built mode t a → partsRow (t .limits) a .holds ≡ false → firstRow (queryRows (q .width) (q .exponent) (q .bytes) ++ (listRow t out ∷ [])) ≡ 0 → NotRefused t a q out
+  pub never-refused : {mode : Mode} → Built mode t a → partsRow (t .limits) a .holds ≡ false → firstRow (queryRows (q .width) (q .exponent) (q .numbers) ++ (listRow t out ∷ [])) ≡ 0 → NotRefused t a q out
   never-refused {mode} b i e r n = by (refused-by r n)
     where
       by : Refusal r → ⊥

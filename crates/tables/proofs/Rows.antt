@@ -29,8 +29,8 @@ Numbered = Numbers (λ k. 0 < k)
 pub numbered-limits : (l : Limits) → Numbered (limitRows l)
 numbered-limits l = (omega arith, (omega arith, (omega arith, (omega arith, tt))))
 
-pub numbered-query : (n k : ℕ) (bytes : List ℤ) → Numbered (queryRows n k bytes)
-numbered-query n k bytes = (omega arith, (omega arith, (omega arith, (omega arith, tt))))
+pub numbered-query : (n k : ℕ) (numbers : List ℤ) → Numbered (queryRows n k numbers)
+numbered-query n k numbers = (omega arith, (omega arith, (omega arith, (omega arith, tt))))
 
 -- by either look-up
 pub index-number : (l : Limits) (by : By) (places : ℕ) → indexRow l by places .number ≡ 17

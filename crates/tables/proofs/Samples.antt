@@ -107,9 +107,9 @@ record Computed : Type 0 where
   ch-limits : (a : Arrays) → firstRow (buildRows chLimits a) ≡ 3
   x-limits : firstRow (limitRows xLimits) ≡ 0
   larger-limits : firstRow (limitRows largerLimits) ≡ 0
-  x-passes : firstRow (queryRows 1 0 (askX .bytes)) ≡ 0
-  t-passes : firstRow (queryRows 1 0 (askT .bytes)) ≡ 0
-  zero-passes : firstRow (queryRows 1 0 (askZero .bytes)) ≡ 0
+  x-passes : firstRow (queryRows 1 0 (askX .numbers)) ≡ 0
+  t-passes : firstRow (queryRows 1 0 (askT .numbers)) ≡ 0
+  zero-passes : firstRow (queryRows 1 0 (askZero .numbers)) ≡ 0
   -- what the walk of width 1 answers in each mode; it is not saturated
   walk-x : (mode : Mode) → answered mode 1 2 8 2 (matrixOf askX) ≡ some (4096 ∷ [])
   walk-t : (mode : Mode) → answered mode 1 2 8 2 (matrixOf askT) ≡ none
@@ -217,14 +217,14 @@ left-by mode l a e p = demand .build-built mode l a (builtTo mode l (l .qubits) 
 
 -- only 12 may refuse a query that passes
 asked-12 : {mode : Mode} (t : Table) (a : Arrays) → Built mode t a → partsRow (t .limits) a .holds ≡ false → (q : Query) (out : List ℕ)
-    → firstRow (queryRows (q .width) (q .exponent) (q .bytes)) ≡ 0 → rowOfAnswer t a q out ≡ firstRow (listRow t out ∷ [])
+    → firstRow (queryRows (q .width) (q .exponent) (q .numbers)) ≡ 0 → rowOfAnswer t a q out ≡ firstRow (listRow t out ∷ [])
 asked-12 t a b p q out e =
     rows-are t a b p q out
-    ∙ firstRow-append (queryRows (q .width) (q .exponent) (q .bytes)) (listRow t out ∷ []) (numbered-query (q .width) (q .exponent) (q .bytes)) e
+    ∙ firstRow-append (queryRows (q .width) (q .exponent) (q .numbers)) (listRow t out ∷ []) (numbered-query (q .width) (q .exponent) (q .numbers)) e
 
 -- a query that passes is answered as the walk does, where the lent list has G places, and otherwise is refused by 12
 module _ {mode : Mode} (l : Limits) (a : Arrays) (b : Built mode (recordOf mode l) a) (x : FilledFrom (recordOf mode l) a) (q : Query) (out : List ℕ)
-    (e : firstRow (queryRows (q .width) (q .exponent) (q .bytes)) ≡ 0) where
+    (e : firstRow (queryRows (q .width) (q .exponent) (q .numbers)) ≡ 0) where
   only-12 : rowOfAnswer (recordOf mode l) a q out ≡ firstRow (listRow (recordOf mode l) out ∷ [])
   only-12 = asked-12 (recordOf mode l) a b (x .parts) q out e
 

@@ -38,7 +38,7 @@ pub record Ordered (mode : Mode) (l : Limits) (w : ℕ) : Type 0 where
 
 pub record Beside : Type 0 where
   -- demand 3's (c) from hypothesis K: every candidate of the walk that was skipped as known has a node present for it (SPECIFICATION 8.14)
-  pub complete-rightly : (mode : Mode) (t : Table) (a : Arrays) → Built mode t a → FilledFrom t a → t .limits .gates ≤ 13
+  pub complete-rightly : (mode : Mode) (t : Table) (a : Arrays) → Built mode t a → FilledFrom t a → t .limits .gates ≤ 29
       → (q : Query) → SkippedRightly mode (q .width) (t .limits .basis) (t .limits .gates) (t .limits .entries) → Complete t a q
   -- counts are at least 1 and at most E (SPECIFICATION 6.14)
   pub counts : (mode : Mode) (t : Table) (a : Arrays) → Built mode t a → (w : ℕ) → 0 < w → w ≤ t .limits .qubits

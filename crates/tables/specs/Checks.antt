@@ -96,15 +96,15 @@ partsRow l a = indexRow l (a .by) (length (a .index))
 -- ---- a query
 
 -- how many coefficients a matrix of width n has (SPECIFICATION 1.7)
-abbrev pub byteCount : ℕ → ℕ
-byteCount n = 4 * 4 ^ n
+abbrev pub coefficientCount : ℕ → ℕ
+coefficientCount n = 4 * 4 ^ n
 
--- some coefficient is -128, one below the limit's negative (SPECIFICATION 1.3)
+-- some coefficient is -32768, one below the limit's negative (SPECIFICATION 1.3)
 unfoldable pub anyBelow : List ℤ → Bool
 anyBelow [] = false
 anyBelow (x ∷ l) = eqZ x (negsuc limit) || anyBelow l
 
--- rows 6, 9, 10, 11: the width is too large; the coefficients are not as many as they must be; one is -128; not in lowest denominator
+-- rows 6, 9, 10, 11: the width is too large; the coefficients are not as many as they must be; one is -32768; not in lowest denominator
 abbrev pub queryRows : ℕ → ℕ → List ℤ → List Row
-queryRows n k bytes =
-    row (ltb 5 n) 6 ∷ row (not (eqb (length bytes) (byteCount n))) 9 ∷ row (anyBelow bytes) 10 ∷ row (ltb 0 k && allDivisible n (read n bytes)) 11 ∷ []
+queryRows n k numbers =
+    row (ltb 5 n) 6 ∷ row (not (eqb (length numbers) (coefficientCount n))) 9 ∷ row (anyBelow numbers) 10 ∷ row (ltb 0 k && allDivisible n (read n numbers)) 11 ∷ []

@@ -81,11 +81,11 @@ pub record Demand3 : Type 0 where
   -- lent list (SPECIFICATION 8.4)
   pub larger : (mode : Mode) (t t′ : Table) (a a′ : Arrays) → Built mode t a → Built mode t′ a′ → FilledFrom t a → FilledFrom t′ a′ → NoSmaller (t .limits) (t′ .limits)
       → (q : Query) (out out′ l : List ℕ) → Gives t a q out l → Gives t′ a′ q out′ l ⊎ Refuses t′ a′ q out′ 12
-  -- (c) up to 13 gates, where every step of a list of the basis fits, and with no clash at the query's width (SPECIFICATION 8.5, 8.14)
-  pub complete : (mode : Mode) (t : Table) (a : Arrays) → Built mode t a → FilledFrom t a → t .limits .gates ≤ 13
+  -- (c) up to 29 gates, where every step of a list of the basis fits, and with no clash at the query's width (SPECIFICATION 8.5, 8.14)
+  pub complete : (mode : Mode) (t : Table) (a : Arrays) → Built mode t a → FilledFrom t a → t .limits .gates ≤ 29
       → (q : Query) → NoSharedPrint (q .width) (t .limits .basis) (t .limits .gates) → Complete t a q
-  -- where clashing nodes are kept, up to 13 gates and with no condition on fingerprints (SPECIFICATION 8.5, 8.17)
-  pub complete-keeping : (t : Table) (a : Arrays) → Built keeping t a → FilledFrom t a → t .limits .gates ≤ 13 → (q : Query) → Complete t a q
+  -- where clashing nodes are kept, up to 29 gates and with no condition on fingerprints (SPECIFICATION 8.5, 8.17)
+  pub complete-keeping : (t : Table) (a : Arrays) → Built keeping t a → FilledFrom t a → t .limits .gates ≤ 29 → (q : Query) → Complete t a q
   -- (d) a query that gets a list is unitary, and one that is not gets none; a built table is never refused by 13 (SPECIFICATION 7.8)
   pub unitary : (t : Table) (a : Arrays) (q : Query) (out l : List ℕ) → Gives t a q out l → Unitary (q .width) (matrixOf q)
   pub not-unitary : (t : Table) (a : Arrays) (q : Query) (out : List ℕ) → NotRefused t a q out → (Unitary (q .width) (matrixOf q) → ⊥) → GivesNone t a q out

@@ -22,7 +22,7 @@ use Rattle.walk.specs.Finds as f
 use Rattle.walk.specs.Answers.{refused, outcome}
 use Rattle.walk.specs.Modes.{Mode}
 use Rattle.walk.specs.Meaning.{Fault, BadFound}
-use Rattle.tables.specs.Checks.{Limits, Arrays, placesOf, byteCount}
+use Rattle.tables.specs.Checks.{Limits, Arrays, placesOf, coefficientCount}
 use Rattle.tables.specs.Tables.{Table, widthAt, recordOf, builtTo, table, refusal, left, buildOf, filledIndex, filled, not-filled, fillLeft, fillOf, Query, matrixOf}
 use Rattle.tables.specs.Tables.{limitsAt, partAt, foundIn, writtenIn, synthesized}
 use Rattle.tables.specs.Lists as lists
@@ -94,19 +94,19 @@ pub data BadRecord (t : Table) : Type 0 where
   bad-limits : (r p : ℕ) → First r p (limitCauses (t .limits)) → BadRecord t
   bad-count : (w : ℕ) → 0 < w → w ≤ t .limits .qubits → (widthAt t w .count ≡ 0) ⊎ (t .limits .entries < widthAt t w .count) → BadRecord t
 
--- one of the coefficients is -128, one below the limit's negative
-pub record Below (bytes : List ℤ) : Type 0 where
+-- one of the coefficients is -32768, one below the limit's negative
+pub record Below (numbers : List ℤ) : Type 0 where
   pub place : ℕ
-  pub inside : place < length bytes
-  pub is : getD bytes place (pos 0) ≡ negsuc limit
+  pub inside : place < length numbers
+  pub is : getD numbers place (pos 0) ≡ negsuc limit
 
 -- rows 6, 9, 10, 11
 abbrev pub queryCauses : Query → List Cause
 queryCauses q =
     cause 6 (5 < q .width)
-    ∷ cause 9 (length (q .bytes) ≡ byteCount (q .width) → ⊥)
-    ∷ cause 10 (Below (q .bytes))
-    ∷ cause 11 ((0 < q .exponent) × (allDivisible (q .width) (read (q .width) (q .bytes)) ≡ true)) ∷ []
+    ∷ cause 9 (length (q .numbers) ≡ coefficientCount (q .width) → ⊥)
+    ∷ cause 10 (Below (q .numbers))
+    ∷ cause 11 ((0 < q .exponent) × (allDivisible (q .width) (read (q .width) (q .numbers)) ≡ true)) ∷ []
 
 -- the table has the width, and the way from a node of its part that is looked at meets a fault (SPECIFICATION 7.5)
 pub record BadChain (t : Table) (a : Arrays) (q : Query) : Type 0 where
@@ -153,9 +153,9 @@ pub record FirstNotValid (n : ℕ) (codes : List ℕ) (p : ℕ) : Type 0 where
 
 -- rows 6, 9, 7, 8: the order of a list
 abbrev pub listCauses : ℕ → List ℕ → List ℤ → List Cause
-listCauses n codes bytes =
+listCauses n codes numbers =
     cause 6 (5 < n)
-    ∷ cause 9 (length bytes ≡ byteCount n → ⊥)
+    ∷ cause 9 (length numbers ≡ coefficientCount n → ⊥)
     ∷ causeAt 7 (FirstNotValid n codes)
     ∷ causeAt 8 (FirstPast n codes) ∷ []
 
@@ -173,7 +173,7 @@ pub record Exactly : Type 0 where
   pub find : (t : Table) (a : Arrays) (q : Query) (r p : ℕ) → (foundIn t a q ≡ f.refused r p) ↔ First r p (findCauses t a q)
   pub write : (t : Table) (a : Arrays) (w k : ℕ) (out after : List ℕ) (r p : ℕ)
       → (writtenIn t a w k out ≡ outcome (refused r p) after) ↔ (First r p (writeCauses t a w k out) × (after ≡ out))
-  pub list : (n : ℕ) (codes : List ℕ) (bytes after : List ℤ) (r p : ℕ)
-      → (listed n codes bytes ≡ lists.outcome (e.refused r p) after) ↔ (First r p (listCauses n codes bytes) × (after ≡ bytes))
-  pub formed : (n : ℕ) (codes : List ℕ) (bytes : List ℤ)
-      → (listed n codes bytes ≡ lists.outcome (e.given (product n codes .k)) (coefficients n (product n codes))) ↔ NoCause (listCauses n codes bytes)
+  pub list : (n : ℕ) (codes : List ℕ) (numbers after : List ℤ) (r p : ℕ)
+      → (listed n codes numbers ≡ lists.outcome (e.refused r p) after) ↔ (First r p (listCauses n codes numbers) × (after ≡ numbers))
+  pub formed : (n : ℕ) (codes : List ℕ) (numbers : List ℤ)
+      → (listed n codes numbers ≡ lists.outcome (e.given (product n codes .k)) (coefficients n (product n codes))) ↔ NoCause (listCauses n codes numbers)

@@ -135,14 +135,14 @@ buildOf mode l a = leftBy mode l a (firstRow (buildRows l a))
 pub record Query : Type 0 where
   pub width : ℕ
   pub exponent : ℕ
-  pub bytes : List ℤ
+  pub numbers : List ℤ
 
 abbrev pub query : ℕ → ℕ → List ℤ → Query
-query n k bytes = record { width = n; exponent = k; bytes = bytes }
+query n k numbers = record { width = n; exponent = k; numbers = numbers }
 
 -- the matrix asked
 abbrev pub matrixOf : Query → Exact
-matrixOf q = held (q .width) (q .exponent) (q .bytes)
+matrixOf q = held (q .width) (q .exponent) (q .numbers)
 
 -- the count of a width up to Q is bad: 0, or above E (SPECIFICATION 9.3)
 abbrev pub badCountOf : ℕ → ℕ → ℕ → ℕ → Bool
@@ -232,7 +232,7 @@ fillOf t a = filledBy t a (firstRow (lookRowsOf t indexed a))
 
 -- 13 of the record, 5, 17, 6, 9, 10, 11 in this order (SPECIFICATION 9.2)
 abbrev pub findRows : Table → Arrays → Query → List Row
-findRows t a q = lookRowsOf t (a .by) a ++ queryRows (q .width) (q .exponent) (q .bytes)
+findRows t a q = lookRowsOf t (a .by) a ++ queryRows (q .width) (q .exponent) (q .numbers)
 
 -- by the number of the first row that holds, 0 where none does
 abbrev pub foundBy : Table → Arrays → Query → ℕ → Finding

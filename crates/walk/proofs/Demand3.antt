@@ -1,4 +1,4 @@
--- Demand 3 at one width: the statements of WidthDemand, from the walk's theorems. The conditions, up to 13 gates and no shared fingerprint,
+-- Demand 3 at one width: the statements of WidthDemand, from the walk's theorems. The conditions, up to 29 gates and no shared fingerprint,
 -- are used only through hypothesis K: what the walk skipped as known was skipped rightly. Where clashing nodes are kept K holds. Assumes nothing.
 use mathlib.Core.Path.{_≡_, refl, sym, ap, _∙_, subst}
 use mathlib.Core.Bool.{Bool, false}
@@ -76,9 +76,9 @@ module _ (mode : Mode) (n basis : ℕ) (small : n ≤ 5) where
       (answer-prefix R (answersTo R x) (walk-prefix R G G′ E E′ g e) x (reverse l)
       (newest-first (answer R (built mode n basis G E .nodes) x) l a))
 
-  -- ---- up to 13 gates
+  -- ---- up to 29 gates
 
-  module _ (G E : ℕ) (le : G ≤ 13) where
+  module _ (G E : ℕ) (le : G ≤ 29) where
     -- where what was skipped as known was skipped rightly
     rightly : SkippedRightly mode n basis G E → WidthComplete mode n basis G E
     rightly K = record { shortest = short; none-exactly = empty }

@@ -1,16 +1,14 @@
--- The walk at a width and a basis meets the laws, by the laws of exact matrices; within 13 gates every step fits; and lists, products and
+-- The walk at a width and a basis meets the laws, by the laws of exact matrices; within 29 gates every step fits; and lists, products and
 -- fingerprints as callers have them, oldest gate first, are those of the walk, newest first. Assumes nothing.
 use mathlib.Core.Path.{_≡_, refl, sym, ap, _∙_, subst}
 use mathlib.Core.Bool.{true}
 use mathlib.Core.List.{List, [], _∷_, _++_, reverse, reverse-cons, reverse-reverse, List·Memᴰ}
 use Prim.Native.Nat.{ℕ, _≤_, _<_}
-use native.Mathlib.Nat.{le-trans}
 use native.Mathlib.Omega.{arith}
 use borrow.Author.Tests.{eqb-true, eq-eqb}
 use lib.ListN.{length, getD, length-reverse}
 use Rattle.ints.specs.Lists.{all}
 use Rattle.ints.proofs.Bools.{clash, and-left, and-right, and-both}
-use Rattle.cyclotomic.specs.Zomega.{limit}
 use Rattle.circuit.specs.Codes.{validFor}
 use Rattle.generators.specs.Generators.{generators}
 use Rattle.generators.proofs.Generated.{lists}
@@ -25,8 +23,7 @@ use Rattle.circuit.proofs.Coded.{code-table}
 use Rattle.exact.proofs.Listed.{product-nil, product-snoc}
 use Rattle.exact.proofs.Phases.{power-of-test, test-of-power}
 use Rattle.exact.proofs.Prints.{fingerprint-power}
-use Rattle.exact.proofs.Keeps.{step-fits}
-use Rattle.exact.proofs.Bounds.{below-square, steps-within}
+use Rattle.exact.proofs.Bounds.{candidate-fits}
 use Rattle.walk.specs.Walk.{Node, root, listAt, prod}
 use Rattle.walk.proofs.Grown.{Grown}
 use Rattle.walk.proofs.Laws.{Laws, Over, AllFit, NoClash}
@@ -139,13 +136,12 @@ module _ (mode : Mode) (n basis : ℕ) (small : n ≤ 5) where
 
   -- ---- the two conditions
 
-  -- 2^13 is below 127²
-  pub all-fit : (G : ℕ) → G ≤ 13 → AllFit (atWidth mode n basis) G
+  -- of a generator behind a list of generators, both newest gate first
+  pub all-fit : (G : ℕ) → G ≤ 29 → AllFit (atWidth mode n basis) G
   all-fit G le g l m o h =
-      let q : length (reverse l) < 13 = omega (arith, length-reverse l) in
       let t = plain n g (code-table n basis g (generator-code n basis small g m)) in
-      let r = steps-within n limit 13 (below-square limit 13 (omega arith)) g t (reverse l) (basis-plain n basis (reverse l) (over-list (reverse l) (over-reverse l o))) q in
-      ap (λ (x : Exact). atWidth mode n basis .fits g x) (sym (product-is l)) ∙ step-fits n (gateOf n g) t (product n (reverse l)) (r .0) (le-trans (r .1) (omega arith))
+      let a = basis-plain n basis (reverse l) (over-list (reverse l) (over-reverse l o)) in
+      ap (λ (x : Exact). atWidth mode n basis .fits g x) (sym (product-is l)) ∙ candidate-fits n g t (reverse l) a (omega (arith, length-reverse l))
 
   pub no-clash : (G : ℕ) → NoSharedPrint n basis G → NoClash (atWidth mode n basis) (PowerOf n) G
   no-clash G h l m a b p q e =

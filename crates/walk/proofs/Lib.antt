@@ -11,6 +11,7 @@ pub mod Completeness
 pub mod Known
 pub mod Answers
 pub mod Exactly
+pub mod Fitting
 pub mod Clashes
 pub mod Demand3
 pub mod Samples

@@ -37,11 +37,11 @@ module _ (mode : Mode) (n basis : ℕ) where
     -- larger tables agree: the same list is answered where G and E are no smaller (SPECIFICATION 8.4)
     pub larger : (G G′ E E′ : ℕ) → G ≤ G′ → E ≤ E′ → (x : Exact) (l : List ℕ)
         → answered mode n basis G E x ≡ some l → answered mode n basis G′ E′ x ≡ some l
-    -- up to 13 gates, and with no clash at the width (SPECIFICATION 8.5, 8.14)
-    pub complete : (G E : ℕ) → G ≤ 13 → NoSharedPrint n basis G → WidthComplete G E
-    -- up to 13 gates, where clashing nodes are kept: no condition on fingerprints (SPECIFICATION 8.5, 8.17)
-    pub complete-keeping : mode ≡ keeping → (G E : ℕ) → G ≤ 13 → WidthComplete G E
+    -- up to 29 gates, and with no clash at the width (SPECIFICATION 8.5, 8.14)
+    pub complete : (G E : ℕ) → G ≤ 29 → NoSharedPrint n basis G → WidthComplete G E
+    -- up to 29 gates, where clashing nodes are kept: no condition on fingerprints (SPECIFICATION 8.5, 8.17)
+    pub complete-keeping : mode ≡ keeping → (G E : ℕ) → G ≤ 29 → WidthComplete G E
     -- the same, where the table at hand was looked through and every candidate that was skipped as known was skipped rightly
-    pub complete-rightly : (G E : ℕ) → G ≤ 13 → SkippedRightly mode n basis G E → WidthComplete G E
+    pub complete-rightly : (G E : ℕ) → G ≤ 29 → SkippedRightly mode n basis G E → WidthComplete G E
     -- besides: an answered list is a list of the basis within the gate limit
     pub within : (G E : ℕ) (x : Exact) (l : List ℕ) → answered mode n basis G E x ≡ some l → ListOf n basis l × (length l ≤ G)

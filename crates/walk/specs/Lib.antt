@@ -1,6 +1,7 @@
 pub mod Walk
 pub mod Modes
 pub mod AtWidth
+pub mod Fitting
 pub mod Lookup
 pub mod Index
 pub mod IndexLaws

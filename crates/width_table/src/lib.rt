@@ -18,9 +18,9 @@ ghost use Rattle.known.specs.Known.{toldMode};
 ghost use Rattle.next_node.specs.Arrays.{Long, Live};
 ghost use Rattle.width_table.specs.Table.{LayerTried, Start, Deepened, Whole};
 use circuit::GateSet;
+use cyclotomic::Coefficient;
 use index::LookupBy;
 use known::BuildMode;
-use matrix::UnitaryMatrix;
 use next_node::Tried;
 use synthesis_arena::WidthLimits;
 
@@ -167,8 +167,8 @@ pub fn build_width(
     let mut gates: [u32; 105] = [0; 105];
     let size = generators::library_gates(limits.width, GateSet(limits.basis), &mut gates);
     let n = limits.width as usize;
-    let one = UnitaryMatrix::identity(n);
-    let data = one.data;
+    let mut data: [Coefficient; 4096] = [0; 4096];
+    matrix::put_identity(&mut data, n);
     let print = prints::unitary_fingerprint(&data, n, 0);
     next_node::put_root(by, print, fingerprints, parents, codes, index);
     if size == 0 {

@@ -33,24 +33,24 @@ abbrev μ-loop : tie.MeasureT-loop
 form-node-requires : tie.Need-form-node-requires Inv-loop μ-loop
 form-node-requires c κs =
     let p = c .before .before .before .before .before .before .before .before .before .before .before .pre in
-    (p .0 .0, (c .before .before .before .before .identity .ensures .0 .holds, live-readable (p .0 .0) (p .0 .3) (p .1 .1) (p .0 .1) (omega arith)))
+    (p .0 .0, (c .before .before .before .put-identity .ensures .0, live-readable (p .0 .0) (p .0 .3) (p .1 .1) (p .0 .1) (omega arith)))
 
 loop-holds : tie.Need-loop-holds Inv-loop μ-loop
-loop-holds c = (omega arith, λ h. node-run-start h (c .before .before .before .before .before .before .before .before .before .before .before .before .before .pre .0 .1), refl, refl, refl, refl, c .before .before .before .before .before .before .identity .ensures .0 .holds .long)
+loop-holds c = (omega arith, λ h. node-run-start h (c .before .before .before .before .before .before .before .before .before .before .before .before .pre .0 .1), refl, refl, refl, refl, refl)
 
 slice-aggregate-try-candidate : tie.Need-slice-aggregate-try-candidate Inv-loop μ-loop
 slice-aggregate-try-candidate c =
-    let f = c .before .before .before .before .before .before .before .before .before in
+    let f = c .before .before .before .before .before .before .before .before in
     let p = f .before .before .before .before .before .before .before .before .before .before .before .before .pre in
     sym (f .form-node .ensures (live-readable (p .0 .0) (p .0 .3) (p .1 .1) (p .0 .1) (omega arith)) .long)
 
 try-candidate-requires : tie.Need-try-candidate-requires Inv-loop μ-loop
 try-candidate-requires c κs =
     let l = c .before .before .before .before .before .before .before .before .loop in
-    let s = c .before .before .before .before .before .before .before .before .before .before .before .before .before .before .before .before .before .before .before .before .before .before in
+    let s = c .before .before .before .before .before .before .before .before .before .before .before .before .before .before .before .before .before .before .before .before .before in
     let p = s .pre in
     let h = p .1 .1 in
-    let w = c .before .before .before .before .before .before .before .before .before .before .form-node .ensures (live-readable (p .0 .0) (p .0 .3) h (p .0 .1) (omega arith)) in
+    let w = c .before .before .before .before .before .before .before .before .before .form-node .ensures (live-readable (p .0 .0) (p .0 .3) h (p .0 .1) (omega arith)) in
     let r = l .inv .1 h in
     (p .0 .0, (generator-valid _ _ _ (p .1 .0) (p .0 .0) (c .before .before .before .before .before .before .before .loop-test .taken), (formed-ready (s .args .limits .width) (listAt (h .ns) (s .args .node)) w, (l .inv .6, live-room (node-run-live _ _ _ _ _ _ _ _ _ _ _ r (h .deep) (h .long)) (node-run-lt _ _ _ _ _ _ _ _ _ _ _ r) (p .0 .0) (p .0 .3) (p .0 .2)))))
 
@@ -68,15 +68,15 @@ same-length-4 c = c .before .before .before .before .before .before .before .bef
 
 returns : tie.Need-returns Inv-loop μ-loop
 returns c h =
-    let s = c .before .before .before .before .before .before .before .before .before .before .before .before .before .before .before .before .before .before .before .before .before .before .before .before .before .before .before .before .before .before .before .before in
+    let s = c .before .before .before .before .before .before .before .before .before .before .before .before .before .before .before .before .before .before .before .before .before .before .before .before .before .before .before .before .before .before .before in
     let p = s .pre in
     let r = c .before .before .before .before .before .before .before .before .before .before .before .before .before .before .before .before .before .before .loop .inv .1 h in
-    let w = c .before .before .before .before .before .before .before .before .before .before .before .before .before .before .before .before .before .before .before .before .form-node .ensures (live-readable (p .0 .0) (p .0 .3) h (p .0 .1) (omega arith)) in
+    let w = c .before .before .before .before .before .before .before .before .before .before .before .before .before .before .before .before .before .before .before .form-node .ensures (live-readable (p .0 .0) (p .0 .3) h (p .0 .1) (omega arith)) in
     let e = formed-is (s .args .limits .width) (listAt (h .ns) (s .args .node)) w (toldMode (s .args .mode)) (s .args .limits .basis) (p .0 .0) (r .own-is) in
     node-run-full _ _ _ _ _ _ _ _ _ _ _ r (p .1 .0) (c .before .before .before .before .before .before .before .before .before .before .before .before .before .before .before .before .before .loop-test .taken) (c .before .before .before .before .before .before .before .before .before .try-candidate .ensures .0 (node-run-live _ _ _ _ _ _ _ _ _ _ _ r (h .deep) (h .long)) e) (c .if1 .taken)
 
 add-j : tie.Need-add-j Inv-loop μ-loop
-add-j c = omega (arith, c .before .before .before .before .before .before .before .before .before .before .before .before .before .before .before .before .before .loop-test .taken, c .before .before .before .before .before .before .before .before .before .before .before .before .before .before .before .before .before .before .before .before .before .before .before .before .before .before .before .before .before .before .before .before .good, c .before .before .before .before .before .before .before .before .before .before .before .before .before .before .before .before .before .before .before .before .before .before .before .before .before .before .before .before .before .before .before .before .fits)
+add-j c = omega (arith, c .before .before .before .before .before .before .before .before .before .before .before .before .before .before .before .before .before .loop-test .taken, c .before .before .before .before .before .before .before .before .before .before .before .before .before .before .before .before .before .before .before .before .before .before .before .before .before .before .before .before .before .before .before .good, c .before .before .before .before .before .before .before .before .before .before .before .before .before .before .before .before .before .before .before .before .before .before .before .before .before .before .before .before .before .before .before .fits)
 
 loop-less : tie.Need-loop-less Inv-loop μ-loop
 loop-less c = omega (arith, c .before .before .before .before .before .before .before .before .before .before .before .before .before .before .before .before .before .loop-test .taken)
@@ -86,10 +86,10 @@ loop-again c =
     let l = c .before .before .before .before .before .before .before .before .before .before .before .before .before .before .before .before .before .before .loop in
     let t = c .before .before .before .before .before .before .before .before .before .try-candidate in (
       omega (arith, c .before .before .before .before .before .before .before .before .before .before .before .before .before .before .before .before .before .loop-test .taken),
-      λ h. let s = c .before .before .before .before .before .before .before .before .before .before .before .before .before .before .before .before .before .before .before .before .before .before .before .before .before .before .before .before .before .before .before .before in
+      λ h. let s = c .before .before .before .before .before .before .before .before .before .before .before .before .before .before .before .before .before .before .before .before .before .before .before .before .before .before .before .before .before .before .before in
           let p = s .pre in
           let r = l .inv .1 h in
-          let w = c .before .before .before .before .before .before .before .before .before .before .before .before .before .before .before .before .before .before .before .before .form-node .ensures (live-readable (p .0 .0) (p .0 .3) h (p .0 .1) (omega arith)) in
+          let w = c .before .before .before .before .before .before .before .before .before .before .before .before .before .before .before .before .before .before .before .form-node .ensures (live-readable (p .0 .0) (p .0 .3) h (p .0 .1) (omega arith)) in
           let e = formed-is (s .args .limits .width) (listAt (h .ns) (s .args .node)) w (toldMode (s .args .mode)) (s .args .limits .basis) (p .0 .0) (r .own-is) in
           node-run-next _ _ _ _ _ _ _ _ _ _ _ r (p .1 .0) (c .before .before .before .before .before .before .before .before .before .before .before .before .before .before .before .before .before .loop-test .taken) (t .ensures .0 (node-run-live _ _ _ _ _ _ _ _ _ _ _ r (h .deep) (h .long)) e) (c .if1 .left),
       t .kept .1 .1 .1 .1 .1 .1 .1 .0 ∙ l .inv .2,
@@ -100,7 +100,7 @@ loop-again c =
     )
 
 returns-2 : tie.Need-returns-2 Inv-loop μ-loop
-returns-2 c h = node-run-end _ _ _ _ _ _ _ _ _ _ _ (c .before .loop .inv .1 h) (c .before .before .before .before .before .before .before .before .before .before .before .before .before .before .before .pre .1 .0) (c .loop-test .left)
+returns-2 c h = node-run-end _ _ _ _ _ _ _ _ _ _ _ (c .before .loop .inv .1 h) (c .before .before .before .before .before .before .before .before .before .before .before .before .before .before .pre .1 .0) (c .loop-test .left)
 
 pub try-node-spec : {M : Type 1} → statement M
 try-node-spec =
@@ -109,7 +109,7 @@ try-node-spec =
     Inv-loop
     μ-loop
     (λ c. search needs)
-    (λ c κs. search needs)
+    (λ c κs. (refl, c .before .before .before .before .before .before .before .pre .0 .0))
     form-node-requires
     loop-holds
     (λ c. search needs)

@@ -5,7 +5,7 @@ use native.Mathlib.Omega.{arith}
 use borrow.Author.Needs.{needs}
 use borrow.Author.Tests.{lt-ltb, le-ltb}
 use Rattle.places.proofs.Placed.{area-le}
-use Rattle.tables.proofs.Coefficients.{byte-count}
+use Rattle.tables.proofs.Coefficients.{coefficient-count}
 use Rattle.circuits_answers.proofs.coefficient_count.Statement.{statement}
 use Rattle.circuits_answers.proofs.coefficient_count.Tie as tie
 
@@ -20,7 +20,7 @@ mul-result c = record { fits = omega (arith, few c) }
 
 returns-2 : tie.Need-returns-2
 returns-2 c = (
-  rw (le-ltb 5 (c .before .before .args .width) (omega (arith, c .before .if1 .left))) (ap (λ (k : ℕ). 4 * k) (c .area .ensures) ∙ sym (byte-count (c .before .before .args .width))),
+  rw (le-ltb 5 (c .before .before .args .width) (omega (arith, c .before .if1 .left))) (ap (λ (k : ℕ). 4 * k) (c .area .ensures) ∙ sym (coefficient-count (c .before .before .args .width))),
   omega (arith, few c),
 )
 

@@ -1,4 +1,4 @@
--- `negative` stays in a coefficient's range: -1 less at most 127. Assumes nothing.
+-- `negative` stays in a coefficient's range: -1 less at most 32767. Assumes nothing.
 use Prim.Native.Nat.{ℕ, zero, suc, _-_, _^_, _<_}
 use native.Mathlib.Omega.{arith}
 use borrow.Author.Needs.{needs}

@@ -8,24 +8,24 @@ use lib.ListN.{length}
 use borrow.Author.Needs.{needs}
 use borrow.Author.Tests.{not-true, not-false}
 use Rattle.places.proofs.Placed.{area-le}
-use Rattle.tables.specs.Checks.{byteCount, anyBelow}
+use Rattle.tables.specs.Checks.{coefficientCount, anyBelow}
 use Rattle.refusal.specs.Told.{byRow}
 use Rattle.murm.specs.Work.{InRange}
-use Rattle.tables.proofs.Coefficients.{byte-count}
-use Rattle.murm.proofs.Bytes.{bytes-small}
+use Rattle.tables.proofs.Coefficients.{coefficient-count}
+use Rattle.murm.proofs.Numbers.{coefficients-small}
 use Rattle.murm.proofs.Answers.{query-6, query-9, query-10, query-11, query-allowed}
 use Rattle.murm.proofs.check_query.Statement.{statement}
 use Rattle.murm.proofs.check_query.Tie as tie
 
 -- the width is up to 5, and the places of its matrix are counted
-sized : (c : tie.After-area) → (c .before .before .args .width ≤ 5) × (4 * (c .area .result) ≡ byteCount (c .before .before .args .width))
-sized c = (omega (arith, c .before .if1 .left), ap (λ (k : ℕ). 4 * k) (c .area .ensures) ∙ sym (byte-count _))
+sized : (c : tie.After-area) → (c .before .before .args .width ≤ 5) × (4 * (c .area .result) ≡ coefficientCount (c .before .before .args .width))
+sized c = (omega (arith, c .before .if1 .left), ap (λ (k : ℕ). 4 * k) (c .area .ensures) ∙ sym (coefficient-count _))
 
-mul-size : tie.Need-mul-size
-mul-size c = record { fits = omega (arith, c .area .ensures, area-le (c .before .before .args .width) (sized c .0)) }
+mul-count : tie.Need-mul-count
+mul-count c = record { fits = omega (arith, c .area .ensures, area-le (c .before .before .args .width) (sized c .0)) }
 
 -- the lent coefficients are as many as the matrix has
-exact : (c : tie.Else2) → let s = c .before .before .before .args in length (s .entries .now) ≡ byteCount (s .width)
+exact : (c : tie.Else2) → let s = c .before .before .before .args in length (s .entries .now) ≡ coefficientCount (s .width)
 exact c = c .if2 .left ∙ sized (c .before) .1
 
 returns : tie.Need-returns
@@ -44,7 +44,7 @@ returns-3 c = record {
   small = λ e. absurd (omega (arith, e));
 }
 
--- no coefficient is -128
+-- no coefficient is -32768
 ranged : (c : tie.Else3) → let s = c .before .before .before .before .before .args in InRange (s .entries .now) true
 ranged c = subst (λ (b : Bool). InRange (c .before .before .before .before .before .args .entries .now) b) (not-false _ (c .if3 .left)) (c .before .in-range .ensures)
 
@@ -53,7 +53,7 @@ none-below c = not-true _ (sym (ranged c .told))
 
 -- the matrix is all there
 whole : (c : tie.Else3) → let s = c .before .before .before .before .before .args in (s .width ≤ 5) × (4 * (2 ^ (s .width) * 2 ^ (s .width)) ≤ length (s .entries .now))
-whole c = (sized (c .before .before .before) .0, le-of-eq (sym (byte-count _) ∙ sym (exact (c .before .before))))
+whole c = (sized (c .before .before .before) .0, le-of-eq (sym (coefficient-count _) ∙ sym (exact (c .before .before))))
 
 returns-4 : tie.Need-returns-4
 returns-4 c =
@@ -68,7 +68,7 @@ returns-5 c =
     let e = c .before .before in
     record {
       told = ap byRow (query-allowed (c .before .before .before .before .before .before .before .args .width) (c .before .before .before .before .before .before .before .args .exponent) (c .before .before .before .before .before .before .before .args .entries .now) (whole e .0) (exact (e .before .before)) (none-below e) (sym (c .before .is-divisible .ensures) ∙ c .if4 .left));
-      small = λ z. bytes-small _ _ (exact (e .before .before)) (ranged e .small refl);
+      small = λ z. coefficients-small _ _ (exact (e .before .before)) (ranged e .small refl);
     }
 
 pub check-query-spec : {M : Type 1} → statement M
@@ -77,7 +77,7 @@ check-query-spec =
     (tie.spec
     returns
     (λ c κs. search needs)
-    mul-size
+    mul-count
     returns-2
     (λ c κs. search needs)
     returns-3

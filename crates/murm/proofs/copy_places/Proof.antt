@@ -5,7 +5,7 @@ use native.Mathlib.Omega.{arith}
 use lib.ListN.{length, take, length-set}
 use lib.Seq.{take-all}
 use borrow.Author.Needs.{needs}
-use Rattle.murm.proofs.Bytes.{copied-more}
+use Rattle.murm.proofs.Numbers.{copied-more}
 use Rattle.murm.proofs.copy_places.Statement.{statement}
 use Rattle.murm.proofs.copy_places.Tie as tie
 
@@ -33,6 +33,8 @@ copy-places-spec =
     Inv-loop
     μ-loop
     (λ c. (omega arith, search needs, refl))
+    (λ c. search needs)
+    (λ c. search needs)
     (λ c. search needs)
     (λ c. search needs)
     (λ c. search needs)

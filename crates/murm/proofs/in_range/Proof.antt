@@ -36,6 +36,7 @@ in-range-spec =
     μ-loop
     (λ c. range-none _)
     (λ c. search needs)
+    (λ c. search needs)
     (λ c κs. search needs)
     (λ c. search needs)
     (λ c. search needs)

@@ -1,4 +1,4 @@
--- `past_limit` meets its contract: a coefficient below the limit's negative is -128. The comparison is made in the wide type.
+-- `past_limit` meets its contract: a coefficient below the limit's negative is -32768. The comparison is made in the wide type.
 use borrow.Author.Needs.{needs}
 use mir.Facts.{toZ-ofZ, sfits-widen}
 use Rattle.cyclotomic.specs.Zomega.{near, far}

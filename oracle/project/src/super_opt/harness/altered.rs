@@ -1,6 +1,6 @@
 //! The places of a table that are altered, and the values that they get.
 
-use super::port::Table;
+use super::lent::Table;
 
 /// A place of a table. A node's place is one of the three arrays' filled places.
 #[derive(Clone, Copy)]

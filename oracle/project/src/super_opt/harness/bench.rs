@@ -38,7 +38,7 @@ struct Case<G> {
     codes: Vec<u32>,
     matrix: UnitaryMatrix,
     exponent: u16,
-    coefficients: Vec<i8>,
+    coefficients: Vec<i16>,
 }
 
 pub(super) fn run(arguments: &[String], out: &mut dyn Write) -> io::Result<()> {
@@ -221,7 +221,7 @@ fn time_lists<G>(
 fn time_fingerprints<G>(
     width: usize,
     cases: &[Case<G>],
-    port: fn(usize, u16, &[i8]) -> u64,
+    port: fn(usize, u16, &[i16]) -> u64,
 ) -> (f64, f64) {
     race(
         || {

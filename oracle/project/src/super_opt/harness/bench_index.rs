@@ -5,7 +5,7 @@ use std::io::{self, Write};
 use std::time::Instant;
 
 use super::bench_tables::{built, limits, time_asked, time_build, write_rates};
-use super::port::{By, Mode, Table};
+use super::lent::{By, Mode, Table};
 use super::tables::Limits;
 use crate::circuit::GateSet;
 use crate::super_opt::murm::{LibraryGate, library_gates};

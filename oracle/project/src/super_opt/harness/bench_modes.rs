@@ -9,7 +9,7 @@ use std::io::{self, Write};
 use super::bench::turns;
 use super::bench_tables::{BASES, GATES, WHOLE_ENTRIES, WHOLE_GATES, built, limits};
 use super::indexes::same;
-use super::port::{By, Mode, Table};
+use super::lent::{By, Mode, Table};
 use super::tables::Limits;
 
 /// The seconds and nanoseconds of a clock, on Linux.

@@ -7,8 +7,8 @@ use std::io::{self, Write};
 
 use super::bench::race;
 use super::indexes::sizes;
+use super::lent::{By, Lookup, Mode, Reply, Table};
 use super::lists::Parts;
-use super::port::{By, Lookup, Mode, Reply, Table};
 use super::random::Random;
 use super::tables::{Limits, nodes_of};
 use crate::circuit::GateSet;
@@ -40,7 +40,7 @@ const LENGTH: usize = 20;
 struct Question {
     matrix: UnitaryMatrix,
     exponent: u16,
-    coefficients: Vec<i8>,
+    coefficients: Vec<i16>,
 }
 
 /// One line: how many of something each does in a second.

@@ -1,15 +1,15 @@
 //! Mode `circuits`: the program of that name, with the original's tables, matrices
-//! and answers. Standard input holds runs: each is a line `run LENGTH`, so many
+//! and answers, and those of the second reading where the original overflows. Standard input holds runs: each is a line `run LENGTH`, so many
 //! bytes, which are the program's input, and a newline. Each is answered by a
 //! line `run LENGTH` and so many bytes, which are the program's output.
 
 use std::io::{self, Read, Write};
 use std::panic::{AssertUnwindSafe, catch_unwind};
 
-use super::codes::code_of_gate;
+use super::lent::Mode;
 use super::lists::List;
-use super::tables::{Limits, write_table};
-use crate::super_opt::murm::Murm;
+use super::measure::{Counts, Measure};
+use super::tables::{Built, Limits, Question, Verdict, write_table};
 
 /// The longest input that the program reads.
 pub(super) const MOST_INPUT: usize = 16384;
@@ -24,18 +24,21 @@ pub(super) fn run(_: &[String], out: &mut dyn Write) -> io::Result<()> {
     let mut input = Vec::new();
     io::stdin().lock().read_to_end(&mut input)?;
     let mut rest = &input[..];
+    let mut counts = Counts::default();
     while !rest.is_empty() {
         let Some((input, after)) = first_run(rest) else {
             return Err(io::Error::other("a run has another form"));
         };
         let mut output = Vec::new();
-        if catch_unwind(AssertUnwindSafe(|| program(input, &mut output))).is_err() {
+        let program = AssertUnwindSafe(|| program(input, &mut output, &mut counts));
+        if catch_unwind(program).is_err() {
             output = b"panicked\n".to_vec();
         }
         writeln!(out, "run {}", output.len())?;
         out.write_all(&output)?;
         rest = after;
     }
+    counts.tell();
     Ok(())
 }
 
@@ -56,24 +59,31 @@ pub(super) fn first_run(runs: &[u8]) -> Option<(&[u8], &[u8])> {
 }
 
 /// What the program prints for an input.
-fn program(input: &[u8], out: &mut Vec<u8>) {
+fn program(input: &[u8], out: &mut Vec<u8>, counts: &mut Counts) {
+    let mut refused = |refusal: &str| {
+        counts.add("tables", Measure::Check, refusal);
+        put(out, refusal);
+    };
     if input.len() > MOST_INPUT {
-        return put(out, TOO_LONG);
+        return refused(TOO_LONG);
     }
     let mut lines = input
         .split_inclusive(|&byte| byte == b'\n')
         .map(|line| str::from_utf8(line).unwrap_or_default());
     let Some(limits) = lines.next().and_then(Limits::of_numbers) else {
-        return put(out, BROKEN);
+        return refused(BROKEN);
     };
     if let Some(row) = limits.refusal(PLACES) {
-        return put(out, &format!("refused {row} 0"));
+        return refused(&format!("refused {row} 0"));
     }
-    let table = limits.build();
+    let built = Built::of(limits, Mode::ByPrint);
+    counts.add("tables", built.measure, "");
     let first = |node: usize, _| node.to_string();
-    write_table(&table, limits.qubits, first, out).expect("memory can be written");
+    write_table(&built.table, first, out).expect("memory can be written");
     for line in lines {
-        put(out, &query(line, &table));
+        let (measure, answer) = query(line, &built);
+        counts.add("queries", measure, &answer);
+        put(out, &answer);
     }
 }
 
@@ -83,24 +93,34 @@ fn put(out: &mut Vec<u8>, line: &str) {
 }
 
 /// The answer to a query line, given with its newline.
-fn query(line: &str, table: &Murm) -> String {
+fn query(line: &str, built: &Built) -> (Measure, String) {
     let Some(list) = List::of_numbers(line) else {
-        return BROKEN.to_owned();
+        return (Measure::Check, BROKEN.to_owned());
     };
-    let matrix = match list.matrix() {
+    let (formed, matrix) = list.judged();
+    let matrix = match matrix {
         Ok(matrix) => matrix,
-        Err(refusal) => return refusal,
+        Err(refusal) => return (formed, refusal),
     };
-    let Some(gates) = table.synthesize(&matrix) else {
-        return "none".to_owned();
+    let question = Question {
+        width: matrix.width,
+        exponent: matrix.exponent as u16,
+        coefficients: matrix.coefficients(),
     };
-    let codes: Vec<u32> = gates.iter().map(code_of_gate).collect();
-    let mut line = format!("{} {}", codes.len(), t_charge(&codes));
-    for code in codes {
-        line.push(' ');
-        line.push_str(&code.to_string());
-    }
-    line
+    let (asked, verdict) = question.judged(built);
+    let line = match verdict {
+        Verdict::Refused(row) => panic!("a product is refused by {row}"),
+        Verdict::None(_) => "none".to_owned(),
+        Verdict::List { codes, .. } => {
+            let mut line = format!("{} {}", codes.len(), t_charge(&codes));
+            for code in codes {
+                line.push(' ');
+                line.push_str(&code.to_string());
+            }
+            line
+        }
+    };
+    (formed.with(asked), line)
 }
 
 /// The sum of the gates' charges: 1 for T and Tdg, 7 for Ccx and Ccz (SPECIFICATION 2.9).

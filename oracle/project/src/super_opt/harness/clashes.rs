@@ -4,10 +4,11 @@
 //! the scan, through an index that is filled from it, and through altered ones.
 
 use super::damage::{MOST, TABLES, asked, limits_of, listed};
+use super::exact::{LIMIT, Matrix, ORIGINAL_LIMIT, gate};
 use super::indexes::{WIDE, built, sizes, used};
-use super::port::{Finding, Reply, Table, through};
+use super::lent::{Finding, Reply, Table, through};
 use super::random::Random;
-use super::rules::{Asked, EMPTY, Matrix, gate, part_size, probe, written};
+use super::rules::{Asked, EMPTY, part_size, probe, written};
 use super::tally::Tally;
 
 /// How often some nodes of each table get one fingerprint, and are spoilt, at random.
@@ -21,21 +22,44 @@ const SDG: u32 = 16384;
 const T: u32 = 20480;
 const TDG: u32 = 24576;
 
-/// 50 gates that fit, after which one more H fits and two do not, although two come to
-/// nothing.
+/// 50 gates, after which one H comes within 127 and a second one passes it, although two
+/// come to nothing.
 #[rustfmt::skip]
 const LARGE: [u32; 50] = [
     H, TDG, H, T, H, T, H, TDG, H, TDG, H, T, H, TDG, H, T, H, T, H, TDG, H, TDG, H, T, H,
     TDG, H, T, H, T, H, TDG, H, T, H, TDG, H, TDG, H, T, H, TDG, H, TDG, H, TDG, H, TDG, H, T,
 ];
 
-/// 53 gates that fit, after which H does not.
+/// 53 gates within 127, after which H passes it.
 #[rustfmt::skip]
 const LARGER: [u32; 53] = [
     TDG, H, T, H, T, H, TDG, H, TDG, H, T, H, T, H, T, H, TDG, H, T, H, TDG, H, T, H, T, H,
     T, H, TDG, H, TDG, H, TDG, H, TDG, H, T, H, T, H, TDG, H, TDG, H, T, H, TDG, H, TDG, H,
     TDG, H, S,
 ];
+
+/// 60 gates that fit, after which one more H fits and two do not, although two come to
+/// nothing. Only with Ccx, and so from width 3 on, were lists found that pass 32767
+/// within 64 gates.
+#[rustfmt::skip]
+const FAR_LARGE: [u32; 60] = [
+    512, 256, 41248, 256, 40978, 256, 41248, 256, 40978, 256, 41248, 512, 25088, 256, 40978,
+    0, 40993, 0, 24576, 512, 41248, 512, 40993, 0, 40978, 0, 40993, 0, 40978, 0, 40993, 0,
+    40978, 0, 40993, 0, 40978, 0, 40993, 0, 40978, 0, 40993, 0, 40978, 0, 40993, 0, 40978,
+    0, 40993, 0, 40978, 0, 20480, 256, 41248, 256, 40978, 256,
+];
+
+/// 60 gates that fit, after which H does not.
+#[rustfmt::skip]
+const FAR_LARGER: [u32; 60] = [
+    512, 256, 41248, 256, 40978, 256, 41248, 256, 40978, 256, 41248, 512, 25088, 256, 40978,
+    0, 40993, 0, 24576, 512, 41248, 512, 40993, 0, 40978, 0, 40993, 0, 40978, 0, 40993, 0,
+    40978, 0, 40993, 0, 40978, 0, 40993, 0, 40978, 0, 20992, 256, 40978, 256, 41248, 256,
+    40978, 256, 41248, 256, 40978, 256, 41248, 256, 40978, 256, 0, 12288,
+];
+
+/// How many places a width has in a table that is one chain.
+const CHAIN: usize = 70;
 
 /// How the chain of a node is made bad.
 #[derive(Clone, Copy, Debug, PartialEq)]
@@ -79,6 +103,9 @@ pub(super) fn run(tally: &mut Tally) {
         }
     }
     for width in 1..=5 {
+        passes_127(width, &mut asker);
+    }
+    for width in 3..=5 {
         does_not_fit(width, &mut asker);
     }
     tally.end_part();
@@ -568,24 +595,64 @@ impl<'a> Part<'a> {
     }
 }
 
+/// A table whose last width is one chain, by the places of its nodes, and where its part
+/// starts. No node has a fingerprint yet.
+fn chain_of(width: u32, list: &[u32]) -> (Table, usize) {
+    let basis = 1 | 8 | 32 | 64 | 1024;
+    let limits = limits_of([width, MOST as u32, CHAIN as u32, basis]);
+    let start = (width as usize - 1) * CHAIN;
+    let mut chain = Table::with_places(limits, width as usize * CHAIN);
+    for row in 0..width as usize {
+        chain.record[3 * row] = 1;
+        (chain.parents[CHAIN * row], chain.codes[CHAIN * row]) = (EMPTY, EMPTY);
+    }
+    for (node, &code) in (1..).zip(list) {
+        chain.parents[start + node] = node as u32 - 1;
+        chain.codes[start + node] = code;
+    }
+    chain.record[3 * (width as usize - 1)] = list.len() as u64 + 1;
+    (chain, start)
+}
+
+/// Chains whose last gate passes 127, where the original would overflow. They fit: the
+/// node is found by its product, also after another node with its fingerprint.
+fn passes_127(width: u32, asker: &mut Asker) {
+    for list in [[&LARGE[..], &[H, H]].concat(), [&LARGER[..], &[H]].concat()] {
+        let end = list.len();
+        let before = Matrix::of_list(width, &list, ORIGINAL_LIMIT);
+        let (place, _) = before.expect_err("it passes 127");
+        assert_eq!(place, end - 1, "at its end");
+        let (mut table, start) = chain_of(width, &list);
+        let matrix = listed(width, &list);
+        table.fingerprints[start + end] = matrix.fingerprint();
+        asker.tally.new_questions();
+        for power in 0..8 {
+            let found = asker.ask(&table, power, &asked(&matrix, power));
+            asker.expect(
+                &table,
+                "a product past 127",
+                &found,
+                &Finding::Node(end, end),
+            );
+        }
+        table.fingerprints[start + 3] = matrix.fingerprint();
+        let found = asker.ask(&table, 0, &asked(&matrix, 0));
+        asker.expect(&table, "after another", &found, &Finding::Node(end, end));
+    }
+}
+
 /// A chain whose last gate does not fit, with the fingerprint of one of its beginnings,
 /// before and after a node that has that beginning as its list.
 fn does_not_fit(width: u32, asker: &mut Asker) {
-    for list in [[&LARGE[..], &[H, H]].concat(), [&LARGER[..], &[H]].concat()] {
+    for list in [
+        [&FAR_LARGE[..], &[H, H]].concat(),
+        [&FAR_LARGER[..], &[H]].concat(),
+    ] {
         let end = list.len();
-        assert!(Matrix::of_list(width, &list).is_none(), "it does not fit");
-        let limits = limits_of([width, MOST as u32, 64, 1 | 8 | 32 | 64]);
-        let places = width as usize * 64;
-        let start = (width as usize - 1) * 64;
-        let mut chain = Table::with_places(limits, places);
-        for row in 0..width as usize {
-            chain.record[3 * row] = 1;
-            (chain.parents[64 * row], chain.codes[64 * row]) = (EMPTY, EMPTY);
-        }
-        for (node, &code) in (1..).zip(&list) {
-            chain.parents[start + node] = node as u32 - 1;
-            chain.codes[start + node] = code;
-        }
+        let before = Matrix::of_list(width, &list, LIMIT);
+        let (place, _) = before.expect_err("it does not fit");
+        assert_eq!(place, end - 1, "at its end");
+        let (mut chain, start) = chain_of(width, &list);
         // Three more nodes, each of which may be a beginning again, or what follows the
         // gate that does not fit.
         chain.record[3 * (width as usize - 1)] = end as u64 + 4;

@@ -9,11 +9,12 @@ use std::io::{self, Write};
 
 use super::altered::{Place, places, values};
 use super::clashes;
+use super::exact::{LIMIT, Matrix, times_root, turned};
 use super::indexes;
+use super::lent::{By, Finding, Reply, Table};
 use super::orders;
-use super::port::{By, Finding, Reply, Table};
 use super::random::Random;
-use super::rules::{Asked, Matrix, times_root, turned, written};
+use super::rules::{Asked, written};
 use super::tables::Limits;
 use super::tally::Tally;
 use super::weakened;
@@ -82,16 +83,16 @@ pub(super) fn limits_of([qubits, gates, entries, basis]: [u32; 4]) -> Limits {
 
 /// A matrix as it is asked, times a power of omega.
 pub(super) fn asked(matrix: &Matrix, power: usize) -> Asked {
-    let entries = matrix.entries.iter();
-    let bytes = entries
-        .flat_map(|&entry| turned(entry, power))
-        .map(|coefficient| coefficient as i8);
-    Asked::new(matrix.width, matrix.exponent as u16, bytes.collect())
+    let mut matrix = matrix.clone();
+    for entry in &mut matrix.entries {
+        *entry = turned(*entry, power);
+    }
+    Asked::new(matrix.width, matrix.exponent as u16, matrix.coefficients())
 }
 
 /// The matrix of a list that fits.
 pub(super) fn listed(width: u32, codes: &[u32]) -> Matrix {
-    Matrix::of_list(width, codes).expect("a short list fits")
+    Matrix::of_list(width, codes, LIMIT).expect("the list fits")
 }
 
 /// Arrays of twice as many places as a table has, that look like nodes: T after
@@ -146,7 +147,8 @@ pub(super) fn questions(table: &Table) -> Vec<Asked> {
             all.push(asked(&listed(width, &list[..1]), power));
             all.push(asked(&listed(width, list), power));
         }
-        // Not unitary; not lowest; -128; a wrong length.
+        // Not unitary; not lowest; -32768, and what lies within the limit; the low bytes
+        // of the identity; a wrong length.
         let size = 1 << (2 * width);
         all.push(Asked::new(width, 1, [1, 0, 0, 0].repeat(size)));
         all.push(Asked::new(width, 0, vec![0; 4 * size]));
@@ -155,18 +157,29 @@ pub(super) fn questions(table: &Table) -> Vec<Asked> {
         scaled.exponent += 1;
         scaled.entries = scaled.entries.into_iter().map(times_root).collect();
         all.push(asked(&scaled, 0));
-        let mut past = vec![0; 4 * size];
-        past[4 * size - 1] = -128;
-        all.push(Asked::new(width, 0, past.clone()));
-        all.push(Asked::new(width, 1, past));
-        all.push(Asked::new(width, 0, vec![-128; 4 * size - 1]));
+        let last = |coefficient: i16| {
+            let mut all = vec![0; 4 * size];
+            all[4 * size - 1] = coefficient;
+            all
+        };
+        all.push(Asked::new(width, 0, last(i16::MIN)));
+        all.push(Asked::new(width, 1, last(i16::MIN)));
+        for within in [-128, 128, 32767, -32767] {
+            all.push(Asked::new(width, 0, last(within)));
+        }
+        let mut low = Matrix::identity(width).coefficients();
+        low[4 * size - 4] += 256;
+        all.push(Asked::new(width, 0, low));
+        all.push(Asked::new(width, 0, vec![i16::MIN; 4 * size - 1]));
+        all.push(Asked::new(width, 0, vec![0; 8 * size]));
+        all.push(Asked::new(width, 0, vec![0; 2 * size]));
         all.push(Asked::new(width, 0, Vec::new()));
     }
     all.push(asked(&Matrix::identity(0), 0));
     for width in limits.qubits + 1..=5 {
         all.push(asked(&Matrix::identity(width), 0));
     }
-    all.push(Asked::new(6, 0, vec![-128; 16]));
+    all.push(Asked::new(6, 0, vec![i16::MIN; 16]));
     all.push(Asked::new(4294967295, 0, vec![0; 4]));
     all
 }

@@ -1,28 +1,29 @@
-//! Lists that come to the limit of 127, and lists that just pass it. They are
-//! found by random walks of the original: before each H the sums and differences
-//! that it will form are worked out from the matrix as it stands.
+//! Lists that come to the original's limit of 127, and lists that just pass it, up to
+//! which the original is the measure. They are found by random walks: before each H
+//! the sums and differences that it will form are worked out from the matrix as it
+//! stands, and the original must refuse what passes 127.
 
-use super::codes::{code_of, valid_gates};
+use super::codes::{code_of, list_gate, valid_gates};
+use super::exact::{Entry, Matrix, ORIGINAL_LIMIT, divisible, most};
 use super::inputs::{MOST_GATES, list, valid_codes};
-use super::lists::{List, Parts, apply};
+use super::lists::{List, product};
 use super::random::Random;
-use crate::super_opt::matrix::UnitaryMatrix;
 use crate::super_opt::murm::LibraryGate as Gate;
 
 /// How many lists of each sort are looked for at a width, in how many walks.
 const WANTED: usize = 8;
 const WALKS: usize = 4000;
 
-/// What an H comes to. The last three are refused.
-#[derive(Clone, Copy, PartialEq)]
+/// What a gate comes to, held against a limit. The last three do not fit.
+#[derive(Clone, Copy, Debug, PartialEq)]
 pub(super) enum Edge {
-    /// 127 and nothing larger, and not -127.
+    /// The limit and nothing larger, and not its negative.
     Reaches,
-    /// -127 and nothing smaller, and not 127.
+    /// Its negative and nothing smaller, and not the limit.
     ReachesBelow,
-    /// 128 and nothing larger, and no less than -127.
+    /// One past the limit and nothing larger, and no less than its negative.
     Passes,
-    /// -128 and nothing smaller, and no more than 127.
+    /// One past its negative and nothing smaller, and no more than the limit.
     PassesBelow,
     /// Too large before lowering, and not after.
     FitsLowered,
@@ -91,7 +92,7 @@ fn search(width: usize, random: &mut Random) -> Vec<(Edge, Vec<u32>)> {
         if EDGES.into_iter().all(|edge| found.enough(edge)) {
             break;
         }
-        let mut matrix = UnitaryMatrix::identity(width).expect("the width is small");
+        let mut matrix = Matrix::identity(width as u32);
         let mut codes = Vec::new();
         // Places are left for what may follow.
         while codes.len() + 5 < MOST_GATES {
@@ -103,7 +104,7 @@ fn search(width: usize, random: &mut Random) -> Vec<(Edge, Vec<u32>)> {
             }
             let fits = gates.iter().all(|&gate| {
                 codes.push(code_of(gate));
-                apply(&mut matrix, gate)
+                matrix.step(code_of(gate), ORIGINAL_LIMIT)
             });
             if !fits {
                 break;
@@ -126,66 +127,50 @@ impl Found {
     }
 
     /// Looks at H on each qubit, after the list whose matrix this is.
-    fn look(&mut self, matrix: &UnitaryMatrix, width: usize, codes: &[u32]) {
-        let parts = Parts::of(matrix);
-        // The squares of a column's coefficients add up to 2^k; below this k no
-        // sum comes near the limit.
-        if parts.exponent < 11 {
+    fn look(&mut self, matrix: &Matrix, width: usize, codes: &[u32]) {
+        // No sum comes near the limit.
+        if 2 * most(&matrix.entries) < ORIGINAL_LIMIT {
             return;
         }
         for qubit in 0..width as u8 {
-            let Some(edge) = edge_of(&sums(&parts.coefficients, width, qubit, |_| true)) else {
+            let h = code_of(Gate::H(qubit));
+            let Some(edge) = edge_of(&matrix.raw(h).entries, ORIGINAL_LIMIT) else {
                 continue;
             };
-            let refused = !matches!(edge, Edge::Reaches | Edge::ReachesBelow);
-            let fits = apply(&mut matrix.clone(), Gate::H(qubit));
-            assert_ne!(refused, fits, "the original refuses what passes 127");
-            if !self.enough(edge) {
-                let codes = [codes, &[code_of(Gate::H(qubit))]].concat();
-                self.lists.push((edge, codes));
+            if self.enough(edge) {
+                continue;
             }
+            let codes = [codes, &[h]].concat();
+            let refused = !matches!(edge, Edge::Reaches | Edge::ReachesBelow);
+            assert_ne!(refused, fits(width, &codes), "it refuses what passes 127");
+            self.lists.push((edge, codes));
         }
     }
 }
 
-/// What an H comes to that forms these sums, where it is one of the edges.
-pub(super) fn edge_of(raw: &[i16]) -> Option<Edge> {
-    let most = *raw.iter().max()?;
-    let least = *raw.iter().min()?;
-    match (most, least) {
-        (127, -126..) => Some(Edge::Reaches),
-        (..127, -127) => Some(Edge::ReachesBelow),
-        (128, -127..) => Some(Edge::Passes),
-        (..128, -128) => Some(Edge::PassesBelow),
-        _ if most.max(-least) > 127 && raw.chunks_exact(4).all(divisible) => {
-            Some(Edge::FitsLowered)
-        }
-        _ => None,
-    }
+/// Whether a list fits, by the original.
+fn fits(width: usize, codes: &[u32]) -> bool {
+    let gate = |&code: &u32| list_gate(code, width).expect("a valid code");
+    let gates: Vec<_> = codes.iter().map(gate).collect();
+    product(width, &gates).is_ok()
 }
 
-/// The coefficients of all sums and differences of rows that differ in the
-/// qubit's bit, of those rows that are taken.
-pub(super) fn sums(
-    coefficients: &[i8],
-    width: usize,
-    qubit: u8,
-    taken: impl Fn(usize) -> bool,
-) -> Vec<i16> {
-    let places = 4 << width;
-    let bit = 1 << (width - 1 - usize::from(qubit));
-    let mut raw = Vec::new();
-    for row in (0..1 << width).filter(|&row| row & bit == 0 && taken(row)) {
-        let of = |row: usize| {
-            let row = &coefficients[row * places..(row + 1) * places];
-            row.iter().map(|&coefficient| i16::from(coefficient))
-        };
-        raw.extend(of(row).zip(of(row | bit)).map(|(x, y)| x + y));
-        raw.extend(of(row).zip(of(row | bit)).map(|(x, y)| x - y));
+/// What an H comes to that forms these entries, where it is one of the edges.
+pub(super) fn edge_of(raw: &[Entry], limit: i64) -> Option<Edge> {
+    let most = *raw.iter().flatten().max()?;
+    let least = *raw.iter().flatten().min()?;
+    if most == limit && least > -limit {
+        return Some(Edge::Reaches);
     }
-    raw
-}
-
-pub(super) fn divisible(entry: &[i16]) -> bool {
-    (entry[0] + entry[2]) % 2 == 0 && (entry[1] + entry[3]) % 2 == 0
+    if most < limit && least == -limit {
+        return Some(Edge::ReachesBelow);
+    }
+    if most == limit + 1 && least >= -limit {
+        return Some(Edge::Passes);
+    }
+    if most <= limit && least == -limit - 1 {
+        return Some(Edge::PassesBelow);
+    }
+    let large = most.max(-least) > limit;
+    (large && raw.iter().all(divisible)).then_some(Edge::FitsLowered)
 }

@@ -1,5 +1,5 @@
 //! Lists with the six kinds that tables do not have: what `inputs all` and
-//! `inputs sample` have after all other lists.
+//! `inputs sample` have after the lists of the eleven kinds.
 
 use super::codes::{FURTHER, list_codes, list_codes_of, list_kinds};
 use super::edges::EDGES;
@@ -241,10 +241,15 @@ pub(super) fn any_codes(width: usize, most: usize, random: &mut Random) -> Vec<u
     Choices::of(width).codes(Style::Any, count, random)
 }
 
-/// Gates that let coefficients grow, mostly until one does not fit.
+/// Gates that let coefficients grow, mostly until the original overflows.
 pub(super) fn growing_codes(width: usize, random: &mut Random) -> Vec<u32> {
+    growing_codes_of(width, GATES, random)
+}
+
+/// So many gates that let coefficients grow.
+pub(super) fn growing_codes_of(width: usize, count: usize, random: &mut Random) -> Vec<u32> {
     let style = STYLES[1 + random.below(STYLES.len() - 1)];
-    Choices::of(width).codes(style, GATES, random)
+    Choices::of(width).codes(style, count, random)
 }
 
 /// A gate of one of the six kinds, where the width has one.
@@ -338,7 +343,8 @@ pub(super) fn invalid_codes(width: usize) -> Vec<u32> {
 
 /// T and Ch in turns on one pair of qubits. No sum is formed in the inactive
 /// rows, they hold sqrt(2)^k: after 24 pairs (0, 64, 0, -64), of which the next
-/// Ch would make 128. A code that is not valid is told before that.
+/// Ch makes 128, where the original overflows. A code that is not valid is told
+/// before that.
 fn roots() -> Vec<List> {
     let mut lists = Vec::new();
     for width in 2..=5 {

@@ -1,15 +1,15 @@
-//! Lists that come to the limit of 127, and lists that just pass it, at an Sx or
-//! a Ch. They are found as in `edges`: before each such gate the coefficients
+//! Lists that come to the original's limit of 127, and lists that just pass it, at an
+//! Sx or a Ch. They are found as in `edges`: before each such gate the coefficients
 //! that it will form are worked out from the matrix as it stands.
 
-use super::codes::{list_codes, list_codes_of, list_gate};
-use super::edges::{EDGES, Edge, divisible, edge_of, sums};
+use super::codes::{list_codes, list_codes_of};
+use super::edges::{EDGES, Edge, edge_of};
+use super::exact::{Entry, Matrix, ORIGINAL_LIMIT, divided_by_root, divisible, most};
 use super::inputs::list;
-use super::lists::{List, Parts, apply_gate};
+use super::lists::List;
 use super::random::Random;
-use super::refusals::{Cause, cause};
-use crate::circuit::{Gate, GateKind as Kind};
-use crate::super_opt::matrix::UnitaryMatrix;
+use super::refusals::{Cause, cause, parted};
+use crate::circuit::GateKind as Kind;
 
 /// How many lists of each sort are looked for at a width, and the most gates of
 /// one.
@@ -33,8 +33,8 @@ pub(super) const PARTS: [Cause; 4] = [
 pub(super) struct Found {
     pub(super) part: Cause,
     pub(super) edge: Edge,
-    width: usize,
-    codes: Vec<u32>,
+    pub(super) width: usize,
+    pub(super) codes: Vec<u32>,
 }
 
 impl Found {
@@ -93,7 +93,7 @@ pub(super) fn search(width: usize) -> Vec<Found> {
         if wanted.iter().all(|sort| enough(&found, sort)) {
             break;
         }
-        let mut matrix = UnitaryMatrix::identity(width).expect("the width is small");
+        let mut matrix = Matrix::identity(width as u32);
         let mut codes = Vec::new();
         while codes.len() < GATES {
             let mixer = random.one_of(&mixers);
@@ -104,12 +104,12 @@ pub(super) fn search(width: usize) -> Vec<Found> {
             }
             let fits = gates.iter().all(|&code| {
                 codes.push(code);
-                apply_gate(&mut matrix, &gate(code, width))
+                matrix.step(code, ORIGINAL_LIMIT)
             });
             if !fits {
                 break;
             }
-            for (code, part, edge) in look(&matrix, &asked) {
+            for (code, part, edge) in look(&matrix, &asked, ORIGINAL_LIMIT) {
                 if wanted.contains(&(part, edge)) && !enough(&found, &(part, edge)) {
                     let codes = [&codes[..], &[code]].concat();
                     let one = Found {
@@ -118,7 +118,7 @@ pub(super) fn search(width: usize) -> Vec<Found> {
                         width,
                         codes,
                     };
-                    check(&one);
+                    check(&one, ORIGINAL_LIMIT);
                     found.push(one);
                 }
             }
@@ -127,12 +127,13 @@ pub(super) fn search(width: usize) -> Vec<Found> {
     found
 }
 
-/// The original must refuse what passes 127, for the part that passes it.
-fn check(found: &Found) {
-    let told = cause(&list(found.width, found.codes.clone()));
+/// What passes a limit must be refused within it, for the part that passes it; by the
+/// original too, where the limit is its own.
+pub(super) fn check(found: &Found, limit: i64) {
+    let told = cause(&list(found.width, found.codes.clone()), limit);
     let fits = matches!(found.edge, Edge::Reaches | Edge::ReachesBelow);
     match found.part {
-        // What comes to 127 in the first H may pass it in the second.
+        // What comes to the limit in the first H may pass it in the second.
         Cause::SxFirst if fits => assert!(told != Some(Cause::SxFirst)),
         _ if fits => assert!(told.is_none()),
         part => assert!(told == Some(part)),
@@ -140,93 +141,68 @@ fn check(found: &Found) {
 }
 
 /// The qubit that an H, an Sx or a Ch acts on.
-fn target(code: u32) -> u32 {
+pub(super) fn target(code: u32) -> u32 {
     match code / 4096 == Kind::Ch as u32 {
         true => code / 16 % 16,
         false => code / 256 % 16,
     }
 }
 
-fn gate(code: u32, width: usize) -> Gate {
-    list_gate(code, width).expect("a valid code")
-}
-
-/// The edges that these gates come to after the matrix.
-fn look(matrix: &UnitaryMatrix, asked: &[u32]) -> Vec<(u32, Cause, Edge)> {
-    let parts = Parts::of(matrix);
-    // As in `edges`, but an Sx forms its last sums with k one larger.
-    if parts.exponent < 10 {
+/// The edges of a limit that these gates come to after the matrix.
+pub(super) fn look(matrix: &Matrix, asked: &[u32], limit: i64) -> Vec<(u32, Cause, Edge)> {
+    // Each of the two H of an Sx at most doubles the largest coefficient.
+    if 4 * most(&matrix.entries) < limit {
         return Vec::new();
     }
     let mut edges = Vec::new();
     for &code in asked {
-        let found = match gate(code, matrix.num_qubits()) {
-            Gate::sx(qubit) => look_at_sx(matrix, &parts, qubit),
-            Gate::ch { control, target } => {
-                look_at_ch(&parts, matrix.num_qubits(), control, target)
-            }
-            _ => panic!("only Sx and Ch are asked"),
+        let found = match code / 4096 {
+            kind if kind == Kind::H as u32 => look_at_h(matrix, code, limit),
+            kind if kind == Kind::Sx as u32 => look_at_sx(matrix, code, limit),
+            kind if kind == Kind::Ch as u32 => look_at_ch(matrix, code, limit),
+            _ => panic!("only H, Sx and Ch are asked"),
         };
         edges.extend(found.map(|(part, edge)| (code, part, edge)));
     }
     edges
 }
 
-fn look_at_sx(matrix: &UnitaryMatrix, parts: &Parts, qubit: u32) -> Option<(Cause, Edge)> {
-    let width = matrix.num_qubits();
-    let raw = |parts: &Parts| sums(&parts.coefficients, width, qubit as u8, |_| true);
-    if let Some(edge) = sole_edge(&raw(parts), &[]) {
+fn look_at_h(matrix: &Matrix, code: u32, limit: i64) -> Option<(Cause, Edge)> {
+    sole_edge(&matrix.raw(code).entries, &[], limit).map(|edge| (Cause::H, edge))
+}
+
+fn look_at_sx(matrix: &Matrix, code: u32, limit: i64) -> Option<(Cause, Edge)> {
+    let (h, s) = (code % 4096, Kind::S as u32 * 4096 + code % 4096);
+    if let Some((_, edge)) = look_at_h(matrix, h, limit) {
         return Some((Cause::SxFirst, edge));
     }
     let mut after = matrix.clone();
-    if !apply_gate(&mut after, &Gate::h(qubit)) || !apply_gate(&mut after, &Gate::s(qubit)) {
+    if !after.step(h, limit) || !after.step(s, limit) {
         return None;
     }
-    sole_edge(&raw(&Parts::of(&after)), &[]).map(|edge| (Cause::SxSecond, edge))
+    look_at_h(&after, h, limit).map(|(_, edge)| (Cause::SxSecond, edge))
 }
 
-fn look_at_ch(parts: &Parts, width: usize, control: u32, target: u32) -> Option<(Cause, Edge)> {
-    let bit = 1 << (width - 1 - control as usize);
-    let active = sums(&parts.coefficients, width, target as u8, |row| {
-        row & bit != 0
-    });
-    let inactive: Vec<i16> = parts
-        .coefficients
-        .chunks_exact(4 << width)
-        .enumerate()
-        .filter(|(row, _)| row & bit == 0)
-        .flat_map(|(_, row)| row.chunks_exact(4).flat_map(times_sqrt_2))
-        .collect();
-    let in_active = sole_edge(&active, &inactive).map(|edge| (Cause::ChActive, edge));
-    let in_inactive = || sole_edge(&inactive, &active).map(|edge| (Cause::ChInactive, edge));
+fn look_at_ch(matrix: &Matrix, code: u32, limit: i64) -> Option<(Cause, Edge)> {
+    let (active, inactive) = parted(&matrix.raw(code), code);
+    let in_active = sole_edge(&active, &inactive, limit).map(|edge| (Cause::ChActive, edge));
+    let in_inactive = || sole_edge(&inactive, &active, limit).map(|edge| (Cause::ChInactive, edge));
     in_active.or_else(in_inactive)
 }
 
-/// sqrt(2) is omega - omega^3.
-fn times_sqrt_2(entry: &[i8]) -> [i16; 4] {
-    let [a, b, c, d] = [0, 1, 2, 3].map(|place| i16::from(entry[place]));
-    [b - d, a + c, b + d, c - a]
-}
-
-/// The edge that the first coefficients come to, where the others, which the
-/// same gate forms, do not come so far.
-fn sole_edge(raw: &[i16], others: &[i16]) -> Option<Edge> {
-    let most = |raw: &[i16]| raw.iter().map(|one| one.abs()).max().unwrap_or(0);
-    match edge_of(raw) {
-        Some(edge @ (Edge::Reaches | Edge::ReachesBelow)) => (most(others) < 127).then_some(edge),
-        Some(edge @ (Edge::Passes | Edge::PassesBelow)) => (most(others) <= 127).then_some(edge),
-        _ if most(raw) > 127 && most(others) <= 127 => {
+/// The edge that the first entries come to, where the others, which the same gate
+/// forms, do not come so far.
+fn sole_edge(raw: &[Entry], others: &[Entry], limit: i64) -> Option<Edge> {
+    match edge_of(raw, limit) {
+        Some(edge @ (Edge::Reaches | Edge::ReachesBelow)) => (most(others) < limit).then_some(edge),
+        Some(edge @ (Edge::Passes | Edge::PassesBelow)) => (most(others) <= limit).then_some(edge),
+        _ if most(raw) > limit && most(others) <= limit => {
             let mut lowered = [raw, others].concat();
-            while most(&lowered) > 127 && lowered.chunks_exact(4).all(divisible) {
-                lowered = lowered.chunks_exact(4).flat_map(divided).collect();
+            while most(&lowered) > limit && lowered.iter().all(divisible) {
+                lowered = lowered.into_iter().map(divided_by_root).collect();
             }
-            (most(&lowered) <= 127).then_some(Edge::FitsLowered)
+            (most(&lowered) <= limit).then_some(Edge::FitsLowered)
         }
         _ => None,
     }
-}
-
-fn divided(entry: &[i16]) -> [i16; 4] {
-    let [a, b, c, d] = [0, 1, 2, 3].map(|place| entry[place]);
-    [(b - d) / 2, (a + c) / 2, (b + d) / 2, (c - a) / 2]
 }

@@ -1,21 +1,24 @@
 //! Mode `index`: the tables that standard input names, as for the mode `lines`, built
 //! by the port in each mode through an index, and asked through it. Arrays, record
-//! and answers must be the original's; the index must be what `rules` makes of the
-//! table, place by place, and what a fill leaves. The scan must say the same and leave
-//! the index. Lines that name no table and ask for no matrix are passed over. With the
-//! word `runs` the tables are those of runs, as for the mode `circuits`: the first line
-//! of each.
+//! and answers must be the original's, or the second reading's where that overflows;
+//! the index must be what `rules` makes of the table, place by place, and what a fill
+//! leaves. The scan must say the same and leave the index. Lines that name no table and
+//! ask for no matrix are passed over. With the word `runs` the tables are those of runs,
+//! as for the mode `circuits`: the first line of each.
 
 use std::io::{self, BufRead, Read, Write};
-use std::panic::{AssertUnwindSafe, catch_unwind};
+use std::panic::catch_unwind;
 
 use super::circuits::first_run;
 use super::indexes::{same, sizes, used};
+use super::lent::{By, Finding, Lookup, Mode, Reply, Table};
 use super::lines::question;
-use super::port::{self, By, Finding, Lookup, Mode, Reply, Table};
+use super::lists::guarded;
+use super::measure::Measure;
+use super::port;
 use super::random::Random;
 use super::rules::fill;
-use super::tables::{Built, Limits, PLACES, Question, counted, nodes_of};
+use super::tables::{Built, Limits, PLACES, Question, counted};
 
 /// What the lent arrays held.
 const PRINT: u64 = 0xa5a5_a5a5_a5a5_a5a5;
@@ -44,6 +47,9 @@ struct Counts {
     finds: usize,
     found: usize,
     by_scan: usize,
+    /// Tables and questions whose measure is the second reading.
+    second_tables: usize,
+    second: usize,
     differences: usize,
 }
 
@@ -122,8 +128,16 @@ fn lines(out: &mut dyn Write) -> io::Result<()> {
                 let limits = Limits::of_numbers(rest);
                 both = limits.and_then(|limits| table(limits, &mut random, &mut counts));
             }
-            ("matrix", Some(both)) => ask(both, rest, Question::answer, answer, &mut counts),
-            ("find", Some(both)) => ask(both, rest, Question::found, find, &mut counts),
+            ("matrix", Some(both)) => {
+                if let Some(question) = question(rest) {
+                    ask(both, &question, Question::answer, answer, &mut counts);
+                }
+            }
+            ("find", Some(both)) => {
+                if let Some(question) = question(rest) {
+                    ask(both, &question, Question::found, find, &mut counts);
+                }
+            }
             _ => (),
         }
         line.clear();
@@ -139,11 +153,12 @@ impl Counts {
             nodes,
             indexes,
             places,
+            second_tables,
             ..
         } = self;
         writeln!(
             out,
-            "{tables} tables of {nodes} nodes, {refused} refused; {indexes} indexes of {places} places, each built and filled"
+            "{tables} tables of {nodes} nodes, {second_tables} of them by the second reading, {refused} refused; {indexes} indexes of {places} places, each built and filled"
         )?;
         let Kept {
             refused,
@@ -167,11 +182,12 @@ impl Counts {
             finds,
             found,
             by_scan,
+            second,
             ..
         } = self;
         writeln!(
             out,
-            "{answers} answers through an index, {lists} of them lists; {finds} finds, {found} of them nodes; {by_scan} of both by the scan"
+            "{answers} answers through an index, {lists} of them lists; {finds} finds, {found} of them nodes; {by_scan} of both by the scan; {second} questions by the second reading"
         )?;
         self.end(out)
     }
@@ -219,15 +235,12 @@ fn table(limits: Limits, random: &mut Random, counts: &mut Counts) -> Option<Bot
         return None;
     }
     counts.tables += 1;
-    let Ok(original) = catch_unwind(|| limits.build()) else {
-        counts.differ(format!("{name}: the original panicked"));
+    let Ok(original) = catch_unwind(|| Built::of(limits, Mode::ByPrint)) else {
+        counts.differ(format!("{name}: a panic"));
         return None;
     };
-    let original = Built {
-        limits,
-        table: original,
-    };
-    let expected = told(&original, counts);
+    counts.second_tables += usize::from(original.measure == Measure::Second);
+    let expected = told(&original.table, counts);
     let places = expected.fingerprints.len();
     let nodes: usize = (1..=limits.qubits as usize)
         .map(|width| expected.count(width))
@@ -289,46 +302,40 @@ fn table(limits: Limits, random: &mut Random, counts: &mut Counts) -> Option<Bot
     })
 }
 
-/// The original's table in lent arrays, with some places behind it.
-fn told(original: &Built, counts: &mut Counts) -> Table {
-    let limits = original.limits;
+/// A table in lent arrays, with some places behind it. Unfilled places hold what they
+/// held.
+fn told(built: &Table, counts: &mut Counts) -> Table {
+    let limits = built.limits;
     let entries = limits.entries as usize;
     let mut table = lent(limits, limits.qubits as usize * entries + 3);
-    table.record.fill(0);
+    table.record = built.record;
     for row in 0..limits.qubits as usize {
-        let (nodes, depth, saturated) = original.table.width(row + 1);
-        let numbers = [nodes.len() as u64, depth as u64, u64::from(saturated)];
-        table.record[3 * row..][..3].copy_from_slice(&numbers);
-        counts.nodes += nodes.len();
-        for (node, (print, parent, code)) in nodes_of(nodes).into_iter().enumerate() {
-            let place = row * entries + node;
-            table.fingerprints[place] = print;
-            table.parents[place] = parent;
-            table.codes[place] = code;
-        }
+        let count = built.count(row + 1);
+        let places = row * entries..row * entries + count;
+        table.fingerprints[places.clone()].copy_from_slice(&built.fingerprints[places.clone()]);
+        table.parents[places.clone()].copy_from_slice(&built.parents[places.clone()]);
+        table.codes[places.clone()].copy_from_slice(&built.codes[places]);
+        counts.nodes += count;
     }
     table
 }
 
-/// Asks the original once, and the port through each index and by the scan.
+/// Asks what is the measure once, and the port through each index and by the scan.
 fn ask(
     both: &Both,
-    line: &str,
-    original: fn(&Question, &Built) -> String,
+    question: &Question,
+    original: fn(&Question, &Built) -> (Measure, String),
     port: fn(&Both, Lookup, &Question, &mut Counts) -> String,
     counts: &mut Counts,
 ) {
-    let Some(question) = question(line) else {
-        return;
-    };
-    let original = AssertUnwindSafe(|| original(&question, &both.original));
-    let original = catch_unwind(original).unwrap_or("panicked".to_owned());
+    let (measure, original) = guarded(|| original(question, &both.original));
+    counts.second += usize::from(measure == Measure::Second);
     for index in &both.indexes {
         let by_index = Lookup {
             by: By::Index,
             index,
         };
-        let told = port(both, by_index, &question, counts);
+        let told = port(both, by_index, question, counts);
         counts.check(told == original, || {
             let table = both.port.limits.line();
             format!("{table} through an index: {told}, expected {original}")
@@ -340,7 +347,7 @@ fn ask(
         index,
     };
     counts.by_scan += 1;
-    let told = port(both, by_scan, &question, counts);
+    let told = port(both, by_scan, question, counts);
     counts.check(told == original, || {
         format!("by the scan: {told}, expected {original}")
     });

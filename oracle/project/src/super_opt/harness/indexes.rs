@@ -4,9 +4,10 @@
 
 use super::altered::{places, values};
 use super::damage::{MOST, T, TABLES, asked, lent, limits_of, listed, questions, room};
-use super::port::{By, Finding, Lookup, Mode, SCAN, Table, through};
+use super::exact::Matrix;
+use super::lent::{By, Finding, Lookup, Mode, SCAN, Table, through};
 use super::random::Random;
-use super::rules::{Asked, EMPTY, Matrix};
+use super::rules::{Asked, EMPTY};
 use super::tables::Limits;
 use super::tally::Tally;
 

@@ -2,7 +2,8 @@
 //! for the mode `list`. `inputs all` has every group whole; `inputs sample` has
 //! some of each; both end in damaged lines. The same lines come out in every
 //! run. The groups here are of the eleven kinds that tables have; those with the
-//! six further kinds are in `further`. `inputs tables all` and `inputs tables
+//! six further kinds are in `further`, those with large coefficients in `far`.
+//! `inputs tables all` and `inputs tables
 //! sample` are in `table_inputs`, `inputs circuits sample` and `inputs circuits
 //! part N` in `run_inputs`.
 
@@ -10,6 +11,7 @@ use std::io::{self, Write};
 
 use super::codes::{code_of, valid_gates};
 use super::edges;
+use super::far;
 use super::further;
 use super::lists::List;
 use super::random::Random;
@@ -21,8 +23,8 @@ use crate::super_opt::murm::LibraryGate as Gate;
 /// The most gates that a line may name.
 pub(super) const MOST_GATES: usize = 256;
 
-/// A list that fits up to its last gate, where its raw coefficients pass 127,
-/// although they would not once lowered.
+/// A list that fits in the original up to its last gate, where its raw coefficients
+/// pass 127, although they would not once lowered.
 pub(super) const TRAP: [u32; 52] = [
     0, 24576, 0, 20480, 0, 20480, 0, 24576, 0, 24576, 0, 20480, 0, 24576, 0, 20480, 0, 20480, 0,
     24576, 0, 24576, 0, 20480, 0, 24576, 0, 20480, 0, 20480, 0, 24576, 0, 20480, 0, 24576, 0,
@@ -76,12 +78,12 @@ pub(super) fn run(arguments: &[String], out: &mut dyn Write) -> io::Result<()> {
             writeln!(out, "{}", list.line())?;
         }
     }
-    let further = if sample {
-        further::sample()
+    let (further, far) = if sample {
+        (further::sample(), far::sample())
     } else {
-        further::lists()
+        (further::lists(), far::lists())
     };
-    for list in further {
+    for list in further.into_iter().chain(far) {
         writeln!(out, "{}", list.line())?;
     }
     writeln!(out, "list 1 257{}", " 0".repeat(257))?;

@@ -1,11 +1,13 @@
 //! Mode `list`: the matrix and the fingerprint of each list that standard
-//! input names.
+//! input names, by the original, or by the second reading where that overflows.
 
 use std::io::{self, Read, Write};
 use std::panic::{AssertUnwindSafe, catch_unwind};
 
 use super::codes::{list_gate, valid_gate};
+use super::exact::{self, LIMIT, Matrix, ORIGINAL_LIMIT};
 use super::inputs::MOST_GATES;
+use super::measure::{Counts, Measure};
 use crate::circuit::{Gate, Qubit};
 use crate::super_opt::matrix::{UnitaryMatrix, unitary_fingerprint};
 use crate::super_opt::murm::{LibraryGate, library_circuit_matrix};
@@ -25,20 +27,30 @@ pub(super) struct List {
 pub(super) fn run(_: &[String], out: &mut dyn Write) -> io::Result<()> {
     let mut input = Vec::new();
     io::stdin().lock().read_to_end(&mut input)?;
+    let mut counts = Counts::default();
     for line in input.split_inclusive(|&byte| byte == b'\n') {
         let line = str::from_utf8(line).unwrap_or_default();
-        writeln!(out, "{}", line_answer(line))?;
+        let (measure, answer) = line_answer(line);
+        counts.add("lists", measure, &answer);
+        writeln!(out, "{answer}")?;
     }
+    counts.tell();
     Ok(())
 }
 
 /// The answer to one line, given with its newline.
-pub(super) fn line_answer(line: &str) -> String {
+pub(super) fn line_answer(line: &str) -> (Measure, String) {
     match List::parse(line) {
-        Some(list) => catch_unwind(AssertUnwindSafe(|| answer(&list)))
-            .unwrap_or_else(|_| "panicked".to_owned()),
-        None => "refused 14 0".to_owned(),
+        Some(list) => guarded(|| answer(&list)),
+        None => (Measure::Check, "refused 14 0".to_owned()),
     }
+}
+
+/// An answer, or the word for a panic: the original's, or that of two readings which
+/// differ.
+pub(super) fn guarded(answer: impl FnOnce() -> (Measure, String)) -> (Measure, String) {
+    let panicked = |_| (Measure::Check, "panicked".to_owned());
+    catch_unwind(AssertUnwindSafe(answer)).unwrap_or_else(panicked)
 }
 
 impl List {
@@ -70,8 +82,37 @@ impl List {
         line
     }
 
+    /// The matrix or the refusal, and what it is measured by. Within the original's
+    /// limit the second reading must say the same as the original, refusals by 8
+    /// and their positions among it.
+    pub(super) fn judged(&self) -> (Measure, Result<Matrix, String>) {
+        let original = self.original().map(|matrix| exact_of(&matrix));
+        let exact = self.exact(ORIGINAL_LIMIT);
+        assert_eq!(original, exact, "two readings");
+        match original {
+            Ok(matrix) => (Measure::Original, Ok(matrix)),
+            Err(refusal) if refusal.starts_with("refused 8 ") => {
+                (Measure::Second, self.exact(LIMIT))
+            }
+            Err(refusal) => (Measure::Check, Err(refusal)),
+        }
+    }
+
+    /// The second reading's matrix within a limit, or the refusal.
+    pub(super) fn exact(&self, limit: i64) -> Result<Matrix, String> {
+        if self.width > MOST_WIDTH {
+            return Err("refused 6 0".to_owned());
+        }
+        let invalid = |&code: &u32| exact::list_gate(code, self.width).is_none();
+        if let Some(position) = self.codes.iter().position(invalid) {
+            return Err(format!("refused 7 {position}"));
+        }
+        let matrix = Matrix::of_list(self.width, &self.codes, limit);
+        matrix.map_err(|(position, _)| format!("refused 8 {position}"))
+    }
+
     /// The original's matrix, or the refusal.
-    pub(super) fn matrix(&self) -> Result<UnitaryMatrix, String> {
+    pub(super) fn original(&self) -> Result<UnitaryMatrix, String> {
         if self.width > MOST_WIDTH {
             return Err("refused 6 0".to_owned());
         }
@@ -110,23 +151,36 @@ pub(super) fn number(word: &str) -> Option<u32> {
     digits.then(|| word.parse().ok()).flatten()
 }
 
-fn answer(list: &List) -> String {
-    match list.matrix() {
-        Ok(matrix) => told(&matrix),
-        Err(refusal) => refusal,
-    }
+fn answer(list: &List) -> (Measure, String) {
+    let (measure, matrix) = list.judged();
+    (
+        measure,
+        matrix.map_or_else(|refusal| refusal, |matrix| told(&matrix)),
+    )
 }
 
 /// The exponent, the fingerprint and the coefficients, row by row.
-fn told(matrix: &UnitaryMatrix) -> String {
-    let parts = Parts::of(matrix);
-    let fingerprint = unitary_fingerprint(matrix).to_bits();
-    let mut line = format!("{} {fingerprint:016x}", parts.exponent);
-    for coefficient in parts.coefficients {
+fn told(matrix: &Matrix) -> String {
+    let fingerprint = matrix.fingerprint();
+    let mut line = format!("{} {fingerprint:016x}", matrix.exponent);
+    for coefficient in matrix.entries.iter().flatten() {
         line.push(' ');
         line.push_str(&coefficient.to_string());
     }
     line
+}
+
+/// A matrix of the original as the second reading has it. The fingerprints must be the
+/// same.
+fn exact_of(matrix: &UnitaryMatrix) -> Matrix {
+    let Parts {
+        exponent,
+        coefficients,
+    } = Parts::of(matrix);
+    let exact = Matrix::of_coefficients(matrix.num_qubits() as u32, exponent, &coefficients);
+    let fingerprint = unitary_fingerprint(matrix).to_bits();
+    assert_eq!(fingerprint, exact.fingerprint(), "fingerprint");
+    exact
 }
 
 /// What the gates make of the identity; or the position of the first that does
@@ -162,7 +216,7 @@ pub(super) fn apply_gate(matrix: &mut UnitaryMatrix, gate: &Gate) -> bool {
 /// The private parts of a matrix, out of its derived `Debug`.
 pub(super) struct Parts {
     pub(super) exponent: u16,
-    pub(super) coefficients: Vec<i8>,
+    pub(super) coefficients: Vec<i16>,
 }
 
 impl Parts {

@@ -18,6 +18,11 @@ mod codes;
 #[cfg(feature = "port")]
 mod damage;
 mod edges;
+// Much of what is written from the documents alone is for the port's archives.
+#[cfg_attr(not(feature = "port"), allow(dead_code))]
+mod exact;
+mod far;
+mod far_edges;
 mod further;
 mod further_edges;
 mod gates;
@@ -26,8 +31,11 @@ mod indexed;
 #[cfg(feature = "port")]
 mod indexes;
 mod inputs;
+#[cfg_attr(not(feature = "port"), allow(dead_code))]
+mod lent;
 mod lines;
 mod lists;
+mod measure;
 #[cfg(feature = "port")]
 mod orders;
 #[cfg(feature = "port")]
@@ -35,7 +43,7 @@ mod port;
 mod questions;
 mod random;
 mod refusals;
-#[cfg(feature = "port")]
+#[cfg_attr(not(feature = "port"), allow(dead_code))]
 mod rules;
 mod run_inputs;
 mod run_queries;
@@ -43,7 +51,7 @@ mod table_inputs;
 mod tables;
 #[cfg(feature = "port")]
 mod tally;
-#[cfg(feature = "port")]
+#[cfg_attr(not(feature = "port"), allow(dead_code))]
 mod walks;
 #[cfg(feature = "port")]
 mod weakened;
@@ -62,6 +70,7 @@ const MODES: &[(&str, Mode)] = &[
     #[cfg(feature = "port")]
     ("index", indexed::run),
     ("circuits", circuits::run),
+    ("edges", far_edges::run),
     ("gates", gates::run),
     ("inputs", inputs::run),
     ("lines", lines::run),

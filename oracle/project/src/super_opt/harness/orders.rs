@@ -2,10 +2,11 @@
 //! order of the operation is told; without any there is a list.
 
 use super::damage::{MOST, TABLES, built, lent, limits_of, listed};
+use super::exact::times_root;
 use super::indexes::{sizes, used};
-use super::port::{By, Finding, Lookup, Mode, Reply, Table};
+use super::lent::{By, Finding, Lookup, Mode, Reply, Table};
 use super::random::Random;
-use super::rules::{Asked, fill, times_root, written};
+use super::rules::{Asked, fill, written};
 use super::tally::Tally;
 
 /// How often each set of causes is asked, of each table.
@@ -136,18 +137,17 @@ fn query(table: &Table, width: u32, node: usize, causes: [bool; 4]) -> Asked {
         matrix.entries = matrix.entries.into_iter().map(times_root).collect();
     }
     if past {
-        matrix.entries[0] = [-128, 0, 0, 0];
+        matrix.entries[0] = [-32768, 0, 0, 0];
     }
-    let entries = matrix.entries.iter().flatten();
-    let mut bytes: Vec<i8> = entries.map(|&coefficient| coefficient as i8).collect();
+    let mut coefficients = matrix.coefficients();
     if wide {
-        bytes.resize(4 << 12, 0);
+        coefficients.resize(4 << 12, 0);
     }
     if length {
-        bytes.pop();
+        coefficients.pop();
     }
     let width = if wide { 6 } else { width };
-    Asked::new(width, matrix.exponent as u16, bytes)
+    Asked::new(width, matrix.exponent as u16, coefficients)
 }
 
 /// An answer and a find with a set of causes. The node's place, and no other of

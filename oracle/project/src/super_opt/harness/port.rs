@@ -4,7 +4,7 @@
 
 use murm::{Arrays, Query, Record, Refusal};
 
-use super::tables::Limits;
+use super::lent::{By, Finding, Lookup, Mode, Reply, Table};
 
 /// What a find and an answer return for none. A lower number is a node times `NODE`
 /// and its gate count, or a gate count alone; a higher one is a refusal's number
@@ -15,8 +15,8 @@ const NODE: u64 = 128;
 
 #[link(name = "bench", kind = "static")]
 unsafe extern "C" {
-    fn bench_query(width: u32, exponent: u16, entries: *const i8, places: usize) -> u64;
-    fn bench_fingerprint(entries: *const i8, places: usize, width: usize, exponent: u16) -> u64;
+    fn bench_query(width: u32, exponent: u16, entries: *const i16, places: usize) -> u64;
+    fn bench_fingerprint(entries: *const i16, places: usize, width: usize, exponent: u16) -> u64;
     fn bench_build(
         mode: u32,
         by: u32,
@@ -73,7 +73,7 @@ unsafe extern "C" {
         index_places: usize,
         width: u32,
         exponent: u16,
-        matrix: *const i8,
+        matrix: *const i16,
         matrix_places: usize,
     ) -> u64;
     fn bench_synthesize(
@@ -97,7 +97,7 @@ unsafe extern "C" {
         index_places: usize,
         width: u32,
         exponent: u16,
-        matrix: *const i8,
+        matrix: *const i16,
         matrix_places: usize,
         out: *mut u32,
         places: usize,
@@ -154,30 +154,13 @@ macro_rules! over {
     }};
 }
 
-/// When a candidate of a build is known: where an entry has its fingerprint, or
-/// where one has it and is equal up to phase.
-#[derive(Clone, Copy, Debug, PartialEq)]
-pub(super) enum Mode {
-    ByPrint,
-    Keeping,
-}
-
 impl Mode {
-    pub(super) const BOTH: [Mode; 2] = [Mode::ByPrint, Mode::Keeping];
-
     fn number(self) -> u32 {
         match self {
             Mode::ByPrint => 0,
             Mode::Keeping => 1,
         }
     }
-}
-
-/// How nodes are looked up.
-#[derive(Clone, Copy, Debug, PartialEq)]
-pub(super) enum By {
-    Scan,
-    Index,
 }
 
 impl By {
@@ -189,68 +172,20 @@ impl By {
     }
 }
 
-/// The same with the index that is lent. The scan is not to look at it.
-#[derive(Clone, Copy)]
-pub(super) struct Lookup<'a> {
-    pub(super) by: By,
-    pub(super) index: &'a [u32],
-}
-
-/// The scan, with no index lent.
-pub(super) const SCAN: Lookup<'static> = Lookup {
-    by: By::Scan,
-    index: &[],
-};
-
-/// Through this index.
-pub(super) fn through(index: &[u32]) -> Lookup<'_> {
-    Lookup {
-        by: By::Index,
-        index,
-    }
-}
-
 /// The exponent, where the list is not refused.
-pub(super) fn list(width: usize, codes: &[u32], out: &mut [i8]) -> Option<u16> {
+pub(super) fn list(width: usize, codes: &[u32], out: &mut [i16]) -> Option<u16> {
     murm::library_circuit_matrix(width as u32, codes, out).ok()
 }
 
 /// The fingerprint by the entry, which tests its matrix first.
-pub(super) fn query(width: usize, exponent: u16, entries: &[i8]) -> u64 {
+pub(super) fn query(width: usize, exponent: u16, entries: &[i16]) -> u64 {
     unsafe { bench_query(width as u32, exponent, entries.as_ptr(), entries.len()) }
 }
 
 /// The fingerprint below the entry. What it requires is met by the callers: all
-/// places are lent, and no coefficient is -128.
-pub(super) fn fingerprint(width: usize, exponent: u16, entries: &[i8]) -> u64 {
+/// places are lent, and no coefficient is -32768.
+pub(super) fn fingerprint(width: usize, exponent: u16, entries: &[i16]) -> u64 {
     unsafe { bench_fingerprint(entries.as_ptr(), entries.len(), width, exponent) }
-}
-
-/// A table of the port: the limits; count, depth and saturated of each width
-/// from 1 to 5; and the three arrays.
-#[derive(Clone)]
-pub(super) struct Table {
-    pub(super) limits: Limits,
-    pub(super) record: [u64; 15],
-    pub(super) fingerprints: Vec<u64>,
-    pub(super) parents: Vec<u32>,
-    pub(super) codes: Vec<u32>,
-}
-
-/// What a table answers.
-#[derive(Debug, PartialEq)]
-pub(super) enum Reply {
-    List(Vec<u32>),
-    None,
-    Refused(u64),
-}
-
-/// What a find says: a node and its gate count.
-#[derive(Debug, PartialEq)]
-pub(super) enum Finding {
-    Node(usize, usize),
-    None,
-    Refused(u64),
 }
 
 /// A refusal's number. A table's refusals have the position 0.
@@ -260,26 +195,10 @@ fn refusal(told: u64) -> u64 {
 }
 
 impl Table {
-    /// Arrays of so many places, nothing built.
-    pub(super) fn with_places(limits: Limits, places: usize) -> Self {
-        Self {
-            limits,
-            record: [0; 15],
-            fingerprints: vec![0; places],
-            parents: vec![0; places],
-            codes: vec![0; places],
-        }
-    }
-
     /// Q, G, E and B.
     fn limits(&self) -> [u32; 4] {
         let l = &self.limits;
         [l.qubits, l.gates, l.entries, l.basis]
-    }
-
-    /// The count of a width from 1 to 5.
-    pub(super) fn count(&self, width: usize) -> usize {
-        self.record[3 * (width - 1)] as usize
     }
 
     /// 0, or the number of the refusal.
@@ -326,7 +245,7 @@ impl Table {
         &self,
         width: u32,
         exponent: u16,
-        matrix: &[i8],
+        matrix: &[i16],
         out: &mut [u32],
     ) -> Result<Option<usize>, Refusal> {
         let [q, g, e, b] = self.limits();
@@ -351,7 +270,7 @@ impl Table {
     }
 
     /// The answer by its cases, with the lent list after it.
-    pub(super) fn ask(&self, width: u32, exponent: u16, matrix: &[i8], out: &mut [u32]) -> Reply {
+    pub(super) fn ask(&self, width: u32, exponent: u16, matrix: &[i16], out: &mut [u32]) -> Reply {
         match self.synthesize(width, exponent, matrix, out) {
             Ok(Some(count)) => Reply::List(out[..count].to_vec()),
             Ok(None) => Reply::None,
@@ -365,7 +284,7 @@ impl Table {
         lookup: Lookup,
         width: u32,
         exponent: u16,
-        matrix: &[i8],
+        matrix: &[i16],
         out: &mut [u32],
     ) -> Reply {
         let told = self.synthesize_by(lookup, width, exponent, matrix, out);
@@ -378,7 +297,7 @@ impl Table {
         lookup: Lookup,
         width: u32,
         exponent: u16,
-        matrix: &[i8],
+        matrix: &[i16],
         out: &mut [u32],
     ) -> u64 {
         let Lookup { by, index } = lookup;
@@ -400,7 +319,13 @@ impl Table {
     }
 
     /// The node that answers a matrix.
-    pub(super) fn find(&self, lookup: Lookup, width: u32, exponent: u16, matrix: &[i8]) -> Finding {
+    pub(super) fn find(
+        &self,
+        lookup: Lookup,
+        width: u32,
+        exponent: u16,
+        matrix: &[i16],
+    ) -> Finding {
         let Lookup { by, index } = lookup;
         let told = over!(
             bench_find,

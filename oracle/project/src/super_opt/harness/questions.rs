@@ -3,13 +3,16 @@
 //! are wanted.
 
 use super::codes::{code_of, valid_gates};
+use super::exact::{LIMIT, Matrix, turned};
+use super::further::growing_codes_of;
 use super::inputs::list;
-use super::lists::{MOST_WIDTH, Parts};
+use super::lent::Table;
+use super::lists::MOST_WIDTH;
 use super::random::Random;
+use super::rules::written;
 use super::tables::{Limits, Question, Wanted};
 use crate::circuit::GateSet;
-use crate::super_opt::matrix::UnitaryMatrix;
-use crate::super_opt::murm::{LibraryGate as Gate, Murm, library_circuit_matrix, library_gates};
+use crate::super_opt::murm::{LibraryGate as Gate, library_gates};
 
 /// The most gates of a random list: a product is taken up from the identity
 /// again after so many.
@@ -22,8 +25,8 @@ const BROKEN: [&str; 11] = [
     "matrix 0 65536 1 0 0 0",
     "matrix 0 4294967296 1 0 0 0",
     "matrix 4294967296 0 1 0 0 0",
-    "matrix 0 0 1 0 0 128",
-    "matrix 0 0 -129 0 0 0",
+    "matrix 0 0 1 0 0 32768",
+    "matrix 0 0 -32769 0 0 0",
     "matrix 0 0 1 0 0 a",
     "matrix 0 0 1 0  0 0",
     "matrix 0 0 1 0 0 0 ",
@@ -53,7 +56,7 @@ const BROKEN_NODES: [&str; 16] = [
 /// A table at hand, and what its questions are chosen by.
 pub(super) struct Asker {
     pub(super) limits: Limits,
-    pub(super) table: Murm,
+    pub(super) table: Table,
     pub(super) random: Random,
 }
 
@@ -81,13 +84,33 @@ const SORTS: &[Sort] = &[
     Asker::between,
 ];
 
+/// Every sort of question about coefficients past 127, each a few lines.
+const FAR_SORTS: &[Sort] = &[
+    Asker::past_byte,
+    Asker::same_low_byte,
+    Asker::widest,
+    Asker::far_product,
+    Asker::far_divisible,
+    Asker::limit_and_past,
+    Asker::counted_in_bytes,
+];
+
 impl Asker {
+    /// Questions about coefficients past 127: each sort once, or some.
+    pub(super) fn far(&mut self, all: bool) -> Vec<String> {
+        if all {
+            return FAR_SORTS.iter().flat_map(|sort| sort(self)).collect();
+        }
+        let sort = self.random.one_of(FAR_SORTS);
+        sort(self)
+    }
+
     /// Each sort once, and nodes of every width.
     pub(super) fn all(&mut self) -> Vec<String> {
         let mut lines: Vec<String> = SORTS.iter().flat_map(|sort| sort(self)).collect();
         for width in 1..=self.limits.qubits as usize {
             for _ in 0..if width <= 3 { 4 } else { 1 } {
-                let count = self.table.width(width).0.len();
+                let count = self.table.count(width);
                 let node = self.random.below(count);
                 lines.push(self.node(width, node).line());
             }
@@ -110,7 +133,7 @@ impl Asker {
         let gates = self.limits.gates;
         let mut lines = Vec::new();
         for width in 1..=self.limits.qubits {
-            let count = self.table.width(width as usize).0.len();
+            let count = self.table.count(width as usize);
             let node = self.random.below(count) as u32;
             let places = self.random.one_of(&[gates, 64]);
             lines.push(wanted(width, node, places));
@@ -127,7 +150,7 @@ impl Asker {
         for width in [0, 1, 2, 3, 4, 5, 6, 4294967295] {
             let has = (1..=self.limits.qubits).contains(&width);
             let count = if has {
-                self.table.width(width as usize).0.len() as u32
+                self.table.count(width as usize) as u32
             } else {
                 0
             };
@@ -148,32 +171,33 @@ impl Asker {
 
     /// The matrix of a node, times some power of omega.
     fn node(&mut self, width: usize, node: usize) -> Question {
-        let circuit = self.table.width(width).0.circuit(node);
-        let matrix = library_circuit_matrix(width, &circuit);
-        self.turned(matrix.expect("the width is small").expect("a node fits"))
+        let codes = written(&self.table, width as u32, node);
+        self.listed(width, &codes.expect("a table as it was built"))
+    }
+
+    /// The matrix of a list that fits, times some power of omega.
+    fn listed(&mut self, width: usize, codes: &[u32]) -> Question {
+        let matrix = Matrix::of_list(width as u32, codes, LIMIT);
+        self.turned(matrix.expect("the list fits"))
     }
 
     /// The matrix of a node, whichever it is.
     fn any_node(&mut self) -> Question {
         let width = self.width();
-        let count = self.table.width(width).0.len();
+        let count = self.table.count(width);
         let node = self.random.below(count);
         self.node(width, node)
     }
 
-    fn turned(&mut self, matrix: UnitaryMatrix) -> Question {
-        let parts = Parts::of(&matrix);
-        let mut coefficients = parts.coefficients;
-        for _ in 0..self.random.below(8) {
-            for entry in coefficients.chunks_exact_mut(4) {
-                entry.rotate_right(1);
-                entry[0] = -entry[0];
-            }
+    fn turned(&mut self, mut matrix: Matrix) -> Question {
+        let power = self.random.below(8);
+        for entry in &mut matrix.entries {
+            *entry = turned(*entry, power);
         }
         Question {
-            width: matrix.num_qubits() as u32,
-            exponent: parts.exponent,
-            coefficients,
+            width: matrix.width,
+            exponent: matrix.exponent as u16,
+            coefficients: matrix.coefficients(),
         }
     }
 
@@ -183,7 +207,7 @@ impl Asker {
 
     fn last(&mut self) -> Vec<String> {
         let width = self.width();
-        let last = self.table.width(width).0.len() - 1;
+        let last = self.table.count(width) - 1;
         vec![self.node(width, last).line()]
     }
 
@@ -211,9 +235,10 @@ impl Asker {
         } else {
             self.random.below(most + 1)
         };
-        let chosen: Vec<Gate> = (0..count).map(|_| self.random.one_of(gates)).collect();
-        let matrix = library_circuit_matrix(width, &chosen).expect("the width is small");
-        self.turned(matrix.expect("a short list fits")).line()
+        let chosen: Vec<u32> = (0..count)
+            .map(|_| code_of(self.random.one_of(gates)))
+            .collect();
+        self.listed(width, &chosen).line()
     }
 
     /// A node's matrix with one coefficient changed by one.
@@ -267,20 +292,94 @@ impl Asker {
     }
 
     /// Coefficients from -most to most.
-    fn noise(&mut self, exponent: u16, most: i16) -> String {
+    fn noise(&mut self, exponent: u16, most: i32) -> String {
         let width = self.width();
         let below = 2 * most as usize + 1;
         let coefficients = (0..4 << (2 * width))
-            .map(|_| (self.random.below(below) as i16 - most) as i8)
+            .map(|_| (self.random.below(below) as i32 - most) as i16)
             .collect();
         line(width as u32, exponent, coefficients)
     }
 
-    /// A coefficient of -128.
+    /// A coefficient of -32768.
     fn past_limit(&mut self) -> Vec<String> {
         let mut question = self.any_node();
         let place = self.random.below(question.coefficients.len());
+        question.coefficients[place] = i16::MIN;
+        vec![question.line()]
+    }
+
+    /// One coefficient of a node's matrix is past 127, or is -128.
+    fn past_byte(&mut self) -> Vec<String> {
+        let mut question = self.any_node();
+        let place = self.random.below(question.coefficients.len());
+        let past = [-128, 128, -129, 129, 255, -255, 256, 32766, 32767, -32767];
+        question.coefficients[place] = self.random.one_of(&past);
+        let first = question.line();
         question.coefficients[place] = -128;
+        vec![first, question.line()]
+    }
+
+    /// A node's matrix with some coefficients changed by multiples of 256.
+    fn same_low_byte(&mut self) -> Vec<String> {
+        let mut question = self.any_node();
+        for _ in 0..1 + self.random.below(3) {
+            let place = self.random.below(question.coefficients.len());
+            question.coefficients[place] += self.random.one_of(&[256, -256, 512, 4096, -8192]);
+        }
+        vec![question.line()]
+    }
+
+    fn widest(&mut self) -> Vec<String> {
+        let exponent = self.random.below(65536) as u16;
+        vec![self.noise(exponent, 32767)]
+    }
+
+    /// The product of a list that lets coefficients grow, up to its first gate that
+    /// does not fit.
+    fn far_product(&mut self) -> Vec<String> {
+        let width = self.width();
+        let count = 60 + self.random.below(60);
+        let codes = growing_codes_of(width, count, &mut self.random);
+        let matrix = Matrix::of_list(width as u32, &codes, LIMIT);
+        let matrix = matrix.unwrap_or_else(|(_, before)| before);
+        vec![self.turned(matrix).line()]
+    }
+
+    /// Large coefficients that are all even, over sqrt(2) and over 1.
+    fn far_divisible(&mut self) -> Vec<String> {
+        let width = self.width();
+        let coefficients: Vec<i16> = (0..4 << (2 * width))
+            .map(|_| 2 * (self.random.below(32767) as i16 - 16383))
+            .collect();
+        let exponent = 1 + self.random.below(65535) as u16;
+        let over = |exponent| line(width as u32, exponent, coefficients.clone());
+        vec![over(exponent), over(0)]
+    }
+
+    /// -32768 beside 32767 and -32767; and where all entries are divisible, so that it
+    /// would be refused by 11 after that.
+    fn limit_and_past(&mut self) -> Vec<String> {
+        let width = self.width();
+        let mut ends: Vec<i16> = (0..4 << (2 * width))
+            .map(|_| self.random.one_of(&[32767, -32767]))
+            .collect();
+        let within = line(width as u32, 0, ends.clone());
+        let divisible = line(width as u32, 3, ends.clone());
+        let place = self.random.below(ends.len());
+        ends[place] = i16::MIN;
+        let past = line(width as u32, 0, ends);
+        let even = vec![i16::MIN; 4 << (2 * width)];
+        vec![within, divisible, past, line(width as u32, 1, even)]
+    }
+
+    /// Twice as many places, or half as many.
+    fn counted_in_bytes(&mut self) -> Vec<String> {
+        let mut question = self.any_node();
+        let length = question.coefficients.len();
+        let most = 4 << (2 * MOST_WIDTH);
+        let length = self.random.one_of(&[2 * length, length / 2]).min(most + 1);
+        question.coefficients.resize(length, 0);
         vec![question.line()]
     }
 
@@ -291,7 +390,7 @@ impl Asker {
         let lengths = [0, length - 1, length - 4, length + 1, length + 4];
         let most = 4 << (2 * MOST_WIDTH);
         let length = self.random.one_of(&lengths).min(most + 1);
-        question.coefficients.resize(length, -128);
+        question.coefficients.resize(length, i16::MIN);
         vec![question.line()]
     }
 
@@ -310,9 +409,8 @@ impl Asker {
 
     /// An identity wider than the table.
     fn above(&mut self) -> Vec<String> {
-        let wider = MOST_WIDTH.min(self.limits.qubits + 1) as usize;
-        let identity = UnitaryMatrix::identity(wider).expect("the width is small");
-        vec![self.turned(identity).line()]
+        let wider = MOST_WIDTH.min(self.limits.qubits + 1);
+        vec![self.turned(Matrix::identity(wider)).line()]
     }
 
     fn broken(&mut self) -> Vec<String> {
@@ -344,7 +442,7 @@ pub(super) fn finds(lines: &[String]) -> Vec<String> {
     matrices.map(|rest| format!("find {rest}")).collect()
 }
 
-fn line(width: u32, exponent: u16, coefficients: Vec<i8>) -> String {
+fn line(width: u32, exponent: u16, coefficients: Vec<i16>) -> String {
     Question {
         width,
         exponent,

@@ -1,282 +1,39 @@
 //! What a table answers, written from the documents alone, docs/SPECIFICATION.md
 //! and the request that has clashing fingerprints both kept: nothing here is the
-//! original's or the port's. All arithmetic is on 64-bit integers.
+//! original's or the port's. Matrices are those of `exact`, within 32767.
 
 use std::iter;
 
-use super::port::{By, Finding, Lookup, Reply, Table};
+use super::exact::{LIMIT, Matrix, divisible, gate};
+use super::lent::{By, Finding, Lookup, Reply, Table};
 use super::tables::Limits;
 
-/// a + b omega + c omega^2 + d omega^3.
-type Entry = [i64; 4];
-
-/// Entries row by row, over sqrt(2)^exponent.
-#[derive(Clone)]
-pub(super) struct Matrix {
-    pub(super) width: u32,
-    pub(super) exponent: u32,
-    pub(super) entries: Vec<Entry>,
-}
-
-/// A kind's number, its operands, how many of the first rise, and the turn of
-/// the rows that have all their bits.
-pub(super) struct Kind {
-    pub(super) number: u32,
-    operands: usize,
-    rising: usize,
-    turn: Option<usize>,
-}
-
-#[rustfmt::skip]
-const KINDS: [Kind; 11] = [
-    Kind { number: 0, operands: 1, rising: 1, turn: None },
-    Kind { number: 1, operands: 1, rising: 1, turn: None },
-    Kind { number: 2, operands: 1, rising: 1, turn: Some(4) },
-    Kind { number: 3, operands: 1, rising: 1, turn: Some(2) },
-    Kind { number: 4, operands: 1, rising: 1, turn: Some(6) },
-    Kind { number: 5, operands: 1, rising: 1, turn: Some(1) },
-    Kind { number: 6, operands: 1, rising: 1, turn: Some(7) },
-    Kind { number: 8, operands: 2, rising: 1, turn: None },
-    Kind { number: 9, operands: 2, rising: 2, turn: Some(4) },
-    Kind { number: 10, operands: 3, rising: 2, turn: None },
-    Kind { number: 11, operands: 3, rising: 3, turn: Some(4) },
-];
-
-const H: u32 = 0;
 pub(super) const MARK: u32 = 4294967295;
 
 /// A place of an index that holds no node.
 pub(super) const EMPTY: u32 = 4294967295;
-
-pub(super) fn turned([a, b, c, d]: Entry, power: usize) -> Entry {
-    match power {
-        0 => [a, b, c, d],
-        _ => turned([-d, a, b, c], power - 1),
-    }
-}
-
-/// Times sqrt(2), which is omega - omega^3.
-pub(super) fn times_root([a, b, c, d]: Entry) -> Entry {
-    [b - d, a + c, b + d, c - a]
-}
-
-fn sum(x: Entry, y: Entry, sign: i64) -> Entry {
-    [0, 1, 2, 3].map(|i| x[i] + sign * y[i])
-}
-
-fn times(x: Entry, y: Entry) -> Entry {
-    (0..4).fold([0; 4], |total, power| {
-        let part = turned(x, power).map(|coefficient| coefficient * y[power]);
-        sum(total, part, 1)
-    })
-}
-
-fn divisible([a, b, c, d]: &Entry) -> bool {
-    (a - c) % 2 == 0 && (b - d) % 2 == 0
-}
-
-/// The kind and the row bits of a code that is valid at the width.
-pub(super) fn gate(code: u32, width: u32) -> Option<(&'static Kind, Vec<usize>)> {
-    let kind = KINDS.iter().find(|kind| kind.number == code / 4096)?;
-    let places = [code / 256 % 16, code / 16 % 16, code % 16];
-    let (used, unused) = places.split_at(kind.operands);
-    let below = used.iter().all(|&operand| operand < width);
-    let distinct = (0..used.len()).all(|i| !used[..i].contains(&used[i]));
-    let rising = used[..kind.rising].is_sorted();
-    let plain = unused.iter().all(|&operand| operand == 0);
-    // Qubit 0 is the most significant row bit.
-    let bit = |&operand: &u32| 1 << (width - 1 - operand);
-    (below && distinct && rising && plain).then(|| (kind, used.iter().map(bit).collect()))
-}
-
-impl Matrix {
-    pub(super) fn identity(width: u32) -> Self {
-        let size = 1 << width;
-        let entry = |place: usize| [i64::from(place / size == place % size), 0, 0, 0];
-        Self {
-            width,
-            exponent: 0,
-            entries: (0..size * size).map(entry).collect(),
-        }
-    }
-
-    fn size(&self) -> usize {
-        1 << self.width
-    }
-
-    /// One gate on the left, by rows; whether it fits.
-    pub(super) fn step(&mut self, code: u32) -> bool {
-        let (kind, bits) = gate(code, self.width).expect("the code is valid");
-        let size = self.size();
-        let has = |row: usize, bits: &[usize]| bits.iter().all(|bit| row & bit != 0);
-        let (target, controls) = bits.split_last().expect("an operand");
-        let old = self.entries.clone();
-        for row in 0..size {
-            for column in 0..size {
-                let at = |row: usize| old[row * size + column];
-                self.entries[row * size + column] = match kind.turn {
-                    Some(power) if has(row, &bits) => turned(at(row), power),
-                    Some(_) => at(row),
-                    None if kind.number == H && row & target == 0 => {
-                        sum(at(row), at(row | target), 1)
-                    }
-                    None if kind.number == H => sum(at(row & !target), at(row), -1),
-                    None if has(row, controls) => at(row ^ target),
-                    None => at(row),
-                };
-            }
-        }
-        if kind.number != H {
-            return true;
-        }
-        self.exponent += 1;
-        let large = |entry: &Entry| entry.iter().any(|coefficient| coefficient.abs() > 127);
-        if self.exponent > 65535 || self.entries.iter().any(large) {
-            return false;
-        }
-        while self.exponent > 0 && self.entries.iter().all(divisible) {
-            for entry in &mut self.entries {
-                let [a, b, c, d] = *entry;
-                *entry = [(b - d) / 2, (a + c) / 2, (b + d) / 2, (c - a) / 2];
-            }
-            self.exponent -= 1;
-        }
-        true
-    }
-
-    /// The matrix of a list, where every step fits.
-    pub(super) fn of_list(width: u32, codes: &[u32]) -> Option<Self> {
-        let mut matrix = Self::identity(width);
-        codes
-            .iter()
-            .all(|&code| matrix.step(code))
-            .then_some(matrix)
-    }
-
-    /// The entries after their own phase: the power that makes the first nonzero
-    /// entry least.
-    fn phased(&self) -> Vec<Entry> {
-        let pivot = self.entries.iter().find(|&&entry| entry != [0; 4]);
-        let least = |pivot: &Entry| (0..8).min_by_key(|&power| turned(*pivot, power));
-        let phase = pivot.and_then(least).unwrap_or(0);
-        let entries = self.entries.iter();
-        entries.map(|&entry| turned(entry, phase)).collect()
-    }
-
-    pub(super) fn fingerprint(&self) -> u64 {
-        let head = [i64::from(self.width), i64::from(self.exponent)];
-        let (mut first, mut second) = (0xcbf29ce484222325u64, 0x9e3779b97f4a7c15u64);
-        for word in head.into_iter().chain(self.phased().into_iter().flatten()) {
-            let word = word as u64;
-            first = (first ^ word).wrapping_mul(0x100000001b3);
-            second ^= word.wrapping_add(0x517cc1b727220a95);
-            second = second.rotate_left(27).wrapping_mul(0x94d049bb133111eb);
-        }
-        let mut fold = first ^ second.rotate_left(32);
-        fold = (fold ^ fold >> 30).wrapping_mul(0xbf58476d1ce4e5b9);
-        fold = (fold ^ fold >> 27).wrapping_mul(0x94d049bb133111eb);
-        fold ^ fold >> 31
-    }
-
-    pub(super) fn equal_up_to_phase(&self, other: &Self) -> bool {
-        self.width == other.width
-            && self.exponent == other.exponent
-            && self.phased() == other.phased()
-    }
-
-    /// The matrix of one gate, by what it does to each basis state.
-    pub(super) fn of_gate(width: u32, code: u32) -> Self {
-        let (kind, bits) = gate(code, width).expect("the code is valid");
-        let mut matrix = Self::identity(width);
-        let size = matrix.size();
-        matrix.entries.fill([0; 4]);
-        matrix.exponent = u32::from(kind.number == H);
-        let (target, controls) = bits.split_last().expect("an operand");
-        for state in 0..size {
-            let mut put = |row: usize, entry: Entry| matrix.entries[row * size + state] = entry;
-            let has = |bits: &[usize]| bits.iter().all(|bit| state & bit != 0);
-            let one = [1, 0, 0, 0];
-            match kind.turn {
-                Some(power) => put(state, turned(one, if has(&bits) { power } else { 0 })),
-                None if kind.number == H => {
-                    put(state & !target, one);
-                    put(state | target, turned(one, if has(&bits) { 4 } else { 0 }));
-                }
-                None => put(if has(controls) { state ^ target } else { state }, one),
-            }
-        }
-        matrix
-    }
-
-    pub(super) fn product(&self, other: &Self) -> Self {
-        let size = self.size();
-        let entry = |place: usize| {
-            (0..size).fold([0; 4], |total, middle| {
-                let left = self.entries[place / size * size + middle];
-                let right = other.entries[middle * size + place % size];
-                sum(total, times(left, right), 1)
-            })
-        };
-        Self {
-            width: self.width,
-            exponent: self.exponent + other.exponent,
-            entries: (0..size * size).map(entry).collect(),
-        }
-    }
-
-    /// Whether a power of omega takes this value to the other's. The smaller
-    /// exponent is raised, entries and denominator times sqrt(2).
-    pub(super) fn is_power_of_omega_times(&self, other: &Self) -> bool {
-        let raised = |matrix: &Self, exponent: u32| -> Vec<Entry> {
-            let raise = |&entry: &Entry| {
-                (matrix.exponent..exponent).fold(entry, |entry, _| times_root(entry))
-            };
-            matrix.entries.iter().map(raise).collect()
-        };
-        let exponent = self.exponent.max(other.exponent);
-        let (left, right) = (raised(self, exponent), raised(other, exponent));
-        let same = |power| (0..left.len()).all(|i| turned(left[i], power) == right[i]);
-        left.len() == right.len() && (0..8).any(same)
-    }
-}
-
-/// Whether the exact product of a list is a power of omega times the matrix.
-/// Every gate is a dense matrix; nothing is lowered or refused.
-pub(super) fn gives(codes: &[u32], asked: &Matrix) -> bool {
-    let width = asked.width;
-    let identity = Matrix::identity(width);
-    let product = codes.iter().fold(identity, |product, &code| {
-        Matrix::of_gate(width, code).product(&product)
-    });
-    product.is_power_of_omega_times(asked)
-}
 
 /// A matrix as it is asked, with its value and its fingerprint where its width
 /// and length allow one.
 pub(super) struct Asked {
     pub(super) width: u32,
     pub(super) exponent: u16,
-    pub(super) bytes: Vec<i8>,
+    pub(super) coefficients: Vec<i16>,
     pub(super) value: Option<(Matrix, u64)>,
 }
 
 impl Asked {
-    pub(super) fn new(width: u32, exponent: u16, bytes: Vec<i8>) -> Self {
-        let exact = width <= 5 && bytes.len() == 4 << (2 * width);
-        let entry = |entry: &[i8]| [0, 1, 2, 3].map(|i| i64::from(entry[i]));
-        let value = exact.then(|| Matrix {
-            width,
-            exponent: u32::from(exponent),
-            entries: bytes.chunks_exact(4).map(entry).collect(),
-        });
-        let value = value.map(|matrix| {
+    pub(super) fn new(width: u32, exponent: u16, coefficients: Vec<i16>) -> Self {
+        let exact = width <= 5 && coefficients.len() == 4 << (2 * width);
+        let value = exact.then(|| {
+            let matrix = Matrix::of_coefficients(width, exponent, &coefficients);
             let fingerprint = matrix.fingerprint();
             (matrix, fingerprint)
         });
         Self {
             width,
             exponent,
-            bytes,
+            coefficients,
             value,
         }
     }
@@ -357,14 +114,14 @@ fn table_refused(table: &Table) -> Option<u64> {
 }
 
 /// What is tried of a matrix: 6, 9, 10, 11.
-fn query_refused(asked: &Asked) -> Option<u64> {
+pub(super) fn query_refused(asked: &Asked) -> Option<u64> {
     if asked.width > 5 {
         return Some(6);
     }
     let Some((matrix, _)) = &asked.value else {
         return Some(9);
     };
-    if asked.bytes.contains(&-128) {
+    if matrix.entries.iter().flatten().any(|&one| one < -LIMIT) {
         return Some(10);
     }
     let lowest = asked.exponent == 0 || !matrix.entries.iter().all(divisible);
@@ -523,10 +280,10 @@ fn verdict(table: &Table, matrix: &Matrix, node: usize) -> Verdict {
         Ok(list) => list,
         Err(bad) => return Verdict::Spoilt(bad),
     };
-    match Matrix::of_list(matrix.width, &list) {
-        Some(product) if product.equal_up_to_phase(matrix) => Verdict::Answers(list),
-        Some(_) => Verdict::Differs,
-        None => Verdict::DoesNotFit,
+    match Matrix::of_list(matrix.width, &list, LIMIT) {
+        Ok(product) if product.equal_up_to_phase(matrix) => Verdict::Answers(list),
+        Ok(_) => Verdict::Differs,
+        Err(_) => Verdict::DoesNotFit,
     }
 }
 

@@ -8,13 +8,15 @@ use std::io::{self, Write};
 use super::circuits::{MOST_INPUT, PLACES, write_run};
 use super::codes::{FURTHER, kinds, list_codes_of};
 use super::edges;
+use super::far;
 use super::further;
 use super::inputs::{MOST_GATES, TRAP, evenly, foreign_codes, list, valid_codes};
+use super::lent::Mode;
 use super::lists::{List, MOST_WIDTH};
 use super::random::Random;
-use super::run_queries::{Asker, trapped};
+use super::run_queries::{Also, Asker, trapped};
 use super::table_inputs::{bases, basis};
-use super::tables::Limits;
+use super::tables::{Built, Limits};
 
 /// The input of one run.
 type Run = Vec<u8>;
@@ -65,6 +67,10 @@ const SAMPLE: usize = 60;
 const FURTHER_FROM: u64 = 15;
 const FURTHER_SAMPLE: usize = 12;
 
+/// The same of queries whose coefficients pass 127, and no more of the six kinds.
+const FAR_FROM: u64 = 19;
+const FAR_SAMPLE: usize = 12;
+
 pub(super) fn write_sample(out: &mut dyn Write) -> io::Result<()> {
     let groups = [
         vec![WORKED.into()],
@@ -80,10 +86,12 @@ pub(super) fn write_sample(out: &mut dyn Write) -> io::Result<()> {
         pairs(),
         wide(),
         large(),
-        random_runs(0, SAMPLE, 60, false),
+        random_runs(0, SAMPLE, 60, Also::Nothing),
         further_bases(),
         further_queries(),
-        random_runs(1, FURTHER_SAMPLE, 60, true),
+        random_runs(1, FURTHER_SAMPLE, 60, Also::Further),
+        far_queries(),
+        random_runs(1000, FAR_SAMPLE, 60, Also::Far),
     ];
     for run in groups.concat() {
         write_run(&run, out)?;
@@ -92,8 +100,12 @@ pub(super) fn write_sample(out: &mut dyn Write) -> io::Result<()> {
 }
 
 pub(super) fn write_part(part: u64, out: &mut dyn Write) -> io::Result<()> {
-    let further = part >= FURTHER_FROM;
-    for run in random_runs(1 + part, PART, PLACES as usize, further) {
+    let also = match part {
+        FAR_FROM.. => Also::Far,
+        FURTHER_FROM.. => Also::Further,
+        _ => Also::Nothing,
+    };
+    for run in random_runs(1 + part, PART, PLACES as usize, also) {
         write_run(&run, out)?;
     }
     Ok(())
@@ -318,7 +330,8 @@ fn not_valid() -> Vec<Run> {
     runs
 }
 
-/// Lists that come to the limit of 127 and that pass it, asked of some tables.
+/// Lists that come to the original's limit of 127 and that pass it, asked of some
+/// tables.
 fn not_fitting() -> Vec<Run> {
     let mut runs = Vec::new();
     let mut lines = Vec::new();
@@ -392,17 +405,17 @@ fn lengths() -> Vec<Run> {
 
 /// A table with some queries of each sort.
 fn asked(limits: [u32; 4], seed: u64, queries: usize) -> Run {
-    asked_as(limits, seed, queries, false)
+    asked_as(limits, seed, queries, Also::Nothing)
 }
 
-/// The same, the six further kinds among the queries or not.
-fn asked_as(limits: [u32; 4], seed: u64, queries: usize, further: bool) -> Run {
+/// The same with others among the queries.
+fn asked_as(limits: [u32; 4], seed: u64, queries: usize, also: Also) -> Run {
     let limits = Limits::of(limits);
     let mut asker = Asker {
         limits,
-        table: limits.build(),
+        table: Built::of(limits, Mode::ByPrint).table,
         random: Random::new(seed),
-        further,
+        also,
     };
     let lines: Vec<String> = (0..queries).map(|_| asker.query()).collect();
     run_of(limits, &lines)
@@ -474,7 +487,7 @@ fn further_bases() -> Vec<Run> {
 
 /// Tables that have each of the six further kinds but Ch as a product, asked
 /// every gate of these kinds; codes of them that are not valid; and lists that
-/// come to the limit of 127 at an Sx or a Ch, or pass it.
+/// come to the original's limit of 127 at an Sx or a Ch, or pass it.
 fn further_queries() -> Vec<Run> {
     let mut runs = Vec::new();
     for limits in [
@@ -508,8 +521,23 @@ fn further_queries() -> Vec<Run> {
     runs
 }
 
+/// Lists that come to the limit of 32767 and that pass it, and lists that come back to a
+/// node, asked of some tables.
+fn far_queries() -> Vec<Run> {
+    let mut lines: Vec<String> = far::some_edges().iter().map(List::numbers).collect();
+    lines.extend(far::some_returning().iter().map(List::numbers));
+    lines
+        .chunks(8)
+        .enumerate()
+        .map(|(number, lines)| {
+            let qubits = 1 + number as u32 % 3;
+            run_of(Limits::of([qubits, 2, 9, 297]), lines)
+        })
+        .collect()
+}
+
 /// Random limits, mostly accepted, and random queries.
-fn random_runs(seed: u64, count: usize, places: usize, further: bool) -> Vec<Run> {
+fn random_runs(seed: u64, count: usize, places: usize, also: Also) -> Vec<Run> {
     let mut random = Random::new(5000 + seed);
     (0..count as u64)
         .map(|number| {
@@ -519,8 +547,9 @@ fn random_runs(seed: u64, count: usize, places: usize, further: bool) -> Vec<Run
             let entries = 1 + random.below(shrunk.max(3));
             let gates = random.one_of(&[0, 1, 2, 3, 4, 5, 6, 8, 12, 20, 40, 64]);
             let limits = [qubits as u32, gates, entries as u32, basis(&mut random)];
-            let queries = random.below(24);
-            let run = asked_as(limits, 100000 * (1 + seed) + number, queries, further);
+            // Lists with large coefficients are long.
+            let queries = random.below(if also == Also::Far { 12 } else { 24 });
+            let run = asked_as(limits, 100000 * (1 + seed) + number, queries, also);
             match random.below(8) {
                 0 => spoilt(run, &mut random),
                 _ => run,

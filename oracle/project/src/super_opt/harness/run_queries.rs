@@ -1,21 +1,34 @@
 //! The queries of a run of the program `circuits`: lists as lines of numbers.
 
 use super::codes::{code_of, valid_gates};
+use super::far;
 use super::further;
-use super::inputs::{TRAP, foreign_codes, list};
+use super::inputs::{MOST_GATES, TRAP, foreign_codes, list};
+use super::lent::Table;
 use super::lists::{List, MOST_WIDTH};
 use super::random::Random;
+use super::rules::written;
 use super::tables::Limits;
 use crate::circuit::GateSet;
-use crate::super_opt::murm::{LibraryGate as Gate, Murm, library_gates};
+use crate::super_opt::murm::{LibraryGate as Gate, library_gates};
 
 /// A table at hand, and what its queries are chosen by.
 pub(super) struct Asker {
     pub(super) limits: Limits,
-    pub(super) table: Murm,
+    pub(super) table: Table,
     pub(super) random: Random,
-    /// Whether every second query may have the six kinds that no table has.
-    pub(super) further: bool,
+    /// What every second query may be.
+    pub(super) also: Also,
+}
+
+/// What queries there are beside lists of the eleven kinds, mostly short ones.
+#[derive(Clone, Copy, PartialEq)]
+pub(super) enum Also {
+    Nothing,
+    /// Lists with the six kinds that no table has.
+    Further,
+    /// Lists whose coefficients pass 127.
+    Far,
 }
 
 type Sort = fn(&mut Asker) -> List;
@@ -46,11 +59,26 @@ const FURTHER_SORTS: &[Sort] = &[
     Asker::further_not_valid,
 ];
 
+/// The sorts of queries whose coefficients pass 127, each as likely.
+const FAR_SORTS: &[Sort] = &[
+    Asker::returning,
+    Asker::returning_node,
+    Asker::returning_node,
+    Asker::far_growing,
+];
+
 impl Asker {
     /// A query line, now and then a spoilt one.
     pub(super) fn query(&mut self) -> String {
-        if self.further && self.random.below(2) == 0 {
-            let sort = self.random.one_of(FURTHER_SORTS);
+        let also = match self.also {
+            Also::Nothing => None,
+            Also::Further => Some(FURTHER_SORTS),
+            Also::Far => Some(FAR_SORTS),
+        };
+        if let Some(sorts) = also
+            && self.random.below(2) == 0
+        {
+            let sort = self.random.one_of(sorts);
             return sort(self).numbers();
         }
         let mut choice = self.random.below(40);
@@ -80,16 +108,13 @@ impl Asker {
     /// The list of a node, the last or any.
     fn node(&mut self) -> List {
         let width = self.width();
-        let table = self.table.width(width).0;
-        let count = table.len();
+        let count = self.table.count(width);
         let node = match self.random.below(4) {
             0 => count - 1,
             _ => self.random.below(count),
         };
-        list(
-            width,
-            table.circuit(node).into_iter().map(code_of).collect(),
-        )
+        let codes = written(&self.table, width as u32, node);
+        list(width, codes.expect("a table as it was built"))
     }
 
     /// The list of a node with gates in it that cancel, of any kinds.
@@ -169,8 +194,8 @@ impl Asker {
         broken
     }
 
-    /// A list that does not fit, with gates before it that do not change that,
-    /// and sometimes a code after it that is not valid.
+    /// A list at which the original overflows, with gates before it that do not change
+    /// that, and sometimes a code after it that is not valid.
     fn trap(&mut self) -> List {
         let traps = trapped();
         let trap = &traps[self.random.below(traps.len())];
@@ -201,10 +226,36 @@ impl Asker {
         list(width, further::any_codes(width, most, &mut self.random))
     }
 
-    /// A list that mostly does not fit.
+    /// A list at which the original mostly overflows.
     fn further_growing(&mut self) -> List {
         let width = self.width();
         list(width, further::growing_codes(width, &mut self.random))
+    }
+
+    /// A list, its inverse, and up to three gates.
+    fn returning(&mut self) -> List {
+        let width = self.width();
+        list(width, far::returning_codes(width, &mut self.random))
+    }
+
+    /// A list, its inverse, and the list of a node.
+    fn returning_node(&mut self) -> List {
+        let mut longer = self.node();
+        let width = longer.width as usize;
+        let mut codes = far::there_and_back(width, &mut self.random);
+        codes.truncate(MOST_GATES - longer.codes.len());
+        codes.append(&mut longer.codes);
+        list(width, codes)
+    }
+
+    /// A list that mostly passes 127, and may pass 32767.
+    fn far_growing(&mut self) -> List {
+        let width = self.width();
+        let count = 40 + self.random.below(MOST_GATES - 39);
+        list(
+            width,
+            further::growing_codes_of(width, count, &mut self.random),
+        )
     }
 
     /// One code of the six kinds is not valid.
@@ -217,8 +268,8 @@ impl Asker {
     }
 }
 
-/// The trap and what begins with it: refused by 8, but by 7 where a code after
-/// it is not valid.
+/// The trap, at which the original overflows, and what begins with it: refused by 7
+/// where a code after it is not valid.
 pub(super) fn trapped() -> Vec<Vec<u32>> {
     vec![
         TRAP[..51].to_vec(),

@@ -6,9 +6,10 @@ use std::io::{self, Write};
 
 use super::codes::FURTHER;
 use super::inputs::evenly;
+use super::lent::Mode;
 use super::questions::{Asker, finds};
 use super::random::Random;
-use super::tables::{Limits, PLACES};
+use super::tables::{Built, Limits, PLACES};
 
 /// How much is asked after a table.
 #[derive(Clone, Copy)]
@@ -83,9 +84,9 @@ pub(super) fn write(sample: bool, out: &mut dyn Write) -> io::Result<()> {
     // Of the lines of each sort that `questions` has. The steps are such that
     // every place of a table's lines comes up.
     let steps = if sample {
-        [1, 11, 4, 307]
+        [1, 11, 4, 307, 7, 29]
     } else {
-        [1, 1, 1, 11]
+        [1, 1, 1, 11, 1, 1]
     };
     let mut every = steps.map(Every::of);
     for (group, (limits, wanted, asked)) in GROUPS.iter().enumerate() {
@@ -97,11 +98,11 @@ pub(super) fn write(sample: bool, out: &mut dyn Write) -> io::Result<()> {
             limits = evenly(limits, *wanted);
         }
         for (number, limits) in limits {
-            let random = Random::new((1000000 * (group + 1) + number) as u64);
+            let seed = (1000000 * (group + 1) + number) as u64;
             writeln!(out, "{}", limits.line())?;
             let short = sample && limits.qubits > SAMPLE_QUBITS;
             let asked = if short { Asked::Some } else { *asked };
-            for (lines, every) in questions(limits, asked, random).iter().zip(&mut every) {
+            for (lines, every) in questions(limits, asked, seed).iter().zip(&mut every) {
                 for line in lines.iter().filter(|_| every.takes()) {
                     writeln!(out, "{line}")?;
                 }
@@ -112,24 +113,29 @@ pub(super) fn write(sample: bool, out: &mut dyn Write) -> io::Result<()> {
 }
 
 /// What is asked after a table: matrices, the same for their nodes, lists of
-/// nodes, and nodes at and past the ends.
-fn questions(limits: Limits, asked: Asked, random: Random) -> [Vec<String>; 4] {
+/// nodes, and nodes at and past the ends; then matrices with coefficients past 127,
+/// and the same for their nodes.
+fn questions(limits: Limits, asked: Asked, seed: u64) -> [Vec<String>; 6] {
     if limits.refusal(PLACES).is_some() {
         let matrices = vec![UNASKED.to_owned()];
         let finds = finds(&matrices);
-        return [matrices, finds, vec![UNWRITTEN.to_owned()], Vec::new()];
+        let nodes = vec![UNWRITTEN.to_owned()];
+        return [matrices, finds, nodes, Vec::new(), Vec::new(), Vec::new()];
     }
     let mut asker = Asker {
         limits,
-        table: limits.build(),
-        random,
+        table: Built::of(limits, Mode::ByPrint).table,
+        random: Random::new(seed),
     };
     let matrices = match asked {
         Asked::Some => asker.some(),
         Asked::All => asker.all(),
     };
-    let finds = finds(&matrices);
-    [matrices, finds, asker.nodes(), asker.node_ends()]
+    let (nodes, ends) = (asker.nodes(), asker.node_ends());
+    asker.random = Random::new(100_000_000 + seed);
+    let far = asker.far(matches!(asked, Asked::All));
+    let (found, far_found) = (finds(&matrices), finds(&far));
+    [matrices, found, nodes, ends, far, far_found]
 }
 
 /// The tables of SPECIFICATION 10.7 and 11.2, and more that come to their

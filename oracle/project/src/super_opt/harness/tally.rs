@@ -4,10 +4,11 @@
 use std::collections::{HashMap, HashSet};
 use std::io::{self, Write};
 
-use super::port::{By, Finding, Lookup, Mode, Reply, SCAN, Table};
+use super::exact::gives;
+use super::lent::{By, Finding, Lookup, Mode, Reply, SCAN, Table};
 use super::rules::{
-    Asked, Bad, EMPTY, Verdict, asked_refused, bad_record, decide, fill, find, gives, part_of,
-    prints_of, probe, verdicts, write, written,
+    Asked, Bad, EMPTY, Verdict, asked_refused, bad_record, decide, fill, find, part_of, prints_of,
+    probe, verdicts, write, written,
 };
 use super::walks::{self, Manner};
 
@@ -326,11 +327,11 @@ impl Tally {
         room: usize,
     ) -> (Reply, Finding) {
         let (mut list, before) = lent(room);
-        let (width, exponent, bytes) = (asked.width, asked.exponent, &asked.bytes);
+        let (width, exponent, matrix) = (asked.width, asked.exponent, &asked.coefficients);
         // Without an index the C function of murm_c is asked.
         let reply = match lookup.by {
-            By::Scan if lookup.index.is_empty() => table.ask(width, exponent, bytes, &mut list),
-            _ => table.ask_by(lookup, width, exponent, bytes, &mut list),
+            By::Scan if lookup.index.is_empty() => table.ask(width, exponent, matrix, &mut list),
+            _ => table.ask_by(lookup, width, exponent, matrix, &mut list),
         };
         let expected = decide(table, lookup, asked, room);
         let right = reply == expected && self.is_exact(number, asked, &reply);
@@ -376,7 +377,7 @@ impl Tally {
 
     /// Asks a table for the node of a matrix.
     fn find(&mut self, table: &Table, lookup: Lookup, asked: &Asked) -> Finding {
-        let found = table.find(lookup, asked.width, asked.exponent, &asked.bytes);
+        let found = table.find(lookup, asked.width, asked.exponent, &asked.coefficients);
         let expected = find(table, lookup, asked);
         if found != expected {
             self.differs(format!(

@@ -4,22 +4,30 @@
 
 use std::iter;
 
-use super::port::{By, Lookup, Mode, Table};
-use super::rules::{EMPTY, MARK, Matrix, gate, led_to, part_size, put_in};
+use super::exact::{LIMIT, Matrix, gate};
+use super::lent::{By, Lookup, Mode, Table};
+use super::rules::{EMPTY, MARK, led_to, part_size, put_in};
 use super::tables::Limits;
 
-/// How a build is done: in which mode, and with which fingerprints. Weakened ones are
-/// the remainders by a number.
+/// How a build is done: in which mode, with which fingerprints, and within which limit
+/// of coefficients. Weakened fingerprints are the remainders by a number.
 #[derive(Clone, Copy)]
 pub(super) struct Manner {
     pub(super) mode: Mode,
     pub(super) weak: Option<u64>,
+    pub(super) limit: i64,
 }
 
 impl Manner {
-    /// With the fingerprints as they are.
+    /// With the fingerprints and the limit as they are.
     pub(super) fn plain(mode: Mode) -> Self {
-        Self { mode, weak: None }
+        Self::within(mode, LIMIT)
+    }
+
+    /// The same within another limit.
+    pub(super) fn within(mode: Mode, limit: i64) -> Self {
+        let weak = None;
+        Self { mode, weak, limit }
     }
 
     /// A matrix's fingerprint.
@@ -164,7 +172,7 @@ impl<'a> Walk<'a> {
             return true;
         }
         let mut matrix = self.matrices[node].clone();
-        if !matrix.step(code) || self.is_known(&matrix) {
+        if !matrix.step(code, self.manner.limit) || self.is_known(&matrix) {
             return true;
         }
         if self.prints.len() == self.limits.entries as usize {

@@ -7,9 +7,10 @@
 use std::io::{self, Write};
 
 use super::damage::limits_of;
+use super::exact::{LIMIT, Matrix};
 use super::indexes::{same, sizes};
-use super::port::{Finding, Lookup, Mode, SCAN, Table, through};
-use super::rules::{EMPTY, Matrix, Verdict, search, verdicts, written};
+use super::lent::{Finding, Lookup, Mode, SCAN, Table, through};
+use super::rules::{EMPTY, Verdict, search, verdicts, written};
 use super::tables::Limits;
 use super::tally::Tally;
 use super::walks::{Manner, build, generators};
@@ -66,6 +67,7 @@ pub(super) fn run(tally: &mut Tally, out: &mut dyn Write) -> io::Result<()> {
             let manner = |mode| Manner {
                 mode,
                 weak: Some(weak),
+                limit: LIMIT,
             };
             let by_print = built(limits, manner(Mode::ByPrint), None).0;
             for width in 1..=limits.qubits as usize {
@@ -131,7 +133,7 @@ fn built(limits: Limits, manner: Manner, places: Option<usize>) -> (Table, Vec<u
 
 /// The products of lists of up to G gates, up to phase, by the fewest gates of each:
 /// every one of a layer with every generator after it, where none of the layers has it
-/// yet. No list of up to 13 gates is too large.
+/// yet. No list of up to 29 gates is too large.
 fn products(width: u32, limits: Limits) -> Vec<Vec<Matrix>> {
     let gates: Vec<Matrix> = generators(limits.basis, width)
         .into_iter()
@@ -182,7 +184,8 @@ fn each_once(table: &Table, width: u32, layers: &[Vec<Matrix>]) -> Result<(), St
         .collect();
     for node in 0..count {
         let list = written(table, width, node).ok_or("a bad chain")?;
-        let product = Matrix::of_list(width, &list).ok_or("a node that does not fit")?;
+        let product =
+            Matrix::of_list(width, &list, LIMIT).map_err(|_| "a node that does not fit")?;
         let layer = layers.get(list.len()).ok_or("a node that is too deep")?;
         let same = |place: &usize| layer[*place].is_power_of_omega_times(&product);
         let place = (0..layer.len()).find(same).ok_or("a shorter one exists")?;
@@ -205,7 +208,7 @@ fn ask(table: &Table, lookup: Lookup, width: u32, weak: u64, sums: &mut Sums, ta
     let prints = &table.fingerprints[start..][..table.count(width as usize)];
     for node in 0..prints.len() {
         let list = written(table, width, node).expect("a table as it was built");
-        let product = Matrix::of_list(width, &list).expect("a node fits");
+        let product = Matrix::of_list(width, &list, LIMIT).expect("a node fits");
         let print = product.fingerprint() % weak;
         let found = match search(table, lookup, &product, print) {
             Some((node, Verdict::Answers(list))) => Finding::Node(node, list.len()),

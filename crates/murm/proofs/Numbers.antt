@@ -16,9 +16,9 @@ use Rattle.exact.proofs.Phases.{row-lt, col-lt}
 use Rattle.exact.specs.Places.{entry, read}
 use Rattle.places.proofs.Placed.{area-le, read-at, at-small}
 use Rattle.matrix.specs.Step.{Holds}
-use Rattle.tables.specs.Checks.{byteCount}
-use Rattle.tables.specs.Lists.{bytesOf, coefficients}
-use Rattle.tables.proofs.Coefficients.{byte-count, bytes-same, entry-later}
+use Rattle.tables.specs.Checks.{coefficientCount}
+use Rattle.tables.specs.Lists.{coefficientsOf, coefficients}
+use Rattle.tables.proofs.Coefficients.{coefficient-count, coefficients-same, entry-later}
 
 -- ---- a copy
 
@@ -32,33 +32,33 @@ copied-more to from i x p q h e =
 -- ---- the coefficients of a matrix in places
 
 -- the first places, by entries
-take-bytes : (m : ℕ) (l : List ℤ) → 4 * m ≤ length l → take (4 * m) l ≡ bytesOf m (entry l)
+take-coefficients : (m : ℕ) (l : List ℤ) → 4 * m ≤ length l → take (4 * m) l ≡ coefficientsOf m (entry l)
 unfolding entry
-take-bytes zero l h = refl
-take-bytes (suc m) [] h = absurd (omega arith)
-take-bytes (suc m) (a ∷ []) h = absurd (omega arith)
-take-bytes (suc m) (a ∷ b ∷ []) h = absurd (omega arith)
-take-bytes (suc m) (a ∷ b ∷ c ∷ []) h = absurd (omega arith)
-take-bytes (suc m) (a ∷ b ∷ c ∷ d ∷ l) h =
+take-coefficients zero l h = refl
+take-coefficients (suc m) [] h = absurd (omega arith)
+take-coefficients (suc m) (a ∷ []) h = absurd (omega arith)
+take-coefficients (suc m) (a ∷ b ∷ []) h = absurd (omega arith)
+take-coefficients (suc m) (a ∷ b ∷ c ∷ []) h = absurd (omega arith)
+take-coefficients (suc m) (a ∷ b ∷ c ∷ d ∷ l) h =
     let four : 4 * suc m ≡ suc (suc (suc (suc (4 * m)))) = omega arith in
-    let rest = take-bytes m l (omega arith) ∙ bytes-same m (entry l) (λ i. entry (a ∷ b ∷ c ∷ d ∷ l) (suc i)) (λ i q. entry-later a b c d l i) in
+    let rest = take-coefficients m l (omega arith) ∙ coefficients-same m (entry l) (λ i. entry (a ∷ b ∷ c ∷ d ∷ l) (suc i)) (λ i q. entry-later a b c d l i) in
     ap (λ (k : ℕ). take k (a ∷ b ∷ c ∷ d ∷ l)) four ∙ (λ i. a ∷ b ∷ c ∷ d ∷ rest i)
 
 -- the places of a matrix are its coefficients
-pub places-are : (n k : ℕ) (l : List ℤ) (x : Exact) → n ≤ 5 → Holds n k l x → take (byteCount n) l ≡ coefficients n x
+pub places-are : (n k : ℕ) (l : List ℤ) (x : Exact) → n ≤ 5 → Holds n k l x → take (coefficientCount n) l ≡ coefficients n x
 unfolding coefficients
 places-are n k l x h w =
-    ap (λ (j : ℕ). take j l) (byte-count n)
-    ∙ take-bytes (2 ^ n * 2 ^ n) l (omega (arith, area-le n h, w .long))
-    ∙ bytes-same (2 ^ n * 2 ^ n) (entry l) (flat n (x .e))
+    ap (λ (j : ℕ). take j l) (coefficient-count n)
+    ∙ take-coefficients (2 ^ n * 2 ^ n) l (omega (arith, area-le n h, w .long))
+    ∙ coefficients-same (2 ^ n * 2 ^ n) (entry l) (flat n (x .e))
     (λ i q. sym (read-at n l i) ∙ w .equal .entries (i / 2 ^ n) (i % 2 ^ n) (row-lt n i q) (col-lt n i))
 
 -- ---- a matrix given by its coefficients
 
-pub bytes-small : (n : ℕ) (bytes : List ℤ) → length bytes ≡ byteCount n → ((i : ℕ) → i < length bytes → natAbs (getD bytes i (pos 0)) ≤ limit)
-    → AllSmall n (read n bytes)
+pub coefficients-small : (n : ℕ) (numbers : List ℤ) → length numbers ≡ coefficientCount n → ((i : ℕ) → i < length numbers → natAbs (getD numbers i (pos 0)) ≤ limit)
+    → AllSmall n (read n numbers)
 unfolding entry
-bytes-small n bytes h s =
-    at-small n bytes
-    (λ e q. let size = h ∙ byte-count n in
+coefficients-small n numbers h s =
+    at-small n numbers
+    (λ e q. let size = h ∙ coefficient-count n in
     record { a-small = s (4 * e) (omega arith); b-small = s (4 * e + 1) (omega arith); c-small = s (4 * e + 2) (omega arith); d-small = s (4 * e + 3) (omega arith) })

@@ -5,7 +5,8 @@ ghost use mathlib.Core.Bool.{true};
 ghost use mathlib.Core.List.{[], _∷_};
 ghost use Prim.Native.Nat.{_^_, _<_, _≤_};
 ghost use lib.Bits.{bitAnd, bitOr};
-ghost use lib.ListN.{length};
+ghost use lib.IntN.{pos};
+ghost use lib.ListN.{length, replicate};
 ghost use Rattle.circuit.specs.Kinds.{kindAt, isKind};
 ghost use Rattle.circuit.specs.Codes.{valid};
 ghost use Rattle.exact.specs.Matrix.{lower, identity};
@@ -34,19 +35,29 @@ pub struct UnitaryMatrix {
     pub data: [Coefficient; 4096],
 }
 
-// The identity of width n: 1 at the diagonal's places, 0 at all others.
+// The identity of width n, in places that are all 0: 1 at the diagonal's places.
+pub fn put_identity(m: &mut [Coefficient; 4096], n: usize)
+    requires { ⌜ n ≤ 5 ⌝ }
+    requires { ⌜ now m ≡ replicate places (pos 0) ⌝ }
+    ensures identity { λ _. ⌜ Holds n 0 (now (m .exit)) identity ⌝ }
+    ensures blank { λ _. ⌜ Blank n (now (m .exit)) ⌝ }
+{
+    let d = places::dim(n);
+    let mut i = 0;
+    while i < d {
+        places::put_at(m, i * (d + 1), Cyclotomic::one());
+        i += 1;
+    }
+}
+
+// The same by value.
 pub fn identity_data(n: usize) -> [Coefficient; 4096]
     requires { ⌜ n ≤ 5 ⌝ }
     ensures identity { λ r. ⌜ Holds n 0 r identity ⌝ }
     ensures blank { λ r. ⌜ Blank n r ⌝ }
 {
     let mut data: [Coefficient; 4096] = [0; 4096];
-    let d = places::dim(n);
-    let mut i = 0;
-    while i < d {
-        places::put_at(&mut data, i * (d + 1), Cyclotomic::one());
-        i += 1;
-    }
+    put_identity(&mut data, n);
     data
 }
 

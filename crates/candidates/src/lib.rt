@@ -15,50 +15,42 @@ ghost use Rattle.candidates.specs.Tries.{CandidateTried, NodeTried};
 use cyclotomic::Coefficient;
 use index::LookupBy;
 use known::BuildMode;
-use matrix::UnitaryMatrix;
 use next_node::Tried;
 use node_matrix::Candidate;
+use node_matrix::TwoCandidates;
 use synthesis_arena::WidthLimits;
 
-// One candidate: a generator after a node, whose matrix is handed over.
-fn try_candidate(
+// The generators that the two skip rules leave after a node, in order: they are put into the first places of `kept`. Returns how many they are.
+fn unpruned(node: usize, gates: &[u32], codes: &[u32], kept: &mut [u32; 105]) -> usize {
+    let mut size = 0;
+    let mut i = 0;
+    while i < gates.len() {
+        let gate = gates[i];
+        if !next_node::is_pruned(node, gate, codes) {
+            kept[size] = gate;
+            size += 1;
+        }
+        i += 1;
+    }
+    size
+}
+
+// One candidate, whose matrix and fingerprint were formed: one that does not fit is skipped, and any other goes to `append`.
+fn try_formed(
     mode: BuildMode,
     by: LookupBy,
     limits: WidthLimits,
     count: usize,
     node: usize,
     gate: u32,
-    exponent: u16,
+    formed: Candidate,
     fingerprints: &mut [u64],
     parents: &mut [u32],
     codes: &mut [u32],
     index: &mut [u32],
     m: &[Coefficient],
-    scratch: &mut [Coefficient; 4096],
-) -> Tried
-    requires narrow { ⌜ (limits .width) ≤ 5 ⌝ }
-    requires valid { ⌜ valid (limits .width) gate ≡ true ⌝ }
-    requires ready { ⌜ Ready (limits .width) exponent (now m) ⌝ }
-    requires long { ⌜ length (now scratch) ≡ places ⌝ }
-    requires room { ⌜ Room (toldBy by) limits count node (now fingerprints) (now parents) (now codes) (now index) ⌝ }
-    ensures tried { λ r. ⌜ CandidateTried (toldMode mode) (toldBy by) limits count node gate (held (limits .width) exponent (now (m .entry)))
-        (now (fingerprints .entry)) (now (parents .entry)) (now (codes .entry)) (now (index .entry))
-        (now (fingerprints .exit)) (now (parents .exit)) (now (codes .exit)) (now (index .exit)) r ⌝ }
-    ensures long { λ _. ⌜ length (now (scratch .exit)) ≡ places ⌝ }
-{
-    if next_node::is_pruned(node, gate, codes) {
-        return Tried {
-            count,
-            saturated: false,
-        };
-    }
-    let Candidate::Print(print, after) = node_matrix::candidate_print(
-        limits.width as usize,
-        gate,
-        exponent,
-        m,
-        scratch,
-    ) else {
+) -> Tried {
+    let Candidate::Print(print, exponent) = formed else {
         return Tried {
             count,
             saturated: false, // a candidate that does not fit
@@ -72,12 +64,136 @@ fn try_candidate(
         node,
         gate,
         print,
-        after,
+        exponent,
         fingerprints,
         parents,
         codes,
         index,
-        scratch,
+        m,
+    )
+}
+
+// Two candidates that were formed, one after the other.
+fn try_both(
+    mode: BuildMode,
+    by: LookupBy,
+    limits: WidthLimits,
+    count: usize,
+    node: usize,
+    g: u32,
+    h: u32,
+    two: TwoCandidates,
+    fingerprints: &mut [u64],
+    parents: &mut [u32],
+    codes: &mut [u32],
+    index: &mut [u32],
+    left: &[Coefficient],
+    right: &[Coefficient],
+) -> Tried {
+    let first = two.first;
+    let second = two.second;
+    let t = try_formed(
+        mode,
+        by,
+        limits,
+        count,
+        node,
+        g,
+        first,
+        fingerprints,
+        parents,
+        codes,
+        index,
+        left,
+    );
+    if t.saturated {
+        return t;
+    }
+    try_formed(
+        mode,
+        by,
+        limits,
+        t.count,
+        node,
+        h,
+        second,
+        fingerprints,
+        parents,
+        codes,
+        index,
+        right,
+    )
+}
+
+// The generators after a node whose matrix is in m, two by two, in order.
+fn try_gates(
+    mode: BuildMode,
+    by: LookupBy,
+    limits: WidthLimits,
+    count: usize,
+    node: usize,
+    exponent: u16,
+    gates: &[u32],
+    fingerprints: &mut [u64],
+    parents: &mut [u32],
+    codes: &mut [u32],
+    index: &mut [u32],
+    m: &[Coefficient],
+    left: &mut [Coefficient; 4096],
+    right: &mut [Coefficient; 4096],
+) -> Tried {
+    let how = mode;
+    let lookup = by;
+    let l = limits;
+    let mut n = count;
+    let mut j = 0;
+    while j + 1 < gates.len() {
+        let g = gates[j];
+        let h = gates[j + 1];
+        let two = node_matrix::two_prints(l.width as usize, g, h, exponent, m, left, right);
+        let t = try_both(
+            how,
+            lookup,
+            l,
+            n,
+            node,
+            g,
+            h,
+            two,
+            fingerprints,
+            parents,
+            codes,
+            index,
+            left,
+            right,
+        );
+        n = t.count;
+        if t.saturated {
+            return t;
+        }
+        j += 2;
+    }
+    if j == gates.len() {
+        return Tried {
+            count: n,
+            saturated: false,
+        };
+    }
+    let last = gates[j];
+    let formed = node_matrix::candidate_print(l.width as usize, last, exponent, m, left);
+    try_formed(
+        how,
+        lookup,
+        l,
+        n,
+        node,
+        last,
+        formed,
+        fingerprints,
+        parents,
+        codes,
+        index,
+        left,
     )
 }
 
@@ -93,6 +209,10 @@ pub fn try_node(
     parents: &mut [u32],
     codes: &mut [u32],
     index: &mut [u32],
+    one: &[Coefficient],
+    m: &mut [Coefficient; 4096],
+    left: &mut [Coefficient; 4096],
+    right: &mut [Coefficient; 4096],
 ) -> Tried
     requires bounds { ⌜ ((limits .width) ≤ 5) × (node < count) × ((limits .entries) ≤ 1000000) × ((limits .gates) ≤ 64) ⌝ }
     requires generators { ⌜ now gates ≡ generators (limits .width) (limits .basis) ⌝ }
@@ -101,42 +221,23 @@ pub fn try_node(
         (now (fingerprints .entry)) (now (parents .entry)) (now (codes .entry)) (now (index .entry))
         (now (fingerprints .exit)) (now (parents .exit)) (now (codes .exit)) (now (index .exit)) r ⌝ }
 {
-    let how = mode;
-    let lookup = by;
-    let l = limits;
-    let one = UnitaryMatrix::identity(l.width as usize);
-    let mut data = one.data;
-    let k = node_matrix::form_node(l, node, parents, codes, &mut data);
-    let mut scratch = one.data;
-    let mut n = count;
-    let mut j = 0;
-    while j < gates.len() {
-        let t = try_candidate(
-            how,
-            lookup,
-            l,
-            n,
-            node,
-            gates[j],
-            k,
-            fingerprints,
-            parents,
-            codes,
-            index,
-            &data,
-            &mut scratch,
-        );
-        n = t.count;
-        if t.saturated {
-            return Tried {
-                count: n,
-                saturated: true,
-            };
-        }
-        j += 1;
-    }
-    Tried {
-        count: n,
-        saturated: false,
-    }
+    let mut kept: [u32; 105] = [0; 105];
+    let size = unpruned(node, gates, codes, &mut kept);
+    let exponent = node_matrix::form_node(limits, node, parents, codes, one, m);
+    try_gates(
+        mode,
+        by,
+        limits,
+        count,
+        node,
+        exponent,
+        &kept[0..size],
+        fingerprints,
+        parents,
+        codes,
+        index,
+        m,
+        left,
+        right,
+    )
 }

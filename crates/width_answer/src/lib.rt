@@ -36,7 +36,8 @@ pub fn recheck(codes: &[u32], n: usize, exponent: u16, query: &[Coefficient]) ->
     requires { ⌜ AskedPlaces n (now query) ⌝ }
     ensures { λ r. ⌜ r ≡ rechecked n (now (codes .entry)) (held n exponent (now (query .entry))) ⌝ }
 {
-    let mut data = matrix::identity_data(n);
+    let mut data: [Coefficient; 4096] = [0; 4096];
+    matrix::put_identity(&mut data, n);
     match lists::apply_gates(&mut data, n, codes) {
         Walked::Fits(k) => prints::equivalent_up_to_global_phase(&data, query, n, k, exponent),
         Walked::UnfitAt(_) => false,

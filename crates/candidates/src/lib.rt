@@ -1,17 +1,18 @@
-// The candidates of one node: each generator after it, in order (SPECIFICATION 6.4 to 6.8). The node's matrix is formed once.
+// The candidates of one node: each generator after it, in order (SPECIFICATION 6.4 to 6.8). The node's matrix is formed once. What a candidate comes to
+// before any look-up depends on the node's list alone (`Ahead`, specs/Tries). So the two skip rules are asked of all generators first, and those that
+// are left are taken two by two: both are formed, and then looked up one after the other.
 ghost use mathlib.Core.Path.{_≡_};
-ghost use mathlib.Core.Bool.{true};
 ghost use Prim.Native.Nat.{suc, _≤_, _<_};
 ghost use lib.ListN.{length};
-ghost use Rattle.circuit.specs.Codes.{valid};
 ghost use Rattle.generators.specs.Generators.{generators};
-ghost use Rattle.exact.specs.Places.{held};
+ghost use Rattle.exact.specs.Matrix.{identity};
 ghost use Rattle.places.specs.Places.{places};
-ghost use Rattle.matrix.specs.Step.{Ready};
+ghost use Rattle.matrix.specs.Step.{Holds};
 ghost use Rattle.index.specs.Told.{toldBy};
 ghost use Rattle.known.specs.Known.{toldMode};
-ghost use Rattle.next_node.specs.Arrays.{Room, Live};
-ghost use Rattle.candidates.specs.Tries.{CandidateTried, NodeTried};
+ghost use Rattle.next_node.specs.Arrays.{Live};
+ghost use Rattle.next_node.specs.Append.{prunedAt};
+ghost use Rattle.candidates.specs.Tries.{unskipped, Unpruned, OneFormed, TwoFormed, NodeFormed, CandidateTried, BothTried, GatesTried, NodeTried, Lent};
 use cyclotomic::Coefficient;
 use index::LookupBy;
 use known::BuildMode;
@@ -21,13 +22,17 @@ use node_matrix::TwoCandidates;
 use synthesis_arena::WidthLimits;
 
 // The generators that the two skip rules leave after a node, in order: they are put into the first places of `kept`. Returns how many they are.
-fn unpruned(node: usize, gates: &[u32], codes: &[u32], kept: &mut [u32; 105]) -> usize {
+fn unpruned(node: usize, gates: &[u32], codes: &[u32], kept: &mut [u32; 105]) -> usize
+    requires there { ⌜ node < length (now codes) ⌝ }
+    requires room { ⌜ (length (now gates) ≤ 105) × (length (now kept) ≡ 105) ⌝ }
+    ensures unpruned { λ r. ⌜ Unpruned node (now (gates .entry)) (now (codes .entry)) (now (kept .exit)) r ⌝ }
+{
     let mut size = 0;
     let mut i = 0;
     while i < gates.len() {
         let gate = gates[i];
+        kept[size] = gate;
         if !next_node::is_pruned(node, gate, codes) {
-            kept[size] = gate;
             size += 1;
         }
         i += 1;
@@ -49,7 +54,13 @@ fn try_formed(
     codes: &mut [u32],
     index: &mut [u32],
     m: &[Coefficient],
-) -> Tried {
+) -> Tried
+    requires bounds { ⌜ ((limits .width) ≤ 5) × (node < count) × ((limits .entries) ≤ 1000000) × ((limits .gates) ≤ 64) ⌝ }
+    requires formed { ⌜ OneFormed (toldMode mode) (toldBy by) limits count node gate (now fingerprints) (now parents) (now codes) (now index) (now m) formed ⌝ }
+    ensures tried { λ r. ⌜ CandidateTried (toldMode mode) (toldBy by) limits count node gate (now (m .entry)) formed
+        (now (fingerprints .entry)) (now (parents .entry)) (now (codes .entry)) (now (index .entry))
+        (now (fingerprints .exit)) (now (parents .exit)) (now (codes .exit)) (now (index .exit)) r ⌝ }
+{
     let Candidate::Print(print, exponent) = formed else {
         return Tried {
             count,
@@ -89,7 +100,13 @@ fn try_both(
     index: &mut [u32],
     left: &[Coefficient],
     right: &[Coefficient],
-) -> Tried {
+) -> Tried
+    requires bounds { ⌜ ((limits .width) ≤ 5) × (node < count) × ((limits .entries) ≤ 1000000) × ((limits .gates) ≤ 64) ⌝ }
+    requires formed { ⌜ TwoFormed (toldMode mode) (toldBy by) limits count node g h (now fingerprints) (now parents) (now codes) (now index) (now left) (now right) two ⌝ }
+    ensures tried { λ r. ⌜ BothTried (toldMode mode) (toldBy by) limits count node g h (now (left .entry)) (now (right .entry)) two
+        (now (fingerprints .entry)) (now (parents .entry)) (now (codes .entry)) (now (index .entry))
+        (now (fingerprints .exit)) (now (parents .exit)) (now (codes .exit)) (now (index .exit)) r ⌝ }
+{
     let first = two.first;
     let second = two.second;
     let t = try_formed(
@@ -141,7 +158,16 @@ fn try_gates(
     m: &[Coefficient],
     left: &mut [Coefficient; 4096],
     right: &mut [Coefficient; 4096],
-) -> Tried {
+) -> Tried
+    requires bounds { ⌜ ((limits .width) ≤ 5) × (node < count) × ((limits .entries) ≤ 1000000) × ((limits .gates) ≤ 64) ⌝ }
+    requires gates { ⌜ now gates ≡ unskipped (prunedAt (now codes) node) (generators (limits .width) (limits .basis)) ⌝ }
+    requires formed { ⌜ NodeFormed (toldMode mode) (toldBy by) limits count node exponent (now fingerprints) (now parents) (now codes) (now index) (now m) ⌝ }
+    requires long { ⌜ (length (now left) ≡ places) × (length (now right) ≡ places) ⌝ }
+    ensures tried { λ r. ⌜ GatesTried (toldMode mode) (toldBy by) limits count node exponent (now (m .entry))
+        (now (fingerprints .entry)) (now (parents .entry)) (now (codes .entry)) (now (index .entry))
+        (now (fingerprints .exit)) (now (parents .exit)) (now (codes .exit)) (now (index .exit)) r ⌝ }
+    ensures long { λ _. ⌜ (length (now (left .exit)) ≡ places) × (length (now (right .exit)) ≡ places) ⌝ }
+{
     let how = mode;
     let lookup = by;
     let l = limits;
@@ -197,7 +223,7 @@ fn try_gates(
     )
 }
 
-// One node: each generator, in order.
+// One node: each generator, in order. Three matrices are formed in lent places, and `one` has the identity.
 pub fn try_node(
     mode: BuildMode,
     by: LookupBy,
@@ -217,9 +243,12 @@ pub fn try_node(
     requires bounds { ⌜ ((limits .width) ≤ 5) × (node < count) × ((limits .entries) ≤ 1000000) × ((limits .gates) ≤ 64) ⌝ }
     requires generators { ⌜ now gates ≡ generators (limits .width) (limits .basis) ⌝ }
     requires live { ⌜ Live (toldMode mode) (toldBy by) limits (now fingerprints) (now parents) (now codes) (now index) count node (suc node) ⌝ }
+    requires identity { ⌜ Holds (limits .width) 0 (now one) identity ⌝ }
+    requires lent { ⌜ Lent (now m) (now left) (now right) ⌝ }
     ensures tried { λ r. ⌜ NodeTried (toldMode mode) (toldBy by) limits count node
         (now (fingerprints .entry)) (now (parents .entry)) (now (codes .entry)) (now (index .entry))
         (now (fingerprints .exit)) (now (parents .exit)) (now (codes .exit)) (now (index .exit)) r ⌝ }
+    ensures lent { λ _. ⌜ Lent (now (m .exit)) (now (left .exit)) (now (right .exit)) ⌝ }
 {
     let mut kept: [u32; 105] = [0; 105];
     let size = unpruned(node, gates, codes, &mut kept);

@@ -1,5 +1,5 @@
 -- `recheck` meets its contract: the list's answer decides whether every step fits, and the places hold its product.
-use mathlib.Core.Path.{_≡_, sym}
+use mathlib.Core.Path.{_≡_, refl, sym}
 use Prim.Native.Nat.{ℕ, _*_, _^_, _≤_}
 use native.Mathlib.Omega.{arith}
 use borrow.Author.Needs.{needs}
@@ -22,7 +22,7 @@ slice-aggregate-equivalent-up-to-global-phase c =
 equivalent-up-to-global-phase-requires : tie.Need-equivalent-up-to-global-phase-requires
 equivalent-up-to-global-phase-requires c κs =
     let w = ended-at (c .before .before .k .given .1) (c .before .before .before .before .apply-gates .ensures .0) in
-    let p = c .before .before .before .before .before .before .before .before .pre in
+    let p = c .before .before .before .before .before .before .before .before .before .pre in
     (p .0, ((whole _ _ (p .0) (w .end .long), p .1 .1 .0), (w .end .small, p .1 .1 .1)))
 
 returns : tie.Need-returns
@@ -39,7 +39,7 @@ pub recheck-spec : {M : Type 1} → statement M
 recheck-spec =
     tie.close
     (tie.spec
-    (λ c κs. search needs)
+    (λ c κs. (c .before .before .pre .0, refl))
     (λ c κs. search needs)
     (λ c. search needs)
     slice-aggregate-equivalent-up-to-global-phase

@@ -174,8 +174,9 @@ fn try_gates(
     let mut n = count;
     let mut j = 0;
     while j + 1 < gates.len() {
+        let next = j + 1;
         let g = gates[j];
-        let h = gates[j + 1];
+        let h = gates[next];
         let two = node_matrix::two_prints(l.width as usize, g, h, exponent, m, left, right);
         let t = try_both(
             how,

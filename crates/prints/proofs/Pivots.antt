@@ -6,10 +6,11 @@ use Prim.Native.Nat.{ℕ, zero, suc, _+_, _*_, _-_, _^_, _≤_, _<_}
 use native.Mathlib.Omega.{arith}
 use lib.IntN.{ℤ}
 use Rattle.ints.specs.Lists.{pick}
-use Rattle.cyclotomic.specs.Zomega.{Zω, turn, isZero, less, leastUpTo, phase}
+use Rattle.cyclotomic.specs.Zomega.{Zω, zeroω, turn, isZero, less, leastUpTo, phase}
 use Rattle.cyclotomic.proofs.Answers.{zero-yes}
+use Rattle.exact.specs.Matrix.{Exact}
 use Rattle.exact.specs.Phase.{firstNonzero, pivot, phaseOf, flat}
-use Rattle.exact.proofs.Phases.{flat-lt, phase-of-zero}
+use Rattle.exact.proofs.Phases.{flat-lt, zero-pivot}
 use Rattle.exact.specs.Places.{entry, read, held}
 use Rattle.places.proofs.Placed.{read-at}
 use Rattle.prints.specs.Prints.{FirstNonzero}
@@ -31,14 +32,15 @@ module _ (n k : ℕ) (l : List ℤ) (e : ℕ) (w : FirstNonzero l (2 ^ n * 2 ^ n
       (ap isZero (read-at n l e) ∙ w .found h)
       ∙ read-at n l e
 
-  pub phase-at : e < 2 ^ n * 2 ^ n → phaseOf n (held n k l) ≡ phase (entry l e)
-  unfolding phaseOf
-  phase-at h = ap phase (pivot-at h)
-
-  pub phase-none : 2 ^ n * 2 ^ n ≤ e → phaseOf n (held n k l) ≡ 0
-  phase-none h =
-      phase-of-zero n (held n k l)
+  pub pivot-none : 2 ^ n * 2 ^ n ≤ e → pivot n (held n k l) ≡ zeroω
+  pivot-none h =
+      zero-pivot n (held n k l)
       (λ r c p q. zero-yes (entry l (r * 2 ^ n + c)) (w .before (r * 2 ^ n + c) (omega (arith, flat-lt n r c p q))))
+
+-- the phase of a matrix is its pivot's
+pub phase-of : (n p : ℕ) (x : Exact) (z : Zω) → p ≡ phase z → z ≡ pivot n x → p ≡ phaseOf n x
+unfolding phaseOf
+phase-of n p x z e f = e ∙ ap phase f
 
 -- the exponent has no part in the phase
 pub phase-any : (n j k : ℕ) (l : List ℤ) → phaseOf n (held n j l) ≡ phaseOf n (held n k l)

@@ -1,13 +1,13 @@
-// The phase of a matrix, equality up to phase, and the fingerprint. matrix.rs of the original: `canonical_phase_power`,
-// `equivalent_up_to_global_phase`, `unitary_fingerprint`. Entries are turned one by one as they are read, and nothing is copied. The fingerprints of two
-// matrices can be worked together.
+// The phase of a matrix, equality up to phase, and the fingerprint. matrix.rs of the original: `canonical_phase_power` (here `least_power` of
+// the pivot), `equivalent_up_to_global_phase`, `unitary_fingerprint`. Entries are turned one by one as they are read, and nothing is copied. The
+// fingerprints of two matrices can be worked together.
 ghost use mathlib.Core.Path.{_≡_};
 ghost use Prim.Native.Nat.{_*_, _^_, _<_, _≤_};
 ghost use lib.ListN.{length};
 ghost use Rattle.cyclotomic.specs.Zomega.{phase, Small, turn};
 ghost use Rattle.exact.specs.Places.{entry, read, held};
 ghost use Rattle.exact.proofs.Words.{AllSmall};
-ghost use Rattle.exact.specs.Phase.{phaseOf, upToPhase};
+ghost use Rattle.exact.specs.Phase.{pivot, upToPhase};
 ghost use Rattle.exact.specs.Fingerprint.{start, mix, mixAll, fold, fourWords, wordsOf, fingerprint};
 ghost use Rattle.prints.specs.Prints.{FirstNonzero, SmallTo, streams};
 use cyclotomic::Coefficient;
@@ -48,19 +48,21 @@ fn least_power(z: Cyclotomic) -> u8
     least
 }
 
-// The phase of a matrix: of its first nonzero entry; 0 for the zero matrix.
-pub fn canonical_phase_power(m: &[Coefficient], n: usize) -> u8
+// The first entry that is not zero; zero where all are. The phase of a matrix is the least power of this. The entry and not the matrix is handed
+// on, since a slice that is handed on is copied, and its reader waits for the copy.
+fn pivot(m: &[Coefficient], n: usize) -> Cyclotomic
     requires { ⌜ n ≤ 5 ⌝ }
     requires { ⌜ 4 * (2 ^ n * 2 ^ n) ≤ length (now m) ⌝ }
     requires { ⌜ AllSmall n (read n (now m)) ⌝ }
-    ensures { λ r. ⌜ r ≡ phaseOf n (held n 0 (now (m .entry))) ⌝ }
+    ensures entry { λ r. ⌜ r ≡ pivot n (held n 0 (now (m .entry))) ⌝ }
+    ensures small { λ r. ⌜ Small r ⌝ }
 {
     let size = places::area(n);
     let e = first_nonzero(m, size);
     if e == size {
-        return 0;
+        return Cyclotomic::zero();
     }
-    least_power(places::get(m, e))
+    places::get(m, e)
 }
 
 // Whether two matrices of width n are equal up to phase: their exponents are equal, and so are all entries once each is phased (SPECIFICATION 1.12).
@@ -80,8 +82,8 @@ pub fn equivalent_up_to_global_phase(
     if j != k {
         return false;
     }
-    let p = canonical_phase_power(left, n);
-    let q = canonical_phase_power(right, n);
+    let p = least_power(pivot(left, n));
+    let q = least_power(pivot(right, n));
     let turns = (p + 7 * q) % 8;
     let size = places::area(n);
     let mut e = 0;
@@ -167,7 +169,7 @@ pub fn unitary_fingerprint(m: &[Coefficient], n: usize, k: u16) -> u64
     requires { ⌜ AllSmall n (read n (now m)) ⌝ }
     ensures { λ r. ⌜ r ≡ fingerprint n (held n k (now (m .entry))) ⌝ }
 {
-    let power = canonical_phase_power(m, n);
+    let power = least_power(pivot(m, n));
     mix_entries(m, places::area(n), power, head(n, k)).fold()
 }
 
@@ -192,8 +194,8 @@ pub fn pair_fingerprints(
     ensures left { λ r. ⌜ r .left ≡ fingerprint n (held n j (now (left .entry))) ⌝ }
     ensures right { λ r. ⌜ r .right ≡ fingerprint n (held n k (now (right .entry))) ⌝ }
 {
-    let p = canonical_phase_power(left, n);
-    let q = canonical_phase_power(right, n);
+    let p = least_power(pivot(left, n));
+    let q = least_power(pivot(right, n));
     let size = places::area(n);
     let mut s = head(n, j);
     let mut t = head(n, k);

@@ -27,12 +27,13 @@ pub fn rotate_left(a: u64, places: u32) -> u64
     (a << up) | (a >> down)
 }
 
-// A coefficient's 64 bits, its sign extended.
+// A coefficient's 64 bits, its sign extended. It is widened first: then both arms are the widened number, and the compiler sees it.
 pub fn sign_extended(x: Coefficient) -> u64
     ensures { λ r. ⌜ r ≡ word x ⌝ }
 {
-    if x < 0 {
-        return u64::MAX - ((-1 - x) as u64);
+    let wide = x as i64;
+    if wide < 0 {
+        return u64::MAX - ((-1 - wide) as u64);
     }
-    x as u64
+    wide as u64
 }

@@ -12,6 +12,7 @@ use Rattle.exact.specs.Fingerprint.{mixAll, wordsOf}
 use Rattle.exact.specs.Places.{entry}
 use Rattle.places.proofs.Placed.{area-le, small-at}
 use Rattle.prints.specs.Prints.{streams}
+use Rattle.prints.proofs.Pivots.{phase-of}
 use Rattle.prints.proofs.Mixing.{words-last, print-is}
 use Rattle.prints.proofs.pair_fingerprints.Statement.{statement}
 use Rattle.prints.proofs.pair_fingerprints.Tie as tie
@@ -25,29 +26,29 @@ abbrev μ-loop : tie.MeasureT-loop
 μ-loop left right n j k p q size s₀ t₀ e₀ s t e = size - e
 
 -- the place is one of the matrix's, and so of the 1,024
-inside : (c : tie.In-loop Inv-loop μ-loop) → let n = c .before .before .before .before .before .before .before .args .n in c .before .loop .e < 2 ^ n * 2 ^ n
+inside : (c : tie.In-loop Inv-loop μ-loop) → let n = c .before .before .before .before .before .before .before .before .before .args .n in c .before .loop .e < 2 ^ n * 2 ^ n
 inside c = rw (c .before .before .before .before .area .ensures) at (c .loop-test .taken)
 
 in-places : (c : tie.In-loop Inv-loop μ-loop) → c .before .loop .e < 1024
-in-places c = let s = c .before .before .before .before .before .before .before in omega (arith, inside c, area-le (s .args .n) (s .pre .0))
+in-places c = let s = c .before .before .before .before .before .before .before .before .before in omega (arith, inside c, area-le (s .args .n) (s .pre .0))
 
 get-requires : tie.Need-get-requires Inv-loop μ-loop
-get-requires c κs = let s = c .before .before .before .before .before .before .before in omega (arith, inside c, s .pre .1 .0 .0)
+get-requires c κs = let s = c .before .before .before .before .before .before .before .before .before in omega (arith, inside c, s .pre .1 .0 .0)
 
 times-omega-requires : tie.Need-times-omega-requires Inv-loop μ-loop
 times-omega-requires c κs =
-    rw (c .get .ensures) (small-at _ _ _ (c .before .before .before .before .before .before .before .before .pre .1 .1 .0) (inside (c .before)))
+    rw (c .get .ensures) (small-at _ _ _ (c .before .before .before .before .before .before .before .before .before .before .pre .1 .1 .0) (inside (c .before)))
 
 get-requires-2 : tie.Need-get-requires-2 Inv-loop μ-loop
 get-requires-2 c κs =
     let d = c .before .before .before in
-    let s = d .before .before .before .before .before .before .before in
+    let s = d .before .before .before .before .before .before .before .before .before in
     omega (arith, inside d, s .pre .1 .0 .1)
 
 times-omega-requires-2 : tie.Need-times-omega-requires-2 Inv-loop μ-loop
 times-omega-requires-2 c κs =
     let d = c .before .before .before .before in
-    rw (c .get2 .ensures) (small-at _ _ _ (d .before .before .before .before .before .before .before .pre .1 .1 .1) (inside d))
+    rw (c .get2 .ensures) (small-at _ _ _ (d .before .before .before .before .before .before .before .before .before .pre .1 .1 .1) (inside d))
 
 loop-again : tie.Need-loop-again Inv-loop μ-loop
 loop-again c =
@@ -66,12 +67,12 @@ returns c =
     let l = x .before .loop in
     let h = x .before .before in
     let a = h .before .before in
-    let s = a .before .before .before in
+    let s = a .before .before .before .before .before in
     let z : l .e ≡ 2 ^ s .args .n * 2 ^ s .args .n = omega (arith, x .loop-test .left, a .area .ensures) in
     let small = lt-of-le-of-lt (s .pre .0) (lit< tt) in (
       c .before .fold .ensures
-          ∙ rw (l .inv .1, h .before .head .ensures, z) (print-is (s .args .n) (s .args .j) _ _ small (omega arith) (a .before .before .canonical-phase-power .ensures)),
-      c .fold2 .ensures ∙ rw (l .inv .2, h .head2 .ensures, z) (print-is (s .args .n) (s .args .k) _ _ small (omega arith) (a .before .canonical-phase-power2 .ensures)),
+          ∙ rw (l .inv .1, h .before .head .ensures, z) (print-is (s .args .n) (s .args .j) _ _ small (omega arith) (phase-of _ _ _ _ (a .before .before .before .least-power .ensures) (a .before .before .before .before .pivot .ensures .0))),
+      c .fold2 .ensures ∙ rw (l .inv .2, h .head2 .ensures, z) (print-is (s .args .n) (s .args .k) _ _ small (omega arith) (phase-of _ _ _ _ (a .before .least-power2 .ensures) (a .before .before .pivot2 .ensures .0))),
     )
 
 pub pair-fingerprints-spec : {M : Type 1} → statement M
@@ -80,6 +81,8 @@ pair-fingerprints-spec =
     (tie.spec
     Inv-loop
     μ-loop
+    (λ c κs. search needs)
+    (λ c κs. search needs)
     (λ c κs. search needs)
     (λ c κs. search needs)
     (λ c κs. search needs)

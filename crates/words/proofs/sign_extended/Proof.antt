@@ -30,15 +30,22 @@ unfolding word
 positive (pos n) f t = omega arith
 positive (negsuc n) f t = absurd t
 
+-- a coefficient fits once it is widened
+widened : {x : ℤ} → SFits near x → SFits w64 x
+widened f = record { sfits = omega (arith, f .sfits) }
+
 module _ (c : tie.Then1) where
   below : ltZ (c .before .args .x) (pos 0) ≡ true
-  below = rw (toZ-ofZ (c .before .fits .x)) at (c .if1 .taken)
+  below = rw (toZ-ofZ (c .before .fits .x), toZ-ofZ (widened (c .before .fits .x))) at (c .if1 .taken)
 
-  number : negsuc 0 -ℤ toZ near (ofZ near (c .before .args .x)) ≡ pos (mag (c .before .args .x))
-  number = rw (toZ-ofZ (c .before .fits .x)) (minus-one-less (c .before .args .x) below)
+  number : negsuc 0 -ℤ toZ w64 (ofZ w64 (toZ near (ofZ near (c .before .args .x)))) ≡ pos (mag (c .before .args .x))
+  number = rw (toZ-ofZ (c .before .fits .x), toZ-ofZ (widened (c .before .fits .x))) (minus-one-less (c .before .args .x) below)
 
-  fits : SFits near (pos (mag (c .before .args .x)))
-  fits = record { sfits = c .before .fits .x .sfits }
+  fits : SFits w64 (pos (mag (c .before .args .x)))
+  fits = record { sfits = widened (c .before .fits .x) .sfits }
+
+cast-wide : tie.Need-cast-wide
+cast-wide c = rw (toZ-ofZ (c .fits .x)) (widened (c .fits .x))
 
 sub-result : tie.Need-sub-result
 sub-result c = rw (number c) (fits c)
@@ -52,15 +59,18 @@ sub-result-2 c = rw (number c, toZ-ofZ (fits c)) (omega (arith, c .before .fits 
 returns : tie.Need-returns
 returns c = rw (number c, toZ-ofZ (fits c)) (negative (c .before .args .x) (c .before .fits .x .sfits) (below c))
 
+not-negative : (c : tie.Else1) → T (nonNeg (c .before .args .x)) × Fits w64 (natAbs (c .before .args .x))
+not-negative c =
+    not-below (c .before .args .x) (c .before .fits .x .sfits)
+    (rw (toZ-ofZ (c .before .fits .x), toZ-ofZ (widened (c .before .fits .x))) at (c .if1 .left))
+
 cast-result-2 : tie.Need-cast-result-2
-cast-result-2 c =
-    rw (toZ-ofZ (c .before .fits .x))
-    (not-below (c .before .args .x) (c .before .fits .x .sfits) (rw (toZ-ofZ (c .before .fits .x)) at (c .if1 .left)))
+cast-result-2 c = rw (toZ-ofZ (c .before .fits .x), toZ-ofZ (widened (c .before .fits .x))) (not-negative c)
 
 returns-2 : tie.Need-returns-2
 returns-2 c =
-    rw (toZ-ofZ (c .before .fits .x))
-    (positive (c .before .args .x) (c .before .fits .x .sfits) (rw (toZ-ofZ (c .before .fits .x)) at (cast-result-2 c .0)))
+    rw (toZ-ofZ (c .before .fits .x), toZ-ofZ (widened (c .before .fits .x)))
+    (positive (c .before .args .x) (c .before .fits .x .sfits) (not-negative c .0))
 
 pub sign-extended-spec : {M : Type 1} → statement M
-sign-extended-spec = tie.close (tie.spec sub-result cast-result sub-result-2 returns cast-result-2 returns-2)
+sign-extended-spec = tie.close (tie.spec cast-wide sub-result cast-result sub-result-2 returns cast-result-2 returns-2)

@@ -114,9 +114,9 @@ try-gates-spec =
     μ-loop
     loop-holds
     (λ c. omega (arith, c .loop .inv .0, c .before .before .before .before .before .before .good, c .before .before .before .before .before .before .fits))
+    (λ c. omega (arith, c .loop-test .taken, c .before .before .before .before .before .before .before .good, c .before .before .before .before .before .before .before .fits))
     (λ c. search needs)
     (λ c. omega (arith, c .before .loop-test .taken))
-    (λ c. omega (arith, c .before .loop-test .taken, c .before .before .before .before .before .before .before .before .good, c .before .before .before .before .before .before .before .before .fits))
     (λ c. search needs)
     (λ c. omega (arith, c .before .before .loop-test .taken))
     (λ c. search needs)

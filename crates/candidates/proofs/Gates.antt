@@ -6,6 +6,7 @@ use Prim.Native.Nat.{ℕ, _+_, _≤_, _<_}
 use native.Mathlib.Omega.{arith}
 use lib.IntN.{ℤ}
 use lib.ListN.{length, getD}
+use Rattle.circuit.specs.Codes.{valid}
 use Rattle.generators.specs.Generators.{generators}
 use Rattle.exact.specs.Places.{held}
 use Rattle.walk.specs.Modes.{Mode}
@@ -19,7 +20,7 @@ use Rattle.next_node.specs.Arrays.{rules, unsaturated, After}
 use Rattle.next_node.specs.Append.{prunedAt}
 use Rattle.next_node.proofs.Tries.{pruned-is}
 use Rattle.candidates.specs.Tries.{unskipped, OneFormed, TwoFormed, NodeFormed}
-use Rattle.candidates.proofs.Keeping.{mem-at}
+use Rattle.candidates.proofs.Keeping.{mem-at, generator-valid}
 use Rattle.candidates.proofs.Unskipped.{unskipped-same, unskipped-mem, tryAll-unskipped}
 use Rattle.candidates.proofs.Ahead.{ahead-of, ahead-at}
 use Rattle.candidates.proofs.NodeLoop.{NodeRun, node-run-start, node-run-live, node-run-next, node-run-full, node-run-last, try-one, two-parts, last-part}
@@ -29,6 +30,9 @@ pub gate-in : (n basis : ℕ) (c : List ℕ) (node : ℕ) {gs : List ℕ} → gs
     → (List·Memᴰ (getD gs j 0) (generators n basis)) × (prunedAt c node (getD gs j 0) ≡ false)
 gate-in n basis c node {gs} same j l =
     unskipped-mem (prunedAt c node) (generators n basis) (getD gs j 0) (subst (λ (z : List ℕ). List·Memᴰ (getD gs j 0) z) same (mem-at gs j l))
+
+pub gate-valid : (n basis : ℕ) (c : List ℕ) (node : ℕ) {gs : List ℕ} → n ≤ 5 → gs ≡ unskipped (prunedAt c node) (generators n basis) → (j : ℕ) → j < length gs → valid n (getD gs j 0) ≡ true
+gate-valid n basis c node {gs} small same j l = generator-valid n basis (getD gs j 0) small (gate-in n basis c node same j l .0)
 
 module _ {mode : Mode} {by : By} {lim : WidthLimits} {count node k : ℕ} {f u c i : List ℕ} {m : List ℤ} (w : NodeFormed mode by lim count node k f u c i m) (lt : node < count)
     {gs : List ℕ} (same : gs ≡ unskipped (prunedAt c node) (generators (lim .width) (lim .basis))) where

@@ -1,5 +1,6 @@
 -- `try_both` meets its contract: the first is tried, and where it does not saturate the width the second after it. Assumes nothing.
 use mathlib.Core.Path.{_∙_}
+use native.Mathlib.Omega.{arith}
 use Rattle.candidates.proofs.NodeLoop.{node-run-lt}
 use Rattle.candidates.proofs.Both.{both-full, both-next, both-second, both-last}
 use borrow.Author.Needs.{needs}
@@ -16,7 +17,7 @@ try-formed-requires-2 : tie.Need-try-formed-requires-2
 try-formed-requires-2 c κs =
     let p = c .before .before .before .before .before .before .before .before .before .before .before .before .before .before .before .before .before .before .before .before .before .before .pre in
     let r = both-next (p .1) (p .0 .1) (c .before .before .before .before .before .before .before .before .before .before .before .before .before .try-formed .ensures (record { live = p .1 .live; ahead = p .1 .first })) (c .before .before .before .before .if1 .left) in
-    ((p .0 .0, node-run-lt _ _ _ _ _ _ _ _ _ _ _ _ r, p .0 .2, p .0 .3), both-second (p .1) (p .0 .1) r)
+    ((p .0 .0, omega (arith, p .0 .1, node-run-lt _ _ _ _ _ _ _ _ _ _ _ _ r), p .0 .2, p .0 .3), both-second (p .1) (p .0 .1) r)
 
 returns-2 : tie.Need-returns-2
 returns-2 c w =

@@ -11,9 +11,8 @@ use Rattle.index.specs.Told.{toldBy}
 use Rattle.known.specs.Known.{toldMode}
 use Rattle.next_node.specs.Arrays.{rules, unsaturated}
 use Rattle.candidates.specs.Tries.{NodeFormed}
-use Rattle.candidates.proofs.Keeping.{generator-valid}
 use Rattle.candidates.proofs.NodeLoop.{NodeRun, node-run-lt, node-run-end}
-use Rattle.candidates.proofs.Gates.{gate-in, gates-start, one-formed, two-formed, gates-last, gates-full, gates-next}
+use Rattle.candidates.proofs.Gates.{gate-valid, gates-start, one-formed, two-formed, gates-last, gates-full, gates-next}
 use borrow.Author.Needs.{needs}
 use Rattle.candidates.proofs.try_gates.Statement.{statement}
 use Rattle.candidates.proofs.try_gates.Tie as tie
@@ -39,7 +38,7 @@ two-prints-requires c κs =
     let p = s .pre in
     let l = c .before .before .before .before .before .before .loop in
     let t = c .before .before .before .before .before .loop-test .taken in
-    (p .0 .0, ((generator-valid _ _ _ (p .0 .0) (gate-in (s .args .limits .width) (s .args .limits .basis) (s .args .codes .now) (s .args .node) (p .1 .0) _ (omega (arith, t)) .0), generator-valid _ _ _ (p .0 .0) (gate-in (s .args .limits .width) (s .args .limits .basis) (s .args .codes .now) (s .args .node) (p .1 .0) _ t .0)), (p .1 .1 .0 .ready, (l .inv .6, l .inv .7))))
+    (p .0 .0, ((gate-valid _ (s .args .limits .basis) (s .args .codes .now) (s .args .node) (p .0 .0) (p .1 .0) _ (omega (arith, t)), gate-valid _ (s .args .limits .basis) (s .args .codes .now) (s .args .node) (p .0 .0) (p .1 .0) _ (omega (arith, t))), (p .1 .1 .0 .ready, (l .inv .6, l .inv .7))))
 
 try-both-requires : tie.Need-try-both-requires Inv-loop μ-loop
 try-both-requires c κs =
@@ -86,7 +85,7 @@ candidate-print-requires c κs =
     let s = c .before .before .before .before .before .before .before .before .before .before .before in
     let p = s .pre in
     let l = c .before .before .before .before .before .loop in
-    (p .0 .0, (generator-valid _ _ _ (p .0 .0) (gate-in (s .args .limits .width) (s .args .limits .basis) (s .args .codes .now) (s .args .node) (p .1 .0) _ (omega (arith, l .inv .0, c .before .before .before .if2 .left)) .0), (p .1 .1 .0 .ready, l .inv .6)))
+    (p .0 .0, (gate-valid _ (s .args .limits .basis) (s .args .codes .now) (s .args .node) (p .0 .0) (p .1 .0) _ (omega (arith, l .inv .0, c .before .before .before .if2 .left)), (p .1 .1 .0 .ready, l .inv .6)))
 
 try-formed-requires : tie.Need-try-formed-requires Inv-loop μ-loop
 try-formed-requires c κs =

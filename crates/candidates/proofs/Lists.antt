@@ -1,7 +1,7 @@
 -- A node's list, read from the arrays: its chain is good, its steps fit, and its matrix is the walk's. Assumes nothing.
-use mathlib.Core.Path.{_≡_, sym, ap, _∙_, subst}
+use mathlib.Core.Path.{_≡_, refl, sym, ap, _∙_, subst}
 use mathlib.Core.List.{List, reverse}
-use Prim.Native.Nat.{ℕ, _≤_, _<_}
+use Prim.Native.Nat.{ℕ, suc, _≤_, _<_}
 use native.Mathlib.Omega.{arith}
 use lib.IntN.{ℤ}
 use Rattle.exact.specs.Matrix.{Exact}
@@ -21,9 +21,10 @@ use Rattle.walk.proofs.Exactly.{product-is}
 use Rattle.walk.proofs.Held.{chain-is}
 use Rattle.walk.proofs.Rechecks.{steps-fit}
 use Rattle.synthesis_arena.specs.declared.WidthLimits.{WidthLimits}
-use Rattle.node_matrix.specs.Matrices.{Readable}
+use Rattle.node_matrix.specs.Matrices.{Readable, Formed}
 use Rattle.next_node.specs.Arrays.{rules, Live}
 use Rattle.next_node.proofs.Tries.{live-count, live-long, live-holds}
+use Rattle.candidates.specs.Tries.{NodeFormed}
 
 module _ {mode : Mode} {by : By} {lim : WidthLimits} (small : lim .width ≤ 5) (limited : lim .gates ≤ 64) where
   module _ {f u c i : List ℕ} {count k top : ℕ} (h : Live mode by lim f u c i count k top) where
@@ -45,3 +46,13 @@ module _ (n : ℕ) {k : ℕ} {m : List ℤ} (l : List ℕ) (w : Holds n k m (pro
   pub formed-is : (mode : Mode) (basis : ℕ) → n ≤ 5 → {p : List ℕ} → p ≡ l → Equal n (held n k m) (prod (atWidth mode n basis) p)
   formed-is mode basis small e =
       subst (λ (x : Exact). Equal n (held n k m) x) (product-is mode n basis small l ∙ ap (prod (atWidth mode n basis)) (sym e)) (w .equal)
+
+-- so the places hold the node's matrix
+abbrev pub node-formed : {mode : Mode} {by : By} {lim : WidthLimits} {count node k : ℕ} {f u c i : List ℕ} {m : List ℤ} → lim .width ≤ 5 → lim .gates ≤ 64
+    → (h : Live mode by lim f u c i count node (suc node)) → node < count → Formed lim u c node k m → NodeFormed mode by lim count node k f u c i m
+node-formed {mode} {by} {lim} {count} {node} {k} {f} {u} {c} {i} {m} small limited h l w =
+    let x = w (live-readable small limited h l (omega arith)) in record {
+      live = h;
+      ready = formed-ready (lim .width) (listAt (h .ns) node) x;
+      equal = formed-is (lim .width) (listAt (h .ns) node) x mode (lim .basis) small refl;
+    }

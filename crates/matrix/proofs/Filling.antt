@@ -37,8 +37,8 @@ unfolding entry zeroω
 none-entry m e = each (none-at m (4 * e)) (none-at m (4 * e + 1)) (none-at m (4 * e + 2)) (none-at m (4 * e + 3))
 
 module _ (n : ℕ) where
-  pub filled-none : PlacesFilled n (replicate 4096 (pos 0)) 0
-  filled-none = record { long = refl; done = λ r b. absurd (omega arith); ahead = λ r b c q. none-entry 4096 (r * 2 ^ n + c); blank = record { past = λ j h. none-at 4096 j } }
+  pub filled-none : {l : List ℤ} → l ≡ replicate places (pos 0) → PlacesFilled n l 0
+  filled-none e = subst (λ (l : List ℤ). PlacesFilled n l 0) (sym e) (record { long = refl; done = λ r b. absurd (omega arith); ahead = λ r b c q. none-entry 4096 (r * 2 ^ n + c); blank = record { past = λ j h. none-at 4096 j } })
 
   -- 1 at the diagonal's place of the next row
   pub filled-more : {l l′ : List ℤ} {z : Zω} (i : ℕ) {e : ℕ} → n ≤ 5 → PlacesFilled n l i → i < 2 ^ n → l′ ≡ put l e z → z ≡ oneω → e ≡ i * 2 ^ n + i

@@ -43,6 +43,17 @@ pub fn put_identity(m: &mut [Coefficient; 4096], n: usize)
     }
 }
 
+// The same by value.
+pub fn identity_data(n: usize) -> [Coefficient; 4096]
+    requires { ⌜ n ≤ 5 ⌝ }
+    ensures identity { λ r. ⌜ Holds n 0 r identity ⌝ }
+    ensures blank { λ r. ⌜ Blank n r ⌝ }
+{
+    let mut data: [Coefficient; 4096] = [0; 4096];
+    put_identity(&mut data, n);
+    data
+}
+
 // Lowering (SPECIFICATION 1.9): while k > 0 and every entry is divisible by sqrt(2), all are divided and k falls by one. Returns k.
 pub fn normalize_denominator(m: &mut [Coefficient; 4096], n: usize, k: u16) -> u16
     requires { ⌜ length (now m) ≡ places ⌝ }

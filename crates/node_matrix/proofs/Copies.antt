@@ -1,7 +1,6 @@
 -- A matrix copied to another array's places: it is the same matrix, and ready for a gate. Assumes nothing.
 use mathlib.Core.Path.{_≡_, refl, sym, _∙_, subst}
 use mathlib.Core.Logic.{⊎-elim}
-use mathlib.Core.Bool.{true, false}
 use mathlib.Core.List.{List}
 use Prim.Native.Nat.{ℕ, _+_, _*_, _^_, _≤_, _<_}
 use native.Mathlib.Omega.{arith}
@@ -9,23 +8,23 @@ use lib.IntN.{ℤ, pos}
 use lib.ListN.{length, getD, set, length-set}
 use lib.Seq.{getD-set-same, getD-set-other}
 use Rattle.cyclotomic.specs.Zomega.{Small}
-use Rattle.cyclotomic.specs.Told.{doesNotFit}
 use Rattle.cyclotomic.proofs.Number.{each}
 use Rattle.exact.proofs.Words.{Equal, AllSmall}
-use Rattle.exact.specs.Rows.{act, gateOf}
-use Rattle.exact.specs.Fits.{stepFits}
-use Rattle.exact.specs.Fingerprint.{fingerprint}
-use Rattle.exact.specs.Answers.{given, refused}
+use Rattle.exact.specs.Matrix.{Exact}
+use Rattle.exact.specs.Rows.{gateOf}
+use Rattle.exact.proofs.Answered.{step-given, step-refused}
 use Rattle.exact.proofs.Keeps.{equal-lowest, act-equal'}
 use Rattle.exact.proofs.Phases.{flat-lt}
 use Rattle.exact.proofs.Values.{equal-sym, equal-trans}
 use Rattle.exact.proofs.Coded.{proper}
 use Rattle.exact.specs.Places.{entry, read, held}
 use Rattle.places.specs.Places.{places}
-use Rattle.matrix.specs.Step.{Holds, Ready}
+use Rattle.matrix.specs.Step.{Holds, Ready, Stepped}
+use Rattle.matrix.specs.declared.Applied.{Applied}
+use Rattle.matrix.specs.declared.Applied.the-variants.{Done, DoesNotFit}
 use Rattle.walk.proofs.Sequences.{lt-or}
-use Rattle.node_matrix.specs.Matrices.{Copied, CopiedOn, printAfter}
-use Rattle.node_matrix.proofs.Prints.{given-print, refused-print, fits-alike, prints-alike}
+use Rattle.node_matrix.specs.Matrices.{Copied, CopiedOn, OnCopy}
+use Rattle.node_matrix.proofs.Prints.{fits-alike}
 
 -- ---- place by place
 
@@ -74,21 +73,23 @@ module _ (n : ℕ) {from old new : List ℤ} (w : Copied from old new (4 * (2 ^ 
   pub copied-ready : (k : ℕ) → length old ≡ places → Ready n k from → Ready n k new
   copied-ready k l h = record { long = w .long ∙ l; small = small (h .small); lowest = equal-lowest n (equal-sym n (copied-equal k)) (h .lowest) }
 
--- ---- the fingerprint after a gate that was applied to the copy
+  pub copied-holds : (k : ℕ) {x : Exact} → length old ≡ places → Holds n k from x → Holds n k new x
+  copied-holds k l h = record { long = w .long ∙ l; equal = equal-trans n (copied-equal k) (h .equal); small = small (h .small) }
 
-module _ (n g k : ℕ) {from old new : List ℤ} (w : Copied from old new (4 * (2 ^ n * 2 ^ n))) where
-  pub copied-given : {f : ℕ} → stepFits n (gateOf n g) (held n k new) ≡ true → f ≡ fingerprint n (act n (gateOf n g) (held n k new))
-      → given f ≡ printAfter n g (held n k from)
-  copied-given h e =
-      given-print n g (held n k from) (sym (fits-alike n g (copied-equal n w k)) ∙ h) (e ∙ prints-alike n g (copied-equal n w k))
+-- ---- a gate that was applied to the copy
 
-  -- what the gate left is the matrix after it
-  pub copied-left : {j : ℕ} {l : List ℤ} → Holds n j l (act n (gateOf n g) (held n k new)) → Holds n j l (act n (gateOf n g) (held n k from))
-  copied-left h = record {
-    long = h .long;
-    equal = equal-trans n (h .equal) (act-equal' n (gateOf n g) (copied-equal n w k) (proper n g));
-    small = h .small;
-  }
+module _ (n g k : ℕ) {from old new l : List ℤ} (w : Copied from old new (4 * (2 ^ n * 2 ^ n))) where
+  pub on-copy : (r : Applied) → Stepped n k (gateOf n g) new l r → OnCopy n g (held n k from) l r
+  on-copy (Done j) s = (
+    sym (fits-alike n g (copied-equal n w k)) ∙ step-given _ _ _ (s .answer),
+    record {
+      long = s .left .long;
+      equal = equal-trans n (s .left .equal) (act-equal' n (gateOf n g) (copied-equal n w k) (proper n g));
+      small = s .left .small;
+    },
+  )
+  on-copy DoesNotFit s = sym (fits-alike n g (copied-equal n w k)) ∙ step-refused _ _ _ (s .answer)
 
-  pub copied-refused : stepFits n (gateOf n g) (held n k new) ≡ false → refused doesNotFit 0 ≡ printAfter n g (held n k from)
-  copied-refused h = refused-print n g (held n k from) (sym (fits-alike n g (copied-equal n w k)) ∙ h)
+  pub copy-long : (r : Applied) → Stepped n k (gateOf n g) new l r → length l ≡ places
+  copy-long (Done j) s = s .left .long
+  copy-long DoesNotFit s = s .left .long

@@ -1,5 +1,5 @@
 -- The fingerprint of a candidate: what its answer says of the step. Assumes nothing.
-use mathlib.Core.Path.{_≡_, refl, sym, ap, subst}
+use mathlib.Core.Path.{_≡_, refl, sym, ap, _∙_, subst}
 use mathlib.Core.Bool.{Bool, true, false}
 use mathlib.Core.List.{List}
 use Prim.Native.Nat.{ℕ}
@@ -20,9 +20,12 @@ use Rattle.exact.proofs.Prints.{fingerprint-equal}
 use Rattle.exact.proofs.Values.{equal-trans}
 use Rattle.exact.specs.Places.{held}
 use Rattle.matrix.specs.Step.{Holds}
+use Rattle.matrix.specs.declared.Applied.{Applied}
+use Rattle.matrix.specs.declared.Applied.the-variants as a
+use Rattle.matrix.specs.declared.Applied.the-variants.{Done}
 use Rattle.node_matrix.specs.declared.Candidate.{Candidate}
-use Rattle.node_matrix.specs.declared.Candidate.the-variants.{Print}
-use Rattle.node_matrix.specs.Matrices.{printAfter, LeftIn}
+use Rattle.node_matrix.specs.declared.Candidate.the-variants.{Print, DoesNotFit}
+use Rattle.node_matrix.specs.Matrices.{printAfter, OnCopy, LeftIn, FormedAs}
 
 module _ (n g : ℕ) (x : Exact) where
   pub given-print : {f : ℕ} → stepFits n (gateOf n g) x ≡ true → f ≡ fingerprint n (act n (gateOf n g) x) → given f ≡ printAfter n g x
@@ -56,6 +59,17 @@ module _ (n g : ℕ) {x y : Exact} (e : Equal n x y) where
 
   pub prints-alike : fingerprint n (act n (gateOf n g) x) ≡ fingerprint n (act n (gateOf n g) y)
   prints-alike = fingerprint-equal n (act-equal' n (gateOf n g) e (proper n g))
+
+-- what a candidate comes to, by the step on the copy
+module _ (n g : ℕ) (x : Exact) (l : List ℤ) where
+  pub copy-done : {r : Applied} {k : ℕ} → r ≡ Done k → OnCopy n g x l r → (stepFits n (gateOf n g) x ≡ true) × Holds n k l (act n (gateOf n g) x)
+  copy-done e w = subst (OnCopy n g x l) e w
+
+  pub copy-unfit : {r : Applied} → r ≡ a.DoesNotFit → OnCopy n g x l r → FormedAs n g x l DoesNotFit
+  copy-unfit e w = record { print = refused-print n g x (subst (OnCopy n g x l) e w); left = tt }
+
+  pub formed-print : {k f : ℕ} → (stepFits n (gateOf n g) x ≡ true) × Holds n k l (act n (gateOf n g) x) → f ≡ fingerprint n (held n k l) → FormedAs n g x l (Print f k)
+  formed-print w e = record { print = given-print n g x (w .0) (e ∙ fingerprint-equal n (w .1 .equal)); left = w .1 }
 
 -- what a candidate that fits left in the places, by the case told; and the same after an equal matrix
 pub left-holds : (n g : ℕ) (x : Exact) (l : List ℤ) {r : Candidate} {f k : ℕ} → r ≡ Print f k → LeftIn n g x l r → Holds n k l (act n (gateOf n g) x)

@@ -1,5 +1,6 @@
 -- The matrix of a node, read from the arrays, and the fingerprint of the matrix after one gate more. Assumes nothing.
 use mathlib.Core.Path.{_≡_}
+use mathlib.Core.Bool.{true, false}
 use mathlib.Core.List.{List}
 use Prim.Native.Nat.{ℕ, _<_}
 use lib.IntN.{ℤ, pos}
@@ -13,6 +14,9 @@ use Rattle.exact.specs.Fits.{stepFits, allFit, steps}
 use Rattle.exact.specs.Fingerprint.{fingerprint}
 use Rattle.exact.specs.Answers.{Answer, given, refused}
 use Rattle.matrix.specs.Step.{Holds}
+use Rattle.matrix.specs.declared.Applied.{Applied}
+use Rattle.matrix.specs.declared.Applied.the-variants as d
+use Rattle.matrix.specs.declared.Applied.the-variants.{Done}
 use Rattle.walk.specs.Chains.{good, chainOf}
 use Rattle.synthesis_arena.specs.declared.WidthLimits.{WidthLimits}
 use Rattle.node_matrix.specs.declared.Candidate.{Candidate}
@@ -43,6 +47,11 @@ pub record Copied (from old new : List ℤ) (i : ℕ) : Type 0 where
 pub record CopiedOn (from old new : List ℤ) (start end : ℕ) : Type 0 where
   pub by : (l : List ℤ) → Copied from l old start → Copied from l new end
 
+-- what the gate g leaves in the places that held a copy of the matrix x
+abbrev pub OnCopy : ℕ → ℕ → Exact → List ℤ → Applied → Type 0
+OnCopy n g x l (Done k) = (stepFits n (gateOf n g) x ≡ true) × Holds n k l (act n (gateOf n g) x)
+OnCopy n g x l d.DoesNotFit = stepFits n (gateOf n g) x ≡ false
+
 -- the fingerprint of the matrix x after the gate g, or that it does not fit
 unfoldable pub printAfter : ℕ → ℕ → Exact → Answer
 printAfter n g x = pick (stepFits n (gateOf n g) x) (given (fingerprint n (act n (gateOf n g) x))) (refused doesNotFit 0)
@@ -55,3 +64,9 @@ toldCandidate DoesNotFit = refused doesNotFit 0
 abbrev pub LeftIn : ℕ → ℕ → Exact → List ℤ → Candidate → Type 0
 LeftIn n g x l (Print f k) = Holds n k l (act n (gateOf n g) x)
 LeftIn n g x l DoesNotFit = Unit {0}
+
+-- what the gate g after a node with the matrix x comes to before any look-up: the fingerprint, or that it does not fit; and the candidate's matrix is
+-- in the places
+pub record FormedAs (n g : ℕ) (x : Exact) (l : List ℤ) (r : Candidate) : Type 0 where
+  pub print : toldCandidate r ≡ printAfter n g x
+  pub left : LeftIn n g x l r

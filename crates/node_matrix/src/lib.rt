@@ -1,5 +1,6 @@
 // The matrix of a node and the fingerprints of its candidates. A node keeps no matrix: its matrix is formed once from its list of gates, and
-// each generator is applied to a copy of its places.
+// each generator is applied to a copy of its places. What a candidate comes to here depends on the node's matrix and the gate alone. So two can be
+// formed before either is looked up, and their fingerprints are worked together.
 ghost use mathlib.Core.Path.{_≡_};
 ghost use mathlib.Core.Bool.{true};
 ghost use Prim.Native.Nat.{_*_, _^_, _≤_, _<_};
@@ -9,7 +10,7 @@ ghost use Rattle.exact.specs.Matrix.{identity};
 ghost use Rattle.exact.specs.Places.{held};
 ghost use Rattle.places.specs.Places.{places};
 ghost use Rattle.matrix.specs.Step.{Holds, Ready};
-ghost use Rattle.node_matrix.specs.Matrices.{Readable, Formed, Copied, CopiedOn, printAfter, toldCandidate, LeftIn};
+ghost use Rattle.node_matrix.specs.Matrices.{Readable, Formed, Copied, CopiedOn, OnCopy, FormedAs};
 use circuit::GateSet;
 use circuit::LibraryGate;
 use cyclotomic::Coefficient;
@@ -24,19 +25,28 @@ pub enum Candidate {
     DoesNotFit,
 }
 
-// The matrix of a node, formed from its list in places that hold the identity. Returns the exponent. The two other arms are never taken.
+// Two candidates of a node.
+pub struct TwoCandidates {
+    pub first: Candidate,
+    pub second: Candidate,
+}
+
+// The matrix of a node, formed from its list in `m`, from a copy of the identity on. Returns the exponent. The two other arms are never taken.
 pub fn form_node(
     limits: WidthLimits,
     node: usize,
     parents: &[u32],
     codes: &[u32],
+    one: &[Coefficient],
     m: &mut [Coefficient; 4096],
 ) -> u16
     requires narrow { ⌜ (limits .width) ≤ 5 ⌝ }
-    requires identity { ⌜ Holds (limits .width) 0 (now m) identity ⌝ }
+    requires identity { ⌜ Holds (limits .width) 0 (now one) identity ⌝ }
+    requires long { ⌜ length (now m) ≡ places ⌝ }
     requires readable { ⌜ Readable limits (now parents) (now codes) node ⌝ }
     ensures formed { λ r. ⌜ Formed limits (now (parents .entry)) (now (codes .entry)) node r (now (m .exit)) ⌝ }
 {
+    copy_matrix(limits.width as usize, one, m);
     let mut list: [u32; 64] = [0; 64];
     let NodeCircuit::Length(size) = synthesis_arena::circuit(
         parents,
@@ -95,7 +105,27 @@ fn copy_matrix(n: usize, from: &[Coefficient], to: &mut [Coefficient])
     }
 }
 
-// The fingerprint of a matrix after a gate, or that the step does not fit. The gate is applied to a copy in `scratch`, which then holds the matrix.
+// A gate applied to a copy of a matrix.
+fn apply_to_copy(
+    n: usize,
+    gate: u32,
+    exponent: u16,
+    m: &[Coefficient],
+    copy: &mut [Coefficient; 4096],
+) -> Applied
+    requires narrow { ⌜ n ≤ 5 ⌝ }
+    requires valid { ⌜ valid n gate ≡ true ⌝ }
+    requires ready { ⌜ Ready n exponent (now m) ⌝ }
+    requires long { ⌜ length (now copy) ≡ places ⌝ }
+    ensures applied { λ r. ⌜ OnCopy n gate (held n exponent (now (m .entry))) (now (copy .exit)) r ⌝ }
+    ensures long { λ _. ⌜ length (now (copy .exit)) ≡ places ⌝ }
+{
+    copy_matrix(n, m, copy);
+    matrix::apply_gate_left(copy, n, LibraryGate(gate), exponent)
+}
+
+// One candidate: the fingerprint of a matrix after a gate, or that the step does not fit. The gate is applied to a copy in `scratch`, which then holds
+// the candidate's matrix.
 pub fn candidate_print(
     n: usize,
     gate: u32,
@@ -107,13 +137,48 @@ pub fn candidate_print(
     requires valid { ⌜ valid n gate ≡ true ⌝ }
     requires ready { ⌜ Ready n exponent (now m) ⌝ }
     requires long { ⌜ length (now scratch) ≡ places ⌝ }
-    ensures print { λ r. ⌜ toldCandidate r ≡ printAfter n gate (held n exponent (now (m .entry))) ⌝ }
-    ensures left { λ r. ⌜ LeftIn n gate (held n exponent (now (m .entry))) (now (scratch .exit)) r ⌝ }
+    ensures formed { λ r. ⌜ FormedAs n gate (held n exponent (now (m .entry))) (now (scratch .exit)) r ⌝ }
     ensures long { λ _. ⌜ length (now (scratch .exit)) ≡ places ⌝ }
 {
-    copy_matrix(n, m, scratch);
-    let Applied::Done(k) = matrix::apply_gate_left(scratch, n, LibraryGate(gate), exponent) else {
+    let Applied::Done(k) = apply_to_copy(n, gate, exponent, m, scratch) else {
         return Candidate::DoesNotFit;
     };
     Candidate::Print(prints::unitary_fingerprint(scratch, n, k), k)
+}
+
+// Two candidates of a node, each with a copy of its own. Where both fit, their fingerprints are worked together.
+pub fn two_prints(
+    n: usize,
+    g: u32,
+    h: u32,
+    exponent: u16,
+    m: &[Coefficient],
+    left: &mut [Coefficient; 4096],
+    right: &mut [Coefficient; 4096],
+) -> TwoCandidates
+    requires narrow { ⌜ n ≤ 5 ⌝ }
+    requires valid { ⌜ (valid n g ≡ true) × (valid n h ≡ true) ⌝ }
+    requires ready { ⌜ Ready n exponent (now m) ⌝ }
+    requires long { ⌜ (length (now left) ≡ places) × (length (now right) ≡ places) ⌝ }
+    ensures first { λ r. ⌜ FormedAs n g (held n exponent (now (m .entry))) (now (left .exit)) (r .first) ⌝ }
+    ensures second { λ r. ⌜ FormedAs n h (held n exponent (now (m .entry))) (now (right .exit)) (r .second) ⌝ }
+    ensures long { λ _. ⌜ (length (now (left .exit)) ≡ places) × (length (now (right .exit)) ≡ places) ⌝ }
+{
+    let Applied::Done(j) = apply_to_copy(n, g, exponent, m, left) else {
+        return TwoCandidates {
+            first: Candidate::DoesNotFit,
+            second: candidate_print(n, h, exponent, m, right),
+        };
+    };
+    let Applied::Done(k) = apply_to_copy(n, h, exponent, m, right) else {
+        return TwoCandidates {
+            first: Candidate::Print(prints::unitary_fingerprint(left, n, j), j),
+            second: Candidate::DoesNotFit,
+        };
+    };
+    let both = prints::pair_fingerprints(left, right, n, j, k);
+    TwoCandidates {
+        first: Candidate::Print(both.left, j),
+        second: Candidate::Print(both.right, k),
+    }
 }

@@ -1,5 +1,6 @@
 // The phase of a matrix, equality up to phase, and the fingerprint. matrix.rs of the original: `canonical_phase_power` (here `least_power` of
-// the pivot), `equivalent_up_to_global_phase`, `unitary_fingerprint`. Entries are turned one by one as they are read, and nothing is copied.
+// the pivot), `equivalent_up_to_global_phase`, `unitary_fingerprint`. Entries are turned one by one as they are read, and nothing is copied. The
+// fingerprints of two matrices can be worked together.
 ghost use mathlib.Core.Path.{_≡_};
 ghost use Prim.Native.Nat.{_*_, _^_, _<_, _≤_};
 ghost use lib.ListN.{length};
@@ -7,7 +8,7 @@ ghost use Rattle.cyclotomic.specs.Zomega.{phase, Small, turn};
 ghost use Rattle.exact.specs.Places.{entry, read, held};
 ghost use Rattle.exact.proofs.Words.{AllSmall};
 ghost use Rattle.exact.specs.Phase.{pivot, upToPhase};
-ghost use Rattle.exact.specs.Fingerprint.{mix, mixAll, fold, fourWords, wordsOf, fingerprint};
+ghost use Rattle.exact.specs.Fingerprint.{start, mix, mixAll, fold, fourWords, wordsOf, fingerprint};
 ghost use Rattle.prints.specs.Prints.{FirstNonzero, SmallTo, streams};
 use cyclotomic::Coefficient;
 use cyclotomic::Cyclotomic;
@@ -150,6 +151,17 @@ fn mix_entries(m: &[Coefficient], size: usize, power: u8, s: Streams) -> Streams
     t
 }
 
+// The streams after the width and the exponent.
+fn head(n: usize, k: u16) -> Streams
+    ensures { λ r. ⌜ streams r ≡ mix (mix start n) k ⌝ }
+{
+    let start = Streams {
+        first: 0xcbf2_9ce4_8422_2325,
+        second: 0x9e37_79b9_7f4a_7c15,
+    };
+    start.mix(n as u64).mix(k as u64)
+}
+
 // The fingerprint of the matrix of width n over sqrt(2)^k.
 pub fn unitary_fingerprint(m: &[Coefficient], n: usize, k: u16) -> u64
     requires { ⌜ n ≤ 5 ⌝ }
@@ -158,10 +170,43 @@ pub fn unitary_fingerprint(m: &[Coefficient], n: usize, k: u16) -> u64
     ensures { λ r. ⌜ r ≡ fingerprint n (held n k (now (m .entry))) ⌝ }
 {
     let power = least_power(pivot(m, n));
-    let start = Streams {
-        first: 0xcbf2_9ce4_8422_2325,
-        second: 0x9e37_79b9_7f4a_7c15,
-    };
-    let head = start.mix(n as u64).mix(k as u64);
-    mix_entries(m, places::area(n), power, head).fold()
+    mix_entries(m, places::area(n), power, head(n, k)).fold()
+}
+
+// The fingerprints of two matrices.
+pub struct Pair {
+    pub left: u64,
+    pub right: u64,
+}
+
+// The fingerprints of two matrices of width n, over sqrt(2)^j and sqrt(2)^k, entry by entry in turns. A step of a stream waits for the step before
+// it, and not for the other matrix's: two take little longer than one.
+pub fn pair_fingerprints(
+    left: &[Coefficient],
+    right: &[Coefficient],
+    n: usize,
+    j: u16,
+    k: u16,
+) -> Pair
+    requires { ⌜ n ≤ 5 ⌝ }
+    requires { ⌜ (4 * (2 ^ n * 2 ^ n) ≤ length (now left)) × (4 * (2 ^ n * 2 ^ n) ≤ length (now right)) ⌝ }
+    requires { ⌜ AllSmall n (read n (now left)) × AllSmall n (read n (now right)) ⌝ }
+    ensures left { λ r. ⌜ r .left ≡ fingerprint n (held n j (now (left .entry))) ⌝ }
+    ensures right { λ r. ⌜ r .right ≡ fingerprint n (held n k (now (right .entry))) ⌝ }
+{
+    let p = least_power(pivot(left, n));
+    let q = least_power(pivot(right, n));
+    let size = places::area(n);
+    let mut s = head(n, j);
+    let mut t = head(n, k);
+    let mut e = 0;
+    while e < size {
+        s = s.mix_entry(places::get(left, e).times_omega(p));
+        t = t.mix_entry(places::get(right, e).times_omega(q));
+        e += 1;
+    }
+    Pair {
+        left: s.fold(),
+        right: t.fold(),
+    }
 }

@@ -54,6 +54,10 @@ fn deepen(
     let how = mode;
     let lookup = by;
     let l = limits;
+    let one = matrix::identity_data(l.width as usize);
+    let mut m = one;
+    let mut left = one;
+    let mut right = one;
     let mut n = count;
     let mut node = first;
     while node < count {
@@ -68,6 +72,10 @@ fn deepen(
             parents,
             codes,
             index,
+            &one,
+            &mut m,
+            &mut left,
+            &mut right,
         );
         n = t.count;
         if t.saturated {

@@ -15,7 +15,7 @@ abbrev μ-loop : tie.MeasureT-loop
 μ-loop m₀ n d i₀ m i = d - i
 
 loop-holds : tie.Need-loop-holds Inv-loop μ-loop
-loop-holds c = rw (c .before .pre .0) (filled-none _)
+loop-holds c = filled-none _ (c .before .pre .0)
 
 row : (c : tie.In-loop Inv-loop μ-loop) → c .before .loop .i < 2 ^ c .before .before .before .args .n
 row c = omega (arith, c .before .before .dim .ensures)

@@ -41,37 +41,54 @@ static double build(builder *by, struct tables *t, uint32_t mode, const uint32_t
     return time;
 }
 
-// One line: nanoseconds for each entry, before and after, and how many times as many entries in the same time.
-static void race(const char *name, uint32_t mode, uint32_t q, uint32_t g, uint32_t e, uint32_t b) {
-    const uint32_t limits[4] = {q, g, e, b};
-    double best[2] = {1e9, 1e9}, spent = 0;
-    for (int turn = 0; turn < 7 || (spent < 2 && turn < 200); turn++) {
+// The least times of builds by both versions, in turns.
+static void race(uint32_t mode, const uint32_t limits[4], double best[2]) {
+    double spent = 0;
+    best[0] = best[1] = 1e9;
+    for (int turn = 0; turn < 5 || (spent < 1 && turn < 200); turn++) {
         double one = build(before_bench_build, &before, mode, limits), two = build(after_bench_build, &after, mode, limits);
         best[0] = one < best[0] ? one : best[0];
         best[1] = two < best[1] ? two : best[1];
         spent += one + two;
     }
     if (memcmp(&before, &after, sizeof before)) {
-        printf("%s %u differs\n", name, q);
+        printf("%u %u %u %u differs\n", limits[0], limits[1], limits[2], limits[3]);
         exit(1);
     }
-    uint64_t count = 0;
+}
+
+static void tell(const double best[2], uint64_t count) {
+    printf(" %.0f %.0f %.2f", best[0] * 1e9 / count, best[1] * 1e9 / count, best[0] / best[1]);
+}
+
+// One line: nanoseconds for each entry, before and after, and how many times as many entries in the same time; then the same of width Q alone: the
+// build less that with one width less.
+static void line(const char *name, uint32_t mode, uint32_t q, uint32_t g, uint32_t e, uint32_t b) {
+    const uint32_t limits[4] = {q, g, e, b}, less[4] = {q - 1, g, e, b};
+    double all[2], lower[2] = {0, 0};
+    race(mode, limits, all);
+    uint64_t count = 0, top = after.numbers[3 * (q - 1)];
     for (uint32_t width = 0; width < q; width++)
         count += after.numbers[3 * width];
-    printf("%s %u %u %u %u %s %.0f %.0f %.2f\n", name, q, g, e, b, mode ? "keeping" : "by-print", best[0] * 1e9 / count, best[1] * 1e9 / count,
-           best[0] / best[1]);
+    if (q > 1)
+        race(mode, less, lower);
+    printf("%s %u %u %u %u %s", name, q, g, e, b, mode ? "keeping" : "by-print");
+    tell(all, count);
+    const double alone[2] = {all[0] - lower[0], all[1] - lower[1]};
+    tell(alone, top);
+    printf("\n");
     fflush(stdout);
 }
 
 int main(void) {
     const uint32_t gates[WIDTHS] = {8, 4, 3, 2, 2}, bases[2] = {383, 3967};
-    printf("work Q G E B mode before after ratio\n");
+    printf("work Q G E B mode before after ratio width-before width-after width-ratio\n");
     for (uint32_t mode = 0; mode < 2; mode++)
         for (int b = 0; b < 2; b++)
             for (uint32_t q = 1; q <= WIDTHS; q++) {
-                race("whole", mode, q, gates[q - 1], 12000, bases[b]);
-                race("full", mode, q, 8, 12000, bases[b]);
-                race("full", mode, q, 8, MOST, bases[b]);
+                line("whole", mode, q, gates[q - 1], 12000, bases[b]);
+                line("full", mode, q, 8, 12000, bases[b]);
+                line("full", mode, q, 8, MOST, bases[b]);
             }
     return 0;
 }

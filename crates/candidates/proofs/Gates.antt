@@ -1,91 +1,134 @@
--- The loop over the generators that the two skip rules leave after a node, one or two at a time. Assumes nothing.
-use mathlib.Core.Path.{_≡_, refl, ap, _∙_, subst}
-use mathlib.Core.Bool.{Bool, true, false}
-use mathlib.Core.List.{List, [], _∷_, List·Memᴰ}
+-- The loop over the gates that are left after a node. What a candidate comes to before any look-up depends on its node's list alone, which stays
+-- while candidates are appended. Assumes nothing.
+use mathlib.Core.Path.{_≡_, refl, sym, ap, _∙_, subst}
+use mathlib.Core.Bool.{Bool, true, false, not, _||_}
+use mathlib.Core.List.{List, [], _∷_, map, List·Memᴰ}
 use Prim.Native.Nat.{ℕ, _+_, _≤_, _<_}
 use native.Mathlib.Omega.{arith}
 use lib.IntN.{ℤ}
 use lib.ListN.{length, getD}
+use borrow.Author.Tests.{not-false}
+use Rattle.ints.proofs.Bools.{clash}
 use Rattle.circuit.specs.Codes.{valid}
 use Rattle.generators.specs.Generators.{generators}
+use Rattle.exact.specs.Matrix.{Exact}
+use Rattle.exact.specs.Rows.{act, gateOf}
+use Rattle.exact.specs.Fits.{stepFits}
+use Rattle.exact.specs.Fingerprint.{fingerprint}
 use Rattle.exact.specs.Places.{held}
-use Rattle.walk.specs.Modes.{Mode}
+use Rattle.exact.proofs.Words.{Equal}
+use Rattle.exact.proofs.Coded.{proper}
+use Rattle.exact.proofs.Keeps.{act-equal'}
+use Rattle.walk.specs.Modes.{Mode, byPrint, keeping}
 use Rattle.walk.specs.Index.{By}
-use Rattle.walk.specs.Walk.{Rules, State, listAt, try, tryAll}
+use Rattle.walk.specs.Finds.{Part, partWith}
+use Rattle.walk.specs.Finds as f
+use Rattle.walk.specs.Walk.{Rules, State, listAt, prod, pruned, skipped, try, tryAll}
+use Rattle.walk.proofs.Laws.{fitsBy}
+use Rattle.walk.proofs.Sequences.{or-false}
 use Rattle.synthesis_arena.specs.declared.WidthLimits.{WidthLimits}
-use Rattle.node_matrix.specs.declared.Candidate.{Candidate}
-use Rattle.node_matrix.specs.declared.TwoCandidates.{TwoCandidates}
-use Rattle.node_matrix.specs.Matrices.{FormedAs}
-use Rattle.next_node.specs.Arrays.{rules, unsaturated, After}
+use Rattle.synthesis_arena.specs.Limits.{toldLimits}
+use Rattle.node_matrix.proofs.Prints.{fits-alike, prints-alike}
+use Rattle.known.specs.Known.{knownAhead}
+use Rattle.known.proofs.Known.{known-ahead}
+use Rattle.next_node.specs.Arrays.{rules, unsaturated, Room, After}
 use Rattle.next_node.specs.Append.{prunedAt}
-use Rattle.next_node.proofs.Tries.{pruned-is}
-use Rattle.candidates.specs.Tries.{unskipped, OneFormed, TwoFormed, NodeFormed}
+use Rattle.next_node.proofs.Tries.{pruned-is, skip-pruned, skip-unfit, skip-known}
+use Rattle.candidates.specs.Tries.{unskipped, unfit, candidatePrint, idle, NodeFormed}
 use Rattle.candidates.proofs.Keeping.{mem-at, generator-valid}
-use Rattle.candidates.proofs.Unskipped.{unskipped-same, unskipped-mem, tryAll-unskipped}
-use Rattle.candidates.proofs.Ahead.{ahead-of, ahead-at}
-use Rattle.candidates.proofs.NodeLoop.{NodeRun, node-run-start, node-run-live, node-run-next, node-run-full, node-run-last, try-one, two-parts, last-part}
+use Rattle.candidates.proofs.Sifting.{unskipped-mem}
+use Rattle.candidates.proofs.Kept.{map-at}
+use Rattle.candidates.proofs.Skipped.{tryAll-without}
+use Rattle.candidates.proofs.NodeLoop.{NodeRun, node-run-start, node-run-next, node-run-full, try-one, one-part}
 
--- each of them is a generator, and is not pruned
-pub gate-in : (n basis : ℕ) (c : List ℕ) (node : ℕ) {gs : List ℕ} → gs ≡ unskipped (prunedAt c node) (generators n basis) → (j : ℕ) → j < length gs
-    → (List·Memᴰ (getD gs j 0) (generators n basis)) × (prunedAt c node (getD gs j 0) ≡ false)
-gate-in n basis c node {gs} same j l =
-    unskipped-mem (prunedAt c node) (generators n basis) (getD gs j 0) (subst (λ (z : List ℕ). List·Memᴰ (getD gs j 0) z) same (mem-at gs j l))
+-- what the gate g after a node with the list own comes to: it is neither pruned nor unfit, has the fingerprint y and the matrix x
+pub record Ahead (mode : Mode) (lim : WidthLimits) (own : List ℕ) (g : ℕ) (x : Exact) (y : ℕ) : Type 0 where
+  pub unpruned : pruned (rules mode lim) g own ≡ false
+  pub fits : fitsBy (lim .width) g (prod (rules mode lim) own) ≡ true
+  pub print : y ≡ fingerprint (lim .width) (rules mode lim .act g (prod (rules mode lim) own))
+  pub equal : Equal (lim .width) x (rules mode lim .act g (prod (rules mode lim) own))
 
-pub gate-valid : (n basis : ℕ) (c : List ℕ) (node : ℕ) {gs : List ℕ} → n ≤ 5 → gs ≡ unskipped (prunedAt c node) (generators n basis) → (j : ℕ) → j < length gs → valid n (getD gs j 0) ≡ true
-gate-valid n basis c node {gs} small same j l = generator-valid n basis (getD gs j 0) small (gate-in n basis c node same j l .0)
-
-module _ {mode : Mode} {by : By} {lim : WidthLimits} {count node k : ℕ} {f u c i : List ℕ} {m : List ℤ} (w : NodeFormed mode by lim count node k f u c i m) (lt : node < count)
-    {gs : List ℕ} (same : gs ≡ unskipped (prunedAt c node) (generators (lim .width) (lim .basis))) where
+module _ {mode : Mode} {by : By} {lim : WidthLimits} {count node k : ℕ} {f u c i : List ℕ} {m : List ℤ} (w : NodeFormed mode by lim count node k f u c i m) (lt : node < count) where
   abbrev R : Rules
   R = rules mode lim
 
-  abbrev goal : State
-  goal = tryAll R (lim .entries) (unsaturated (w .live .ns)) node (generators (lim .width) (lim .basis))
+  abbrev n : ℕ
+  n = lim .width
 
-  -- the run after j of the gates
-  abbrev pub GatesRun : ℕ → List ℕ → List ℕ → List ℕ → List ℕ → ℕ → Type 0
-  GatesRun = NodeRun mode by lim node (w .live .d) (w .live .f0) (w .live .u0) (w .live .c0) (w .live .i0) (listAt (w .live .ns) node) goal gs
+  abbrev x : Exact
+  x = held n k m
 
-  pub gates-start : GatesRun 0 f u c i count
-  gates-start =
-      node-run-start (w .live) lt gs
-      (ap (tryAll R (lim .entries) (unsaturated (w .live .ns)) node) (same ∙ unskipped-same _ _ (λ g. pruned-is (w .live) g node lt) (generators (lim .width) (lim .basis)))
-      ∙ tryAll-unskipped R (lim .entries) (unsaturated (w .live .ns)) node (generators (lim .width) (lim .basis)) (omega (arith, lt, w .live .columns .count-is)))
+  abbrev own : List ℕ
+  own = listAt (w .live .ns) node
 
-  module _ {j : ℕ} {f′ u′ c′ i′ : List ℕ} {count′ : ℕ} (r : GatesRun j f′ u′ c′ i′ count′) where
-    -- the last, formed from the node's matrix
-    abbrev pub one-formed : j < length gs → {l : List ℤ} {x : Candidate} → FormedAs (lim .width) (getD gs j 0) (held (lim .width) k m) l x
-        → OneFormed mode by lim count′ node (getD gs j 0) f′ u′ c′ i′ l x
-    one-formed b a = record {
-      live = node-run-live _ _ _ _ _ _ _ _ _ _ _ _ r (w .live .deep) (w .live .long);
-      ahead = ahead-at (ahead-of w lt (gate-in (lim .width) (lim .basis) c node same j b .1) a) (r .own-is);
-    }
+  abbrev left-out : ℕ → Bool
+  left-out = idle mode by lim count node f u c i x
 
-    pub gates-last : j < length gs → length gs ≤ j + 1 → {f″ u″ c″ i″ : List ℕ} {count″ : ℕ} {b : Bool}
-        → After by lim (w .live .f0) (w .live .u0) (w .live .c0) (w .live .i0) (try R (lim .entries) (unsaturated (r .ns)) node (getD gs j 0)) f″ u″ c″ i″ count″ b
-        → After by lim (w .live .f0) (w .live .u0) (w .live .c0) (w .live .i0) goal f″ u″ c″ i″ count″ b
-    gates-last l e {f″} {u″} {c″} {i″} {count″} {b} a =
-        node-run-last _ _ _ _ _ _ _ _ _ _ _ _ r (getD gs j 0 ∷ [])
-        (subst (λ (t : State). After by lim (w .live .f0) (w .live .u0) (w .live .c0) (w .live .i0) t f″ u″ c″ i″ count″ b) (try-one R (lim .entries) _ node (getD gs j 0)) a)
-        (last-part gs j l e)
+  formed : (g : ℕ) → Equal n (act n (gateOf n g) x) (R .act g (prod R own))
+  formed g = act-equal' n (gateOf n g) (w .equal) (proper n g)
 
-    -- the next two, both formed from the node's matrix
-    module _ (l : j + 1 < length gs) where
-      abbrev pub two-formed : {x y : List ℤ} {two : TwoCandidates} → FormedAs (lim .width) (getD gs j 0) (held (lim .width) k m) x (two .first)
-          → FormedAs (lim .width) (getD gs (j + 1) 0) (held (lim .width) k m) y (two .second)
-          → TwoFormed mode by lim count′ node (getD gs j 0) (getD gs (j + 1) 0) f′ u′ c′ i′ x y two
-      two-formed a b = record {
-        live = node-run-live _ _ _ _ _ _ _ _ _ _ _ _ r (w .live .deep) (w .live .long);
-        in-g = gate-in (lim .width) (lim .basis) c node same j (omega arith) .0;
-        in-h = gate-in (lim .width) (lim .basis) c node same (j + 1) l .0;
-        first = ahead-at (ahead-of w lt (gate-in (lim .width) (lim .basis) c node same j (omega arith) .1) a) (r .own-is);
-        second = ahead-at (ahead-of w lt (gate-in (lim .width) (lim .basis) c node same (j + 1) l .1) b) (r .own-is);
-      }
+  -- what is left out ahead the walk skips
+  rightly : Room by lim count node f u c i → (g : ℕ) → left-out g ≡ true → skipped R (w .live .ns) node g ≡ true
+  rightly room g e = cases (pruned R g own) refl (fitsBy n g (prod R own)) refl
+    where
+      cases : (a : Bool) → pruned R g own ≡ a → (b : Bool) → fitsBy n g (prod R own) ≡ b → skipped R (w .live .ns) node g ≡ true
+      cases true p b q = skip-pruned (w .live) g p
+      cases false p false q = skip-unfit (w .live) g p q
+      cases false p true q =
+          let none : (prunedAt c node g || unfit n x g) ≡ false = rw (pruned-is (w .live) g node lt, p, fits-alike n g (w .equal)) (ap not q) in
+          let known : knownAhead mode (partWith by f u c count i) (candidatePrint n x g) ≡ true = rw none at e in
+          skip-known (w .live) g (candidatePrint n x g) (prints-alike n g (w .equal)) p q room (formed g)
+          ∙ known-ahead (toldLimits lim) (partWith by f u c count i) (candidatePrint n x g) (act n (gateOf n g) x) mode known
+
+  module _ {gs : List ℕ} (same : gs ≡ unskipped left-out (generators n (lim .basis))) where
+    -- each gate that is left is a generator, and is not left out
+    pub gate-in : (j : ℕ) → j < length gs → (List·Memᴰ (getD gs j 0) (generators n (lim .basis))) × (left-out (getD gs j 0) ≡ false)
+    gate-in j l = unskipped-mem left-out (generators n (lim .basis)) (getD gs j 0) (subst (λ (z : List ℕ). List·Memᴰ (getD gs j 0) z) same (mem-at gs j l))
+
+    -- so it is neither pruned nor unfit
+    gate-tests : (j : ℕ) → j < length gs → (prunedAt c node (getD gs j 0) ≡ false) × (unfit n x (getD gs j 0) ≡ false)
+    gate-tests j l =
+        or-false (prunedAt c node (getD gs j 0)) (unfit n x (getD gs j 0))
+        (or-false (prunedAt c node (getD gs j 0) || unfit n x (getD gs j 0)) (knownAhead mode (partWith by f u c count i) (candidatePrint n x (getD gs j 0))) (gate-in j l .1) .0)
+
+    pub gate-fits : n ≤ 5 → (j : ℕ) → j < length gs → (valid n (getD gs j 0) ≡ true) × (stepFits n (gateOf n (getD gs j 0)) x ≡ true)
+    gate-fits small j l =
+        (generator-valid n (lim .basis) (getD gs j 0) small (gate-in j l .0), not-false (stepFits n (gateOf n (getD gs j 0)) x) (gate-tests j l .1))
+
+    pub gate-ahead : {ps : List ℕ} → ps ≡ map (candidatePrint n x) gs → (j : ℕ) → j < length gs → Ahead mode lim own (getD gs j 0) (act n (gateOf n (getD gs j 0)) x) (getD ps j 0)
+    gate-ahead {ps} e j l =
+        let a = gate-tests j l in record {
+          unpruned = sym (pruned-is (w .live) (getD gs j 0) node lt) ∙ a .0;
+          fits = sym (fits-alike n (getD gs j 0) (w .equal)) ∙ not-false (stepFits n (gateOf n (getD gs j 0)) x) (a .1);
+          print = ap (λ (z : List ℕ). getD z j 0) e ∙ map-at (candidatePrint n x) gs j l ∙ prints-alike n (getD gs j 0) (w .equal);
+          equal = formed (getD gs j 0);
+        }
+
+    abbrev goal : State
+    goal = tryAll R (lim .entries) (unsaturated (w .live .ns)) node (generators n (lim .basis))
+
+    -- the run after j of the gates
+    abbrev pub GatesRun : ℕ → List ℕ → List ℕ → List ℕ → List ℕ → ℕ → Type 0
+    GatesRun = NodeRun mode by lim node (w .live .d) (w .live .f0) (w .live .u0) (w .live .c0) (w .live .i0) own goal gs
+
+    pub gates-start : Room by lim count node f u c i → GatesRun 0 f u c i count
+    gates-start room =
+        node-run-start (w .live) lt gs
+        (ap (tryAll R (lim .entries) (unsaturated (w .live .ns)) node) same
+        ∙ tryAll-without R (lim .entries) left-out (unsaturated (w .live .ns)) node (generators n (lim .basis)) (omega (arith, lt, w .live .columns .count-is)) (rightly room))
+
+    module _ {j : ℕ} {f′ u′ c′ i′ : List ℕ} {count′ : ℕ} (r : GatesRun j f′ u′ c′ i′ count′) (l : j < length gs) where
+      -- it holds at the node's list, whatever nodes were added
+      pub ahead-now : {y : ℕ} {z : Exact} → Ahead mode lim own (getD gs j 0) z y → Ahead mode lim (listAt (r .ns) node) (getD gs j 0) z y
+      ahead-now {y} {z} a = subst (λ (o : List ℕ). Ahead mode lim o (getD gs j 0) z y) (sym (r .own-is)) a
 
       module _ {f″ u″ c″ i″ : List ℕ} {count″ : ℕ} {b : Bool}
-          (a : After by lim (w .live .f0) (w .live .u0) (w .live .c0) (w .live .i0) (tryAll R (lim .entries) (unsaturated (r .ns)) node (getD gs j 0 ∷ getD gs (j + 1) 0 ∷ [])) f″ u″ c″ i″ count″ b) where
-        pub gates-full : b ≡ true → After by lim (w .live .f0) (w .live .u0) (w .live .c0) (w .live .i0) goal f″ u″ c″ i″ count″ b
-        gates-full q = node-run-full _ _ _ _ _ _ _ _ _ _ _ _ r _ a (j + 2) (two-parts gs j l) q
+          (a : After by lim (w .live .f0) (w .live .u0) (w .live .c0) (w .live .i0) (try R (lim .entries) (unsaturated (r .ns)) node (getD gs j 0)) f″ u″ c″ i″ count″ b) where
+        one : After by lim (w .live .f0) (w .live .u0) (w .live .c0) (w .live .i0) (tryAll R (lim .entries) (unsaturated (r .ns)) node (getD gs j 0 ∷ [])) f″ u″ c″ i″ count″ b
+        one = subst (λ (t : State). After by lim (w .live .f0) (w .live .u0) (w .live .c0) (w .live .i0) t f″ u″ c″ i″ count″ b) (try-one R (lim .entries) _ node (getD gs j 0)) a
 
-        pub gates-next : b ≡ false → GatesRun (j + 2) f″ u″ c″ i″ count″
-        gates-next q = node-run-next _ _ _ _ _ _ _ _ _ _ _ _ r _ a (j + 2) (two-parts gs j l) (gate-in (lim .width) (lim .basis) c node same j (omega arith) .0, (gate-in (lim .width) (lim .basis) c node same (j + 1) l .0, tt)) q
+        pub gates-full : b ≡ true → After by lim (w .live .f0) (w .live .u0) (w .live .c0) (w .live .i0) goal f″ u″ c″ i″ count″ b
+        gates-full q = node-run-full _ _ _ _ _ _ _ _ _ _ _ _ r _ one (j + 1) (one-part gs j l) q
+
+        pub gates-next : b ≡ false → GatesRun (j + 1) f″ u″ c″ i″ count″
+        gates-next q = node-run-next _ _ _ _ _ _ _ _ _ _ _ _ r _ one (j + 1) (one-part gs j l) (gate-in j l .0, tt) q

@@ -1,7 +1,7 @@
 pub mod Lists
 pub mod Keeping
-pub mod Unskipped
-pub mod Ahead
+pub mod Sifting
+pub mod Skipped
 pub mod NodeLoop
-pub mod Both
+pub mod Kept
 pub mod Gates

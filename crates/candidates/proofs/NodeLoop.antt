@@ -1,5 +1,5 @@
 -- The loop over the gates gs, at a node with the list own: the arrays hold some nodes, from which the gates that are left give the goal. A step of the
--- loop tries some of them, one or two. Assumes nothing.
+-- loop tries the next. Assumes nothing.
 use mathlib.Core.Path.{_≡_, refl, sym, ap, _∙_, subst}
 use mathlib.Core.Bool.{Bool, true, false}
 use mathlib.Core.List.{List, [], _∷_, _++_}
@@ -17,18 +17,10 @@ use Rattle.synthesis_arena.specs.declared.WidthLimits.{WidthLimits}
 use Rattle.next_node.specs.Arrays.{rules, unsaturated, Columns, Long, Live, After}
 use Rattle.candidates.proofs.Keeping.{TriedKept, kept-part, unfilled}
 
--- ---- the next one or two of a list
+-- ---- the next of a list
 
 pub one-part : (gs : List ℕ) (j : ℕ) → j < length gs → drop j gs ≡ (getD gs j 0 ∷ []) ++ drop (j + 1) gs
 one-part gs j l = drop-cons gs j 0 l ∙ ap (λ (i : ℕ). getD gs j 0 ∷ drop i gs) (sym (add-one j))
-
-pub two-parts : (gs : List ℕ) (j : ℕ) → j + 1 < length gs → drop j gs ≡ (getD gs j 0 ∷ getD gs (j + 1) 0 ∷ []) ++ drop (j + 2) gs
-two-parts gs j l =
-    let e : j + 1 + 1 ≡ j + 2 = omega arith in
-    one-part gs j (omega arith) ∙ ap (λ (z : List ℕ). getD gs j 0 ∷ z) (one-part gs (j + 1) l ∙ ap (λ (i : ℕ). getD gs (j + 1) 0 ∷ drop i gs) e)
-
-pub last-part : (gs : List ℕ) (j : ℕ) → j < length gs → length gs ≤ j + 1 → drop j gs ≡ getD gs j 0 ∷ []
-last-part gs j l m = one-part gs j l ∙ ap (λ (z : List ℕ). getD gs j 0 ∷ z) (drop-of-length-le gs {i = j + 1} m)
 
 tryAll-append : (R : Rules) (E : ℕ) (s : State) (k : ℕ) (xs ys : List ℕ) → tryAll R E s k (xs ++ ys) ≡ tryAll R E (tryAll R E s k xs) k ys
 unfolding tryAll
@@ -82,11 +74,6 @@ module _ (mode : Mode) (by : By) (lim : WidthLimits) (k d : ℕ) (f0 u0 c0 i0 ow
     module _ (part : List ℕ) {f′ u′ c′ i′ : List ℕ} {count′ : ℕ} {b : Bool} (a : After by lim f0 u0 c0 i0 (tryAll R E (unsaturated (r .ns)) k part) f′ u′ c′ i′ count′ b) where
       abbrev tried : State
       tried = tryAll R E (unsaturated (r .ns)) k part
-
-      -- they were all
-      pub node-run-last : drop j gs ≡ part → After by lim f0 u0 c0 i0 goal f′ u′ c′ i′ count′ b
-      node-run-last e =
-          subst (λ (t : State). After by lim f0 u0 c0 i0 t f′ u′ c′ i′ count′ b) (ap (tryAll R E (unsaturated (r .ns)) k) (sym e) ∙ r .rest) a
 
       module _ (j′ : ℕ) (split : drop j gs ≡ part ++ drop j′ gs) where
         left-over : tryAll R E tried k (drop j′ gs) ≡ goal

@@ -1,28 +1,36 @@
--- What candidates of a node leave in the three arrays and the part of the index: the contracts of `unpruned`, `try_formed`, `try_both`, `try_gates`
--- and `try_node`. f, u, c are the arrays of fingerprints, parents and codes and i the part before a call, f′, u′, c′, i′ after it. Assumes nothing.
+-- What the candidates of a node leave in the three arrays and the part of the index, and which gates are left out ahead: the contracts of `unpruned`, `put_formed`,
+-- `fitting`, `unknown`, `try_gates` and `try_node`. f, u, c are the arrays of fingerprints, parents and codes and i the part before a call, f′, u′, c′, i′ after it. Assumes
+-- nothing.
 use mathlib.Core.Path.{_≡_}
-use mathlib.Core.Bool.{Bool, false}
-use mathlib.Core.List.{List, [], _∷_, List·Memᴰ}
-use Prim.Native.Nat.{ℕ, suc, _≤_}
+use mathlib.Core.Bool.{Bool, true, false, not, _||_}
+use mathlib.Core.List.{List, [], _∷_, map}
+use Prim.Native.Nat.{ℕ, suc, _+_, _≤_, _<_}
 use lib.IntN.{ℤ}
-use lib.ListN.{length, take}
+use lib.ListN.{length, take, getD, set}
 use Rattle.ints.specs.Lists.{pick}
+use Rattle.circuit.specs.Codes.{valid}
 use Rattle.generators.specs.Generators.{generators}
 use Rattle.exact.specs.Matrix.{Exact}
+use Rattle.exact.specs.Rows.{act, gateOf}
+use Rattle.exact.specs.Fits.{stepFits}
+use Rattle.exact.specs.Fingerprint.{fingerprint}
 use Rattle.exact.specs.Places.{held}
 use Rattle.exact.proofs.Words.{Equal}
 use Rattle.places.specs.Places.{places}
 use Rattle.matrix.specs.Step.{Ready}
 use Rattle.walk.specs.Modes.{Mode}
 use Rattle.walk.specs.Index.{By}
-use Rattle.walk.specs.Walk.{listAt, prod, pruned, try, tryAll}
+use Rattle.walk.specs.Finds.{Part, partWith}
+use Rattle.walk.specs.Walk.{listAt, prod, tryAll}
 use Rattle.synthesis_arena.specs.declared.WidthLimits.{WidthLimits}
 use Rattle.node_matrix.specs.declared.Candidate.{Candidate}
-use Rattle.node_matrix.specs.declared.TwoCandidates.{TwoCandidates}
-use Rattle.node_matrix.specs.Matrices.{FormedAs}
+use Rattle.node_matrix.specs.declared.Candidate.the-variants.{Print, DoesNotFit}
+use Rattle.known.specs.Known.{knownAhead}
 use Rattle.next_node.specs.Arrays.{rules, unsaturated, Live, After}
 use Rattle.next_node.specs.Append.{prunedAt}
 use Rattle.next_node.specs.declared.Tried.{Tried}
+
+-- ---- gates that are left out ahead
 
 -- the gates that a test does not skip, in order
 abbrev pub unskipped : (ℕ → Bool) → List ℕ → List ℕ
@@ -35,27 +43,55 @@ pub record Unpruned (node : ℕ) (gs c kept : List ℕ) (size : ℕ) : Type 0 wh
   pub few : size ≤ length gs
   pub long : length kept ≡ 105
 
--- The law of this crate. What the gate g after a node comes to before any look-up is a matter of the node's list alone: the two skip rules look at its
--- newest gate, and fit, fingerprint and matrix follow from its product. No other node has a part in it. A node's list stands while its candidates
--- are tried, so what was found ahead still holds once earlier candidates are appended, and two candidates can be formed before the first is looked up.
-pub record Ahead (mode : Mode) (lim : WidthLimits) (own : List ℕ) (g : ℕ) (l : List ℤ) (r : Candidate) : Type 0 where
-  pub unpruned : pruned (rules mode lim) g own ≡ false
-  pub matrix : Exact
-  pub matrix-is : Equal (lim .width) matrix (prod (rules mode lim) own)
-  pub formed : FormedAs (lim .width) g matrix l r
+-- the step by the gate g after the matrix x does not fit
+abbrev pub unfit : ℕ → Exact → ℕ → Bool
+unfit n x g = not (stepFits n (gateOf n g) x)
 
--- one candidate, formed
-pub record OneFormed (mode : Mode) (by : By) (lim : WidthLimits) (count node g : ℕ) (f u c i : List ℕ) (l : List ℤ) (r : Candidate) : Type 0 where
-  pub live : Live mode by lim f u c i count node (suc node)
-  pub ahead : Ahead mode lim (listAt (live .ns) node) g l r
+-- the fingerprint of the matrix x after the gate g
+abbrev pub candidatePrint : ℕ → Exact → ℕ → ℕ
+candidatePrint n x g = fingerprint n (act n (gateOf n g) x)
 
--- two candidates of one node, both formed before the first is looked up
-pub record TwoFormed (mode : Mode) (by : By) (lim : WidthLimits) (count node g h : ℕ) (f u c i : List ℕ) (l r : List ℤ) (two : TwoCandidates) : Type 0 where
-  pub live : Live mode by lim f u c i count node (suc node)
-  pub in-g : List·Memᴰ g (generators (lim .width) (lim .basis))
-  pub in-h : List·Memᴰ h (generators (lim .width) (lim .basis))
-  pub first : Ahead mode lim (listAt (live .ns) node) g l (two .first)
-  pub second : Ahead mode lim (listAt (live .ns) node) h r (two .second)
+-- the first places of two arrays of 105 hold the gates of gs that a test does not skip, and what y says of each
+pub record LeftOf (skip : ℕ → Bool) (y : ℕ → ℕ) (gs kept prints : List ℕ) (size : ℕ) : Type 0 where
+  pub gates-are : take size kept ≡ unskipped skip gs
+  pub prints-are : take size prints ≡ map y (unskipped skip gs)
+  pub few : size ≤ length gs
+  pub long-gates : length kept ≡ 105
+  pub long-prints : length prints ≡ 105
+
+-- of the gates gs with the fingerprints ps of their candidates those are left that are not known ahead
+abbrev pub UnknownLeft : Mode → Part → List ℕ → List ℕ → List ℕ → List ℕ → ℕ → Type 0
+UnknownLeft mode part gs ps kept prints size = (y : ℕ → ℕ) → ps ≡ map y gs → LeftOf (λ g. knownAhead mode part (y g)) y gs kept prints size
+
+-- two arrays of 105 places, of which the first are in use
+pub record Room105 (size : ℕ) (kept prints : List ℕ) : Type 0 where
+  pub few : size ≤ 105
+  pub long-gates : length kept ≡ 105
+  pub long-prints : length prints ≡ 105
+
+-- the codes in the first places are valid
+pub record ValidTo (n : ℕ) (kept : List ℕ) (size : ℕ) : Type 0 where
+  pub at : (j : ℕ) → j < size → valid n (getD kept j 0) ≡ true
+
+-- a candidate that fits is put at a place
+abbrev pub placedCount : Candidate → ℕ → ℕ
+placedCount (Print y k) at = at + 1
+placedCount DoesNotFit at = at
+
+abbrev pub placedGate : Candidate → ℕ → List ℕ → ℕ → List ℕ
+placedGate (Print y k) g kept at = set kept at g
+placedGate DoesNotFit g kept at = kept
+
+abbrev pub placedPrint : Candidate → List ℕ → ℕ → List ℕ
+placedPrint (Print y k) prints at = set prints at y
+placedPrint DoesNotFit prints at = prints
+
+-- the gate g after the node, whose matrix is x, is left out: by the two skip rules, because its step does not fit, or as known ahead
+abbrev pub idle : Mode → By → WidthLimits → ℕ → ℕ → List ℕ → List ℕ → List ℕ → List ℕ → Exact → ℕ → Bool
+idle mode by lim count node f u c i x g =
+    (prunedAt c node g || unfit (lim .width) x g) || knownAhead mode (partWith by f u c count i) (candidatePrint (lim .width) x g)
+
+-- ---- what is tried
 
 -- the places hold the node's matrix
 pub record NodeFormed (mode : Mode) (by : By) (lim : WidthLimits) (count node k : ℕ) (f u c i : List ℕ) (m : List ℤ) : Type 0 where
@@ -63,22 +99,8 @@ pub record NodeFormed (mode : Mode) (by : By) (lim : WidthLimits) (count node k 
   pub ready : Ready (lim .width) k m
   pub equal : Equal (lim .width) (held (lim .width) k m) (prod (rules mode lim) (listAt (live .ns) node))
 
--- from whatever nodes the arrays held, they hold those that the walk's `try` leaves after the gate g (SPECIFICATION 6.5 to 6.8), and the answer is
--- their count and whether the width is saturated
-abbrev pub CandidateTried : Mode → By → WidthLimits → ℕ → ℕ → ℕ → List ℤ → Candidate → List ℕ → List ℕ → List ℕ → List ℕ → List ℕ → List ℕ → List ℕ → List ℕ → Tried → Type 0
-CandidateTried mode by lim count node g l x f u c i f′ u′ c′ i′ r =
-    (w : OneFormed mode by lim count node g f u c i l x)
-    → After by lim (w .live .f0) (w .live .u0) (w .live .c0) (w .live .i0)
-    (try (rules mode lim) (lim .entries) (unsaturated (w .live .ns)) node g) f′ u′ c′ i′ (r .count) (r .saturated)
-
--- the same of two gates, in order: the walk's `tryAll`
-abbrev pub BothTried : Mode → By → WidthLimits → ℕ → ℕ → ℕ → ℕ → List ℤ → List ℤ → TwoCandidates → List ℕ → List ℕ → List ℕ → List ℕ → List ℕ → List ℕ → List ℕ → List ℕ → Tried → Type 0
-BothTried mode by lim count node g h l m two f u c i f′ u′ c′ i′ r =
-    (w : TwoFormed mode by lim count node g h f u c i l m two)
-    → After by lim (w .live .f0) (w .live .u0) (w .live .c0) (w .live .i0)
-    (tryAll (rules mode lim) (lim .entries) (unsaturated (w .live .ns)) node (g ∷ h ∷ [])) f′ u′ c′ i′ (r .count) (r .saturated)
-
--- the same of every generator, where the node's matrix is formed
+-- from whatever nodes the arrays held, they hold those that the walk's `tryAll` leaves after every generator (SPECIFICATION 6.5 to 6.8), and the answer is
+-- their count and whether the width is saturated; where the node's matrix is formed
 abbrev pub GatesTried : Mode → By → WidthLimits → ℕ → ℕ → ℕ → List ℤ → List ℕ → List ℕ → List ℕ → List ℕ → List ℕ → List ℕ → List ℕ → List ℕ → Tried → Type 0
 GatesTried mode by lim count node k m f u c i f′ u′ c′ i′ r =
     (w : NodeFormed mode by lim count node k f u c i m)
@@ -92,7 +114,7 @@ NodeTried mode by lim count node f u c i f′ u′ c′ i′ r =
     → After by lim (h .f0) (h .u0) (h .c0) (h .i0)
     (tryAll (rules mode lim) (lim .entries) (unsaturated (h .ns)) node (generators (lim .width) (lim .basis))) f′ u′ c′ i′ (r .count) (r .saturated)
 
--- the places that are lent to form three matrices: a node's, and two candidates'
+-- the places that are lent to form matrices: a node's, and two candidates' or those of a recheck
 pub record Lent (m l r : List ℤ) : Type 0 where
   pub node : length m ≡ places
   pub left : length l ≡ places

@@ -1,24 +1,28 @@
-// The candidates of one node: each generator after it, in order (SPECIFICATION 6.4 to 6.8). The node's matrix is formed once. What a candidate comes to
-// before any look-up depends on the node's list alone (`Ahead`, specs/Tries). So the two skip rules are asked of all generators first, and those that
-// are left are taken two by two: both are formed, and then looked up one after the other.
+// The candidates of one node: each generator after it, in order (SPECIFICATION 6.4 to 6.8). The node's matrix is formed once. A candidate that the walk
+// skips stays skipped, whatever nodes are added (`skipped-stays`, proofs/Skipped), so those that are skipped are left out ahead, one reason after the other:
+// first the two skip rules, then steps that do not fit, then, where a fingerprint alone makes known and the look-up is through the index, fingerprints that a
+// node has. The fingerprints are worked two by two. The look-ups of all candidates are made before the first is appended, so that waits for memory overlap; those that
+// are left are looked up again when their turn comes, since an earlier candidate of the node may have their fingerprint. In the other cases each is looked
+// up once, when its turn comes.
 ghost use mathlib.Core.Path.{_≡_};
+ghost use mathlib.Core.List.{map};
 ghost use Prim.Native.Nat.{suc, _≤_, _<_};
-ghost use lib.ListN.{length};
+ghost use lib.ListN.{length, take};
 ghost use Rattle.generators.specs.Generators.{generators};
 ghost use Rattle.exact.specs.Matrix.{identity};
+ghost use Rattle.exact.specs.Places.{held};
 ghost use Rattle.places.specs.Places.{places};
-ghost use Rattle.matrix.specs.Step.{Holds};
+ghost use Rattle.matrix.specs.Step.{Holds, Ready};
+ghost use Rattle.walk.specs.Finds.{partWith};
 ghost use Rattle.index.specs.Told.{toldBy};
 ghost use Rattle.known.specs.Known.{toldMode};
 ghost use Rattle.next_node.specs.Arrays.{Live};
-ghost use Rattle.next_node.specs.Append.{prunedAt};
-ghost use Rattle.candidates.specs.Tries.{unskipped, Unpruned, OneFormed, TwoFormed, NodeFormed, CandidateTried, BothTried, GatesTried, NodeTried, Lent};
+ghost use Rattle.candidates.specs.Tries.{unskipped, Unpruned, unfit, candidatePrint, LeftOf, UnknownLeft, ValidTo, Room105, placedGate, placedPrint, placedCount, idle, NodeFormed, GatesTried, NodeTried, Lent};
 use cyclotomic::Coefficient;
 use index::LookupBy;
 use known::BuildMode;
 use next_node::Tried;
 use node_matrix::Candidate;
-use node_matrix::TwoCandidates;
 use synthesis_arena::WidthLimits;
 
 // The generators that the two skip rules leave after a node, in order: they are put into the first places of `kept`. Returns how many they are.
@@ -40,109 +44,109 @@ fn unpruned(node: usize, gates: &[u32], codes: &[u32], kept: &mut [u32; 105]) ->
     size
 }
 
-// One candidate, whose matrix and fingerprint were formed: one that does not fit is skipped, and any other goes to `append`.
-fn try_formed(
-    mode: BuildMode,
-    by: LookupBy,
-    limits: WidthLimits,
-    count: usize,
-    node: usize,
+// One candidate that was formed: where it fits, its gate and its fingerprint are put at a place. Returns the next place.
+fn put_formed(
+    place: usize,
     gate: u32,
     formed: Candidate,
-    fingerprints: &mut [u64],
-    parents: &mut [u32],
-    codes: &mut [u32],
-    index: &mut [u32],
-    m: &[Coefficient],
-) -> Tried
-    requires bounds { ⌜ ((limits .width) ≤ 5) × (node < count) × ((limits .entries) ≤ 1000000) × ((limits .gates) ≤ 64) ⌝ }
-    requires formed { ⌜ OneFormed (toldMode mode) (toldBy by) limits count node gate (now fingerprints) (now parents) (now codes) (now index) (now m) formed ⌝ }
-    ensures tried { λ r. ⌜ CandidateTried (toldMode mode) (toldBy by) limits count node gate (now (m .entry)) formed
-        (now (fingerprints .entry)) (now (parents .entry)) (now (codes .entry)) (now (index .entry))
-        (now (fingerprints .exit)) (now (parents .exit)) (now (codes .exit)) (now (index .exit)) r ⌝ }
+    kept: &mut [u32; 105],
+    prints: &mut [u64; 105],
+) -> usize
+    requires room { ⌜ (place < length (now kept)) × (place < length (now prints)) × (length (now kept) ≡ 105) ⌝ }
+    ensures next { λ r. ⌜ r ≡ placedCount formed place ⌝ }
+    ensures gates { λ _. ⌜ now (kept .exit) ≡ placedGate formed gate (now (kept .entry)) place ⌝ }
+    ensures prints { λ _. ⌜ now (prints .exit) ≡ placedPrint formed (now (prints .entry)) place ⌝ }
 {
-    let Candidate::Print(print, exponent) = formed else {
-        return Tried {
-            count,
-            saturated: false, // a candidate that does not fit
-        };
+    let Candidate::Print(print, _) = formed else {
+        return place;
     };
-    next_node::append(
-        mode,
-        by,
-        limits,
-        count,
-        node,
-        gate,
-        print,
-        exponent,
-        fingerprints,
-        parents,
-        codes,
-        index,
-        m,
-    )
+    kept[place] = gate;
+    prints[place] = print;
+    place + 1
 }
 
-// Two candidates that were formed, one after the other.
-fn try_both(
+// Of the gates in the first places those whose step fits after the matrix m, with the fingerprints of the candidates, two by two. Both are put into the
+// first places; how many they are is returned. The last of an odd number is formed beside itself: a function that is called in two places is compiled apart, and
+// the two fingerprints are then worked faster (docs/SPEED.md).
+fn fitting(
+    n: usize,
+    exponent: u16,
+    size: usize,
+    kept: &mut [u32; 105],
+    prints: &mut [u64; 105],
+    m: &[Coefficient],
+    left: &mut [Coefficient; 4096],
+    right: &mut [Coefficient; 4096],
+) -> usize
+    requires narrow { ⌜ n ≤ 5 ⌝ }
+    requires ready { ⌜ Ready n exponent (now m) ⌝ }
+    requires room { ⌜ Room105 size (now kept) (now prints) ⌝ }
+    requires valid { ⌜ ValidTo n (now kept) size ⌝ }
+    requires long { ⌜ (length (now left) ≡ places) × (length (now right) ≡ places) ⌝ }
+    ensures fitting { λ r. ⌜ LeftOf (unfit n (held n exponent (now (m .entry)))) (candidatePrint n (held n exponent (now (m .entry))))
+        (take size (now (kept .entry))) (now (kept .exit)) (now (prints .exit)) r ⌝ }
+    ensures long { λ _. ⌜ (length (now (left .exit)) ≡ places) × (length (now (right .exit)) ≡ places) ⌝ }
+{
+    let mut fit = 0;
+    let mut j = 0;
+    while j + 1 < size {
+        let next = j + 1;
+        let g = kept[j];
+        let h = kept[next];
+        let two = node_matrix::two_prints(n, g, h, exponent, m, left, right);
+        let first = two.first;
+        let second = two.second;
+        let place = put_formed(fit, g, first, kept, prints);
+        fit = put_formed(place, h, second, kept, prints);
+        j += 2;
+    }
+    if j >= size {
+        return fit;
+    }
+    let last = kept[j];
+    let both = node_matrix::two_prints(n, last, last, exponent, m, left, right);
+    let one = both.first;
+    put_formed(fit, last, one, kept, prints)
+}
+
+// Of the gates in the first places those whose candidates are not known ahead of their turn, with the fingerprints. Both are put into the first places; how
+// many they are is returned.
+fn unknown(
     mode: BuildMode,
     by: LookupBy,
-    limits: WidthLimits,
     count: usize,
-    node: usize,
-    g: u32,
-    h: u32,
-    two: TwoCandidates,
-    fingerprints: &mut [u64],
-    parents: &mut [u32],
-    codes: &mut [u32],
-    index: &mut [u32],
-    left: &[Coefficient],
-    right: &[Coefficient],
-) -> Tried
-    requires bounds { ⌜ ((limits .width) ≤ 5) × (node < count) × ((limits .entries) ≤ 1000000) × ((limits .gates) ≤ 64) ⌝ }
-    requires formed { ⌜ TwoFormed (toldMode mode) (toldBy by) limits count node g h (now fingerprints) (now parents) (now codes) (now index) (now left) (now right) two ⌝ }
-    ensures tried { λ r. ⌜ BothTried (toldMode mode) (toldBy by) limits count node g h (now (left .entry)) (now (right .entry)) two
-        (now (fingerprints .entry)) (now (parents .entry)) (now (codes .entry)) (now (index .entry))
-        (now (fingerprints .exit)) (now (parents .exit)) (now (codes .exit)) (now (index .exit)) r ⌝ }
+    size: usize,
+    fingerprints: &[u64],
+    parents: &[u32],
+    codes: &[u32],
+    index: &[u32],
+    kept: &mut [u32; 105],
+    prints: &mut [u64; 105],
+) -> usize
+    requires within { ⌜ count ≤ length (now fingerprints) ⌝ }
+    requires room { ⌜ Room105 size (now kept) (now prints) ⌝ }
+    ensures unknown { λ r. ⌜ UnknownLeft (toldMode mode) (partWith (toldBy by) (now (fingerprints .entry)) (now (parents .entry)) (now (codes .entry)) count (now (index .entry)))
+        (take size (now (kept .entry))) (take size (now (prints .entry))) (now (kept .exit)) (now (prints .exit)) r ⌝ }
 {
-    let first = two.first;
-    let second = two.second;
-    let t = try_formed(
-        mode,
-        by,
-        limits,
-        count,
-        node,
-        g,
-        first,
-        fingerprints,
-        parents,
-        codes,
-        index,
-        left,
-    );
-    if t.saturated {
-        return t;
+    let how = mode;
+    let lookup = by;
+    let mut left = 0;
+    let mut j = 0;
+    while j < size {
+        let g = kept[j];
+        let p = prints[j];
+        kept[left] = g;
+        prints[left] = p;
+        if !known::is_known_ahead(how, lookup, count, p, fingerprints, parents, codes, index) {
+            left += 1;
+        }
+        j += 1;
     }
-    try_formed(
-        mode,
-        by,
-        limits,
-        t.count,
-        node,
-        h,
-        second,
-        fingerprints,
-        parents,
-        codes,
-        index,
-        right,
-    )
+    left
 }
 
-// The generators after a node whose matrix is in m, two by two, in order.
+// The gates that are left after a node whose matrix is in m, in order, with the fingerprints of their candidates: each goes to `append`, until the width is
+// saturated.
 fn try_gates(
     mode: BuildMode,
     by: LookupBy,
@@ -151,6 +155,7 @@ fn try_gates(
     node: usize,
     exponent: u16,
     gates: &[u32],
+    prints: &[u64],
     fingerprints: &mut [u64],
     parents: &mut [u32],
     codes: &mut [u32],
@@ -160,7 +165,9 @@ fn try_gates(
     right: &mut [Coefficient; 4096],
 ) -> Tried
     requires bounds { ⌜ ((limits .width) ≤ 5) × (node < count) × ((limits .entries) ≤ 1000000) × ((limits .gates) ≤ 64) ⌝ }
-    requires gates { ⌜ now gates ≡ unskipped (prunedAt (now codes) node) (generators (limits .width) (limits .basis)) ⌝ }
+    requires gates { ⌜ now gates ≡ unskipped (idle (toldMode mode) (toldBy by) limits count node (now fingerprints) (now parents) (now codes) (now index)
+        (held (limits .width) exponent (now m))) (generators (limits .width) (limits .basis)) ⌝ }
+    requires prints { ⌜ now prints ≡ map (candidatePrint (limits .width) (held (limits .width) exponent (now m))) (now gates) ⌝ }
     requires formed { ⌜ NodeFormed (toldMode mode) (toldBy by) limits count node exponent (now fingerprints) (now parents) (now codes) (now index) (now m) ⌝ }
     requires long { ⌜ (length (now left) ≡ places) × (length (now right) ≡ places) ⌝ }
     ensures tried { λ r. ⌜ GatesTried (toldMode mode) (toldBy by) limits count node exponent (now (m .entry))
@@ -173,24 +180,23 @@ fn try_gates(
     let l = limits;
     let mut n = count;
     let mut j = 0;
-    while j + 1 < gates.len() {
-        let next = j + 1;
+    while j < gates.len() {
         let g = gates[j];
-        let h = gates[next];
-        let two = node_matrix::two_prints(l.width as usize, g, h, exponent, m, left, right);
-        let t = try_both(
+        let p = prints[j];
+        let t = next_node::append(
             how,
             lookup,
             l,
             n,
             node,
             g,
-            h,
-            two,
+            p,
+            exponent,
             fingerprints,
             parents,
             codes,
             index,
+            m,
             left,
             right,
         );
@@ -198,33 +204,16 @@ fn try_gates(
         if t.saturated {
             return t;
         }
-        j += 2;
+        j += 1;
     }
-    if j == gates.len() {
-        return Tried {
-            count: n,
-            saturated: false,
-        };
+    Tried {
+        count: n,
+        saturated: false,
     }
-    let last = gates[j];
-    let formed = node_matrix::candidate_print(l.width as usize, last, exponent, m, left);
-    try_formed(
-        how,
-        lookup,
-        l,
-        n,
-        node,
-        last,
-        formed,
-        fingerprints,
-        parents,
-        codes,
-        index,
-        left,
-    )
 }
 
-// One node: each generator, in order. Three matrices are formed in lent places, and `one` has the identity.
+// One node: each generator, in order. The node's matrix is formed in `m`, two candidates in `left` and `right`, where a recheck forms its product too; `one` has
+// the identity.
 pub fn try_node(
     mode: BuildMode,
     by: LookupBy,
@@ -254,6 +243,21 @@ pub fn try_node(
     let mut kept: [u32; 105] = [0; 105];
     let size = unpruned(node, gates, codes, &mut kept);
     let exponent = node_matrix::form_node(limits, node, parents, codes, one, m);
+    let mut prints: [u64; 105] = [0; 105];
+    let n = limits.width as usize;
+    let fit = fitting(n, exponent, size, &mut kept, &mut prints, m, left, right);
+    let left_over = unknown(
+        mode,
+        by,
+        count,
+        fit,
+        fingerprints,
+        parents,
+        codes,
+        index,
+        &mut kept,
+        &mut prints,
+    );
     try_gates(
         mode,
         by,
@@ -261,7 +265,8 @@ pub fn try_node(
         count,
         node,
         exponent,
-        &kept[0..size],
+        &kept[0..left_over],
+        &prints[0..left_over],
         fingerprints,
         parents,
         codes,

@@ -8,3 +8,4 @@ pub mod Order
 pub mod Answers
 pub mod Number
 pub mod Sizes
+pub mod Eights

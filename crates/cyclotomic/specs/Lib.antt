@@ -1,2 +1,3 @@
 pub mod Zomega
 pub mod Told
+pub mod Eights

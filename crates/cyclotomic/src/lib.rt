@@ -2,11 +2,12 @@
 // A stored coefficient is between -32767 and 32767, so every turn is representable. Sums are formed one width wider and narrowed after a
 // test. matrix.rs of the original, `Cyclotomic`.
 ghost use mathlib.Core.Path.{_≡_};
-ghost use Prim.Native.Nat.{_+_, _≤_};
+ghost use Prim.Native.Nat.{_+_, _<_, _≤_};
 ghost use lib.IntN.{pos, natAbs, negℤ, _+ℤ_, _-ℤ_};
 ghost use lib.Signed.{ltZ};
 ghost use Rattle.cyclotomic.specs.Zomega.{limit, mk, zeroω, oneω, addω, subω, turn, sameParity, half, sqrt2, divisible, overSqrt2, eqZ, eqω, isZero, less, within, fits, Small, sizesPass};
 ghost use Rattle.cyclotomic.specs.Told.{told, checked};
+ghost use Rattle.cyclotomic.specs.Eights.{eightOf, OfEight, Opposite, OneTurn, PlacesOf};
 
 // A coefficient's type, and the type in which sums are formed.
 pub type Coefficient = i16;
@@ -232,7 +233,7 @@ impl Cyclotomic {
         }
     }
 
-    // One turn: omega times this. The paper has no other turn, so turns by powers are worked by this alone.
+    // One turn: omega times this. The paper has no other turn, so turns by powers are worked by single turns alone.
     pub fn turned(self) -> Cyclotomic
         requires { ⌜ Small self ⌝ }
         ensures { λ r. ⌜ r ≡ turn 1 self ⌝ }
@@ -262,6 +263,22 @@ impl Cyclotomic {
             i += 1;
         }
         z
+    }
+
+    // The four coefficients and their negatives, among which are those of every turn of this.
+    pub fn eight(self) -> [Coefficient; 8]
+        requires { ⌜ Small self ⌝ }
+        ensures { λ r. ⌜ r ≡ eightOf self ⌝ }
+    {
+        let a = self.a;
+        let b = self.b;
+        let c = self.c;
+        let d = self.d;
+        let minus_a = negated(a);
+        let minus_b = negated(b);
+        let minus_c = negated(c);
+        let minus_d = negated(d);
+        [a, b, c, d, minus_a, minus_b, minus_c, minus_d]
     }
 
     // Whether this is sqrt(2) times an element.
@@ -325,4 +342,62 @@ impl Cyclotomic {
         }
         below(self.d, rhs.d)
     }
+}
+
+// Where the coefficients of a turned element stand among the eight of the element itself. One of these serves all entries of a matrix, so that
+// its turns are worked once and not for each entry.
+pub struct TurnPlaces {
+    pub a: usize,
+    pub b: usize,
+    pub c: usize,
+    pub d: usize,
+}
+
+// The place of the negative.
+fn opposite(place: usize) -> usize
+    requires { ⌜ place < 8 ⌝ }
+    ensures { λ r. ⌜ Opposite place r ⌝ }
+{
+    if place < 4 {
+        return place + 4;
+    }
+    place - 4
+}
+
+impl TurnPlaces {
+    // One turn, on places: the rule of `turned` of an element.
+    fn turned(self) -> TurnPlaces
+        requires { ⌜ OfEight self ⌝ }
+        ensures { λ r. ⌜ OneTurn self r ⌝ }
+    {
+        let a = self.a;
+        let b = self.b;
+        let c = self.c;
+        let d = self.d;
+        let opposite_d = opposite(d);
+        TurnPlaces {
+            a: opposite_d,
+            b: a,
+            c: b,
+            d: c,
+        }
+    }
+}
+
+// The places of omega to the power, times an element: that many single turns of the element's own places.
+pub fn turn_places(power: u8) -> TurnPlaces
+    ensures { λ r. ⌜ PlacesOf power r ⌝ }
+{
+    let mut t = TurnPlaces {
+        a: 0,
+        b: 1,
+        c: 2,
+        d: 3,
+    };
+    let mut made: u8 = 0;
+    while made < power {
+        t = t.turned();
+        made += 1;
+    }
+    t
 }

@@ -6,26 +6,27 @@ use Prim.Native.Nat.{ℕ, zero, suc, _≤_, _<_}
 use native.Mathlib.Omega.{arith}
 use lib.ListN.{length, getD}
 use Rattle.ints.specs.Lists.{pick}
+use Rattle.ints.proofs.Bools.{clash, and-right}
 use Rattle.exact.specs.Matrix.{Exact}
 use Rattle.exact.proofs.Words.{Equal}
 use Rattle.exact.specs.Fits.{steps}
 use Rattle.exact.specs.Lists.{product}
 use Rattle.exact.specs.Fingerprint.{fingerprint}
 use Rattle.exact.proofs.Phases.{up-equal}
-use Rattle.walk.specs.Lookup.{Lookup, found, lowestFrom}
+use Rattle.walk.specs.Lookup.{Lookup, found}
 use Rattle.walk.specs.Lookup as lookup
 use Rattle.walk.specs.Walk.{Node, any, root, listAt, prod, knows}
 use Rattle.walk.specs.Modes.{Mode, byPrint, keeping}
-use Rattle.walk.specs.AtWidth.{samePrint, atWidth}
+use Rattle.walk.specs.AtWidth.{atWidth}
 use Rattle.walk.specs.Chains.{Chain, good, bad}
-use Rattle.walk.specs.Finds.{WidthLimits, Part, Finding, fitsAll, rechecked, chainAt, byChain, byLookup, lookedIn, findFrom, findBy, findOf, isNode}
+use Rattle.walk.specs.Finds.{WidthLimits, Part, Finding, fitsAll, rechecked, chainAt, byChain, byLookup, lookedIn, findFrom, findBy, isNode}
 use Rattle.walk.specs.Meaning.{AsScan}
 use Rattle.walk.proofs.Grown.{Grown}
 use Rattle.walk.proofs.Lookups.{looks-up}
 use Rattle.walk.proofs.Sequences.{any-true, any-at}
 use Rattle.walk.proofs.Exactly.{print-same, same-print, print-is}
 use Rattle.walk.proofs.Holding.{Holding, found-any}
-use Rattle.known.specs.Known.{isFound, isKnown}
+use Rattle.known.specs.Known.{isFound, isKnown, indexedBy, knownAhead}
 
 -- ---- equal matrices are known alike
 
@@ -54,6 +55,28 @@ module _ (limits : WidthLimits) (part : Part) (y : ℕ) {x z : Exact} (e : Equal
   unfolding findBy
   known-alike byPrint = refl
   known-alike keeping = ap isNode (same-from (part .count) 0)
+
+-- ---- by the look-up
+
+module _ (limits : WidthLimits) (part : Part) (y : ℕ) (x : Exact) where
+  find-none : lookedIn part 0 y ≡ lookup.none → (m : ℕ) → findFrom limits part y x m 0 ≡ Finding.none
+  unfolding findFrom
+  find-none e zero = refl
+  find-none e (suc m) = ap (byLookup limits part x (λ next. findFrom limits part y x m next)) e
+
+  -- where no node has the fingerprint, the candidate is not known
+  pub known-none : (mode : Mode) → lookedIn part 0 y ≡ lookup.none → isKnown mode limits part y x ≡ false
+  unfolding findBy
+  known-none byPrint e = ap isFound e
+  known-none keeping e = ap isNode (find-none e (part .count))
+
+  pub known-print : {k : ℕ} → lookedIn part 0 y ≡ found k → isKnown byPrint limits part y x ≡ true
+  known-print e = ap isFound e
+
+  -- what is known ahead is known
+  pub known-ahead : (mode : Mode) → knownAhead mode part y ≡ true → isKnown mode limits part y x ≡ true
+  known-ahead byPrint e = and-right (indexedBy (part .by)) (isFound (lookedIn part 0 y)) e
+  known-ahead keeping e = clash e refl
 
 -- ---- in arrays that hold the nodes of a walk
 

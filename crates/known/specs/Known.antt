@@ -1,9 +1,10 @@
 -- When a candidate is known in one width's part, by its fingerprint y and its matrix x (SPECIFICATION 6.7, 6.16). Assumes nothing.
-use mathlib.Core.Bool.{Bool, true, false}
+use mathlib.Core.Bool.{Bool, true, false, _&&_}
 use Prim.Native.Nat.{ℕ}
 use Rattle.exact.specs.Matrix.{Exact}
 use Rattle.walk.specs.Lookup.{Lookup, found, none}
 use Rattle.walk.specs.Modes.{Mode, byPrint, keeping}
+use Rattle.walk.specs.Index.{By, scan, indexed}
 use Rattle.walk.specs.Finds.{WidthLimits, Part, lookedIn, findBy, isNode}
 use Rattle.known.specs.declared.BuildMode.{BuildMode}
 use Rattle.known.specs.declared.BuildMode.the-variants.{ByPrint, Keeping}
@@ -12,10 +13,20 @@ abbrev pub toldMode : BuildMode → Mode
 toldMode ByPrint = byPrint
 toldMode Keeping = keeping
 
+-- the look-up is through the index
+abbrev pub indexedBy : By → Bool
+indexedBy scan = false
+indexedBy indexed = true
+
 -- a node is found
 abbrev pub isFound : Lookup → Bool
 isFound (found k) = true
 isFound none = false
+
+-- known by the fingerprint y, where that is asked before the candidate's turn comes: a fingerprint alone makes known, and the look-up is through the index
+abbrev pub knownAhead : Mode → Part → ℕ → Bool
+knownAhead byPrint part y = indexedBy (part .by) && isFound (lookedIn part 0 y)
+knownAhead keeping part y = false
 
 -- byPrint: the fingerprint leads to a node; keeping: a node is found for the matrix
 abbrev pub isKnown : Mode → WidthLimits → Part → ℕ → Exact → Bool

@@ -1,16 +1,25 @@
 // Whether a candidate counts as known in a width that is being built (SPECIFICATION 6.7, 6.16): by its fingerprint alone, or, where clashing
-// nodes are kept, by a node that has the fingerprint and is equal up to phase, which is the find of an answer.
+// nodes are kept, by a node that has the fingerprint and is equal up to phase, which is the find of an answer. A candidate's matrix is formed
+// again only where a node has its fingerprint.
 ghost use mathlib.Core.Path.{_≡_};
+ghost use mathlib.Core.Bool.{true};
 ghost use Prim.Native.Nat.{_≤_};
 ghost use lib.ListN.{length};
+ghost use Rattle.circuit.specs.Codes.{valid};
+ghost use Rattle.exact.specs.Rows.{act, gateOf};
+ghost use Rattle.exact.specs.Fits.{stepFits};
 ghost use Rattle.exact.specs.Places.{held};
+ghost use Rattle.places.specs.Places.{places};
+ghost use Rattle.matrix.specs.Step.{Ready};
+ghost use Rattle.walk.specs.Lookup.{found};
 ghost use Rattle.walk.specs.Finds.{partWith, lookedIn, findBy, isNode};
 ghost use Rattle.index.specs.Told.{toldBy};
 ghost use Rattle.synthesis_arena.specs.Limits.{toldLimits};
 ghost use Rattle.width_answer.specs.Answers.{AskedPlaces};
-ghost use Rattle.known.specs.Known.{toldMode, isFound, isKnown};
+ghost use Rattle.known.specs.Known.{toldMode, isFound, isKnown, knownAhead};
 use cyclotomic::Coefficient;
 use index::LookupBy;
+use matrix::Applied;
 use synthesis_arena::Found;
 use synthesis_arena::WidthLimits;
 use width_answer::Find;
@@ -42,11 +51,45 @@ fn has_print(
     }
 }
 
-// Whether a node is found for the matrix. The chains of a table that is being built are good.
+// Whether a candidate is known by its fingerprint, where it pays to ask before its turn comes: a fingerprint alone makes known, and the look-up is through the
+// index. A scan of the fingerprints does not wait for memory, so it is made once.
+pub fn is_known_ahead(
+    mode: BuildMode,
+    by: LookupBy,
+    count: usize,
+    print: u64,
+    fingerprints: &[u64],
+    parents: &[u32],
+    codes: &[u32],
+    index: &[u32],
+) -> bool
+    requires within { ⌜ count ≤ length (now fingerprints) ⌝ }
+    ensures known { λ r. ⌜ r ≡ knownAhead (toldMode mode)
+        (partWith (toldBy by) (now (fingerprints .entry)) (now (parents .entry)) (now (codes .entry)) count (now (index .entry))) print ⌝ }
+{
+    match mode {
+        BuildMode::Keeping => false,
+        BuildMode::ByPrint => match by {
+            LookupBy::Scan => false,
+            LookupBy::Index => has_print(
+                LookupBy::Index,
+                count,
+                print,
+                fingerprints,
+                parents,
+                codes,
+                index,
+            ),
+        },
+    }
+}
+
+// Whether the search from the first node with the fingerprint on finds one for the matrix. The chains of a table that is being built are good.
 fn has_equal(
     by: LookupBy,
     limits: WidthLimits,
     count: usize,
+    node: usize,
     print: u64,
     exponent: u16,
     fingerprints: &[u64],
@@ -54,19 +97,25 @@ fn has_equal(
     codes: &[u32],
     index: &[u32],
     candidate: &[Coefficient],
+    scratch: &mut [Coefficient; 4096],
 ) -> bool
     requires bounds { ⌜ (limits .width ≤ 5) × (limits .gates ≤ 64) ⌝ }
     requires within { ⌜ (count ≤ length (now fingerprints)) × (count ≤ length (now parents)) × (count ≤ length (now codes)) ⌝ }
+    requires first { ⌜ lookedIn (partWith (toldBy by) (now fingerprints) (now parents) (now codes) count (now index)) 0 print ≡ found node ⌝ }
     requires asked { ⌜ AskedPlaces (limits .width) (now candidate) ⌝ }
+    requires long { ⌜ length (now scratch) ≡ places ⌝ }
     ensures found { λ r. ⌜ r ≡ isNode (findBy (toldLimits limits)
         (partWith (toldBy by) (now (fingerprints .entry)) (now (parents .entry)) (now (codes .entry)) count (now (index .entry))) print
         (held (limits .width) exponent (now (candidate .entry)))) ⌝ }
+    ensures long { λ _. ⌜ length (now (scratch .exit)) ≡ places ⌝ }
 {
+    matrix::set_identity(scratch, limits.width as usize);
     let mut list: [u32; 64] = [0; 64];
-    match width_answer::find_print(
+    match width_answer::find_at(
         by,
         limits,
         count,
+        node,
         print,
         exponent,
         fingerprints,
@@ -75,6 +124,7 @@ fn has_equal(
         index,
         candidate,
         &mut list,
+        scratch,
     ) {
         Find::Node(_, _) => true,
         Find::Nothing => false,
@@ -82,40 +132,108 @@ fn has_equal(
     }
 }
 
-// Whether a candidate with the fingerprint is known in the mode.
+// The same for the candidate that the gate gives after the matrix m, which is formed in lent places. Its step fits, so the
+// other arm is not taken.
+fn has_candidate(
+    by: LookupBy,
+    limits: WidthLimits,
+    count: usize,
+    node: usize,
+    print: u64,
+    gate: u32,
+    exponent: u16,
+    fingerprints: &[u64],
+    parents: &[u32],
+    codes: &[u32],
+    index: &[u32],
+    m: &[Coefficient],
+    candidate: &mut [Coefficient; 4096],
+    scratch: &mut [Coefficient; 4096],
+) -> bool
+    requires bounds { ⌜ (limits .width ≤ 5) × (limits .gates ≤ 64) ⌝ }
+    requires within { ⌜ (count ≤ length (now fingerprints)) × (count ≤ length (now parents)) × (count ≤ length (now codes)) ⌝ }
+    requires first { ⌜ lookedIn (partWith (toldBy by) (now fingerprints) (now parents) (now codes) count (now index)) 0 print ≡ found node ⌝ }
+    requires ready { ⌜ Ready (limits .width) exponent (now m) ⌝ }
+    requires gate { ⌜ (valid (limits .width) gate ≡ true) × (stepFits (limits .width) (gateOf (limits .width) gate) (held (limits .width) exponent (now m)) ≡ true) ⌝ }
+    requires long { ⌜ (length (now candidate) ≡ places) × (length (now scratch) ≡ places) ⌝ }
+    ensures found { λ r. ⌜ r ≡ isNode (findBy (toldLimits limits)
+        (partWith (toldBy by) (now (fingerprints .entry)) (now (parents .entry)) (now (codes .entry)) count (now (index .entry))) print
+        (act (limits .width) (gateOf (limits .width) gate) (held (limits .width) exponent (now (m .entry))))) ⌝ }
+    ensures long { λ _. ⌜ (length (now (candidate .exit)) ≡ places) × (length (now (scratch .exit)) ≡ places) ⌝ }
+{
+    let Applied::Done(k) = node_matrix::apply_to_copy(
+        limits.width as usize,
+        gate,
+        exponent,
+        m,
+        candidate,
+    ) else {
+        return false;
+    };
+    has_equal(
+        by,
+        limits,
+        count,
+        node,
+        print,
+        k,
+        fingerprints,
+        parents,
+        codes,
+        index,
+        candidate,
+        scratch,
+    )
+}
+
+// Whether the candidate that the gate gives after the matrix m, whose fingerprint is given, is known in the mode. Two matrices may be formed in
+// lent places; what they hold afterwards is not told.
 pub fn is_known(
     mode: BuildMode,
     by: LookupBy,
     limits: WidthLimits,
     count: usize,
     print: u64,
+    gate: u32,
     exponent: u16,
     fingerprints: &[u64],
     parents: &[u32],
     codes: &[u32],
     index: &[u32],
-    candidate: &[Coefficient],
+    m: &[Coefficient],
+    candidate: &mut [Coefficient; 4096],
+    scratch: &mut [Coefficient; 4096],
 ) -> bool
     requires bounds { ⌜ (limits .width ≤ 5) × (limits .gates ≤ 64) ⌝ }
     requires within { ⌜ (count ≤ length (now fingerprints)) × (count ≤ length (now parents)) × (count ≤ length (now codes)) ⌝ }
-    requires asked { ⌜ AskedPlaces (limits .width) (now candidate) ⌝ }
+    requires ready { ⌜ Ready (limits .width) exponent (now m) ⌝ }
+    requires gate { ⌜ (valid (limits .width) gate ≡ true) × (stepFits (limits .width) (gateOf (limits .width) gate) (held (limits .width) exponent (now m)) ≡ true) ⌝ }
+    requires long { ⌜ (length (now candidate) ≡ places) × (length (now scratch) ≡ places) ⌝ }
     ensures known { λ r. ⌜ r ≡ isKnown (toldMode mode) (toldLimits limits)
         (partWith (toldBy by) (now (fingerprints .entry)) (now (parents .entry)) (now (codes .entry)) count (now (index .entry))) print
-        (held (limits .width) exponent (now (candidate .entry))) ⌝ }
+        (act (limits .width) (gateOf (limits .width) gate) (held (limits .width) exponent (now (m .entry)))) ⌝ }
+    ensures long { λ _. ⌜ (length (now (candidate .exit)) ≡ places) × (length (now (scratch .exit)) ≡ places) ⌝ }
 {
+    let Found::At(node) = index::look_up(by, index, fingerprints, count, 0, print) else {
+        return false;
+    };
     match mode {
-        BuildMode::ByPrint => has_print(by, count, print, fingerprints, parents, codes, index),
-        BuildMode::Keeping => has_equal(
+        BuildMode::ByPrint => true,
+        BuildMode::Keeping => has_candidate(
             by,
             limits,
             count,
+            node,
             print,
+            gate,
             exponent,
             fingerprints,
             parents,
             codes,
             index,
+            m,
             candidate,
+            scratch,
         ),
     }
 }

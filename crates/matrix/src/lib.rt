@@ -14,7 +14,7 @@ ghost use Rattle.exact.specs.Rows.{phase, exchange, had, then, turnedExchange, 
 ghost use Rattle.exact.proofs.Words.{Proper, AllSmall};
 ghost use Rattle.exact.specs.Places.{read, held};
 ghost use Rattle.places.specs.Places.{places, Kept, Blank};
-ghost use Rattle.matrix.specs.Step.{Holds, Ready, Stepped, TurnsRows, Controlled};
+ghost use Rattle.matrix.specs.Step.{Holds, AllZero, Ready, Stepped, TurnsRows, Controlled};
 use circuit::LibraryGate;
 use cyclotomic::Coefficient;
 use cyclotomic::Cyclotomic;
@@ -28,12 +28,12 @@ pub enum Applied {
     DoesNotFit,
 }
 
-// The identity of width n, put into places that are all 0: 1 at the diagonal's places.
-pub fn put_identity(m: &mut [Coefficient; 4096], n: usize)
-    requires { ⌜ now m ≡ replicate places (pos 0) ⌝ }
+// 1 at the diagonal's places of a matrix of width n whose coefficients are all 0.
+fn put_ones(m: &mut [Coefficient; 4096], n: usize)
     requires { ⌜ n ≤ 5 ⌝ }
+    requires { ⌜ AllZero n (now m) ⌝ }
     ensures identity { λ _. ⌜ Holds n 0 (now (m .exit)) identity ⌝ }
-    ensures blank { λ _. ⌜ Blank n (now (m .exit)) ⌝ }
+    ensures kept { λ _. ⌜ Kept n (now (m .entry)) (now (m .exit)) ⌝ }
 {
     let d = places::dim(n);
     let mut i = 0;
@@ -43,7 +43,43 @@ pub fn put_identity(m: &mut [Coefficient; 4096], n: usize)
     }
 }
 
-// The same by value.
+// 0 at the places of a matrix of width n.
+fn clear(m: &mut [Coefficient; 4096], n: usize)
+    requires { ⌜ length (now m) ≡ places ⌝ }
+    requires { ⌜ n ≤ 5 ⌝ }
+    ensures zero { λ _. ⌜ AllZero n (now (m .exit)) ⌝ }
+    ensures kept { λ _. ⌜ Kept n (now (m .entry)) (now (m .exit)) ⌝ }
+{
+    let size = 4 * places::area(n);
+    let mut i = 0;
+    while i < size {
+        m[i] = 0;
+        i += 1;
+    }
+}
+
+// The identity of width n, put into places that are all 0.
+pub fn put_identity(m: &mut [Coefficient; 4096], n: usize)
+    requires { ⌜ now m ≡ replicate places (pos 0) ⌝ }
+    requires { ⌜ n ≤ 5 ⌝ }
+    ensures identity { λ _. ⌜ Holds n 0 (now (m .exit)) identity ⌝ }
+    ensures blank { λ _. ⌜ Blank n (now (m .exit)) ⌝ }
+{
+    put_ones(m, n);
+}
+
+// The same in the places of a matrix of width n, whatever they hold: in lent places the others need not be set.
+pub fn set_identity(m: &mut [Coefficient; 4096], n: usize)
+    requires { ⌜ length (now m) ≡ places ⌝ }
+    requires { ⌜ n ≤ 5 ⌝ }
+    ensures identity { λ _. ⌜ Holds n 0 (now (m .exit)) identity ⌝ }
+    ensures kept { λ _. ⌜ Kept n (now (m .entry)) (now (m .exit)) ⌝ }
+{
+    clear(m, n);
+    put_ones(m, n);
+}
+
+// The identity of width n in places of its own.
 pub fn identity_data(n: usize) -> [Coefficient; 4096]
     requires { ⌜ n ≤ 5 ⌝ }
     ensures identity { λ r. ⌜ Holds n 0 r identity ⌝ }

@@ -1,28 +1,25 @@
 -- What a table finds, writes and answers, row by row, as the definitions have it. Assumes nothing.
 use mathlib.Core.Path.{_≡_, refl, sym, ap, _∙_}
-use mathlib.Core.Bool.{true, false}
-use mathlib.Core.List.{List, [], _∷_, _++_}
-use Prim.Native.Nat.{ℕ, _-_, _+_, _*_, _≤_, _<_}
+use mathlib.Core.List.{List, []}
+use Prim.Native.Nat.{ℕ, _-_, _+_, _≤_, _<_}
 use native.Mathlib.Omega.{arith}
 use borrow.Author.Tests.{lt-ltb, le-ltb, ltb-true, ltb-false, not-false}
-use lib.Dec.{ltb}
 use lib.ListN.{length, take, drop}
 use Rattle.walk.specs.Chains.{chainOf}
 use Rattle.walk.specs.Finds as finds
-use Rattle.walk.specs.Answers.{given, none, refused, Outcome, outcome, written, writeOf}
+use Rattle.walk.specs.Answers.{refused, Outcome, outcome, written, writeOf}
 use Rattle.synthesis_arena.specs.Chains.{toldCircuit}
 use Rattle.synthesis_arena.specs.declared.NodeCircuit.{NodeCircuit}
-use Rattle.refusal.specs.Told.{Reason, byRow, toldRefusal, toldCheck, numberOf, positionOf}
+use Rattle.refusal.specs.Told.{Reason, numberOf, positionOf}
 use Rattle.refusal.specs.declared.Refusal.{Refusal}
-use Rattle.refusal.specs.declared.Check.{Check}
 use Rattle.refusal.specs.declared.Check.the-variants as check
 use Rattle.refusal.proofs.Numbers.{Refuses}
 use Rattle.refusal.proofs.Numbers as n
-use Rattle.tables.specs.Checks.{Row, firstRow, Arrays}
-use Rattle.tables.specs.Tables.{Table, Query, recordRow, tableRows, countAt, partOf, nodeRow, nodeRows, findRows, foundIn, writeRows, writtenIn, synthesized}
-use Rattle.tables.proofs.Rows.{Numbered, first-none, first-some, firstRow-append}
+use Rattle.tables.specs.Checks.{firstRow, Arrays}
+use Rattle.tables.specs.Tables.{Table, Query, countAt, nodeRow, findRows, foundIn, writeRows, writtenIn, synthesized}
+use Rattle.tables.proofs.Rows.{first-none, first-some}
 use Rattle.tables.proofs.Accepted.{roomy}
-use Rattle.tables.proofs.Asked.{partFound, partAsked, good-table, find-refused, write-passed, write-refused, answer-refused, numbered-find}
+use Rattle.tables.proofs.Asked.{partAsked, good-table, find-refused, write-passed, write-refused, answer-refused}
 use Rattle.murm.specs.Entries.{askedOf}
 use Rattle.murm.specs.Work.{Writable, nodeWritten}
 

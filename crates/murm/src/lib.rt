@@ -409,7 +409,8 @@ fn find_any(
     if count == 0 {
         return Find::Nothing;
     }
-    find_part(
+    // taken apart and made anew: handed on as it lies in memory, the answer makes the caller wait (docs/SPEED.md)
+    match find_part(
         by,
         table,
         fingerprints,
@@ -421,7 +422,11 @@ fn find_any(
         exponent,
         matrix,
         list,
-    )
+    ) {
+        Find::Node(k, m) => Find::Node(k, m),
+        Find::Nothing => Find::Nothing,
+        Find::BadChain => Find::BadChain,
+    }
 }
 
 // What is found for a matrix: a node, and how many gates its list has; none; or why it was refused.

@@ -1,85 +1,61 @@
--- The sizes that are tried for the parts of an index: 1, 2, 4, and so on, as long as Q parts of them are fewer places than there are. Assumes nothing.
-use mathlib.Core.Path.{_≡_, refl, sym, ap, _∙_, subst}
+-- The size of the parts of an index: the places divided by Q. Assumes nothing.
+use mathlib.Core.Path.{_≡_, refl, sym, ap, _∙_}
 use mathlib.Core.Bool.{Bool, true, false}
-use mathlib.Core.Logic.{_⊎_, inl, inr}
-use Prim.Native.Nat.{ℕ, zero, suc, _+_, _*_, _^_, _≤_, _<_}
-use native.Mathlib.Nat.{mul-le-mul-left, mul-assoc, pow-suc, eq-or-lt-of-le}
+use Prim.Native.Nat.{ℕ, suc, _+_, _*_, _/_, _%_, _^_, _-_, _≤_, _<_}
+use native.Mathlib.Nat.{mul-comm, div-add-mod'}
 use native.Mathlib.Omega.{arith}
 use borrow.Author.Tests.{leb-true, leb-false}
+use lib.Arith.{digits-div, digits-mod}
+use lib.Bits.{bitAnd, and-mask}
 use lib.Dec.{leb}
-use lib.Pow.{pow-mono, pow-pos}
-use Rattle.walk.proofs.Sequences.{lt-or}
+use lib.Pow.{pow-pos}
+use Rattle.ints.proofs.Powers.{power-of-two}
 use Rattle.tables.specs.Checks.{Limits, inParts}
 use Rattle.tables.specs.Exactly.{InParts}
 use Rattle.tables.proofs.InWords.{in-parts-from, not-in-parts}
 
--- q parts of half the size are too few places, and of fewer too; the size is a power of two, and small
-pub record Tried (q places size : ℕ) : Type 0 where
-  pub power : ℕ
-  pub is : size ≡ 2 ^ power
-  pub below : (j : ℕ) → j < power → q * 2 ^ j < places
-  pub small : q * size < 4611686018427387904
+-- a power of two has no bit in common with the number before
+power-one : (k : ℕ) → bitAnd (2 ^ k) (2 ^ k - 1) ≡ 0
+power-one k =
+    let e : 2 ^ k ≡ 1 * 2 ^ k + 0 = omega arith in
+    and-mask (2 ^ k) k ∙ ap (λ (z : ℕ). z % 2 ^ k) e ∙ digits-mod 1 (pow-pos k)
 
-pub tried-none : (q places : ℕ) → q ≤ 5 → Tried q places 1
-tried-none q places h = record { power = 0; is = refl; below = λ j p. absurd (omega arith); small = omega arith }
+-- q parts are no more than the places
+pub within : (q places : ℕ) → q * (places / q) ≤ places
+within q places = omega (arith, div-add-mod' places q, mul-comm q (places / q))
 
 -- a size is no more than q of them
-pub one-of : (q size : ℕ) → 0 < q → size ≤ q * size
+one-of : (q size : ℕ) → 0 < q → size ≤ q * size
 one-of (suc q) size h = omega arith
 
-pub tried-more : {q places size : ℕ} → Tried q places size → q * size < places → places < 2305843009213693952 → Tried q places (size * 2)
-tried-more {q} {places} {size} w h b = record {
-  power = suc (w .power);
-  is = ap (λ (z : ℕ). z * 2) (w .is) ∙ sym (pow-suc 2 (w .power));
-  below = λ j p. by j (lt-or j (w .power)) p;
-  small = omega (arith, double);
-}
-  where
-    double : q * (size * 2) ≡ q * size * 2
-    double = sym (mul-assoc q size 2)
+module _ (l : Limits) (places : ℕ) (some : 0 < l .qubits) where
+  -- the size of such parts
+  only : (p : InParts l places) → places / l .qubits ≡ 2 ^ p .power
+  only p =
+      let e : places ≡ 2 ^ p .power * l .qubits + 0 = omega (arith, p .in-all, mul-comm (l .qubits) (2 ^ p .power)) in
+      ap (λ (z : ℕ). z / l .qubits) e ∙ digits-div (2 ^ p .power) some
 
-    by : (j : ℕ) → (j < w .power) ⊎ (w .power ≤ j) → j < suc (w .power) → q * 2 ^ j < places
-    by j (inl l) p = w .below j l
-    by j (inr l) p =
-        let e : j ≡ w .power = omega arith in
-        subst (λ (z : ℕ). z < places) (ap (λ (z : ℕ). q * z) (w .is) ∙ ap (λ (z : ℕ). q * 2 ^ z) (sym e)) h
+  -- some places are left over
+  pub left-over : (l .qubits * (places / l .qubits) ≡ places → ⊥) → false ≡ inParts l places
+  left-over h = sym (not-in-parts l places (λ p. h (ap (λ (z : ℕ). l .qubits * z) (only p) ∙ sym (p .in-all))))
 
--- ---- once they are not fewer
+  pub no-places : places / l .qubits ≡ 0 → false ≡ inParts l places
+  no-places h = sym (not-in-parts l places (λ p. omega (arith, h, only p, pow-pos (p .power))))
 
-module _ (l : Limits) {places size : ℕ} (some : 0 < l .qubits) (w : Tried (l .qubits) places size) (all : places ≤ l .qubits * size) where
-  -- the power of such parts is that of the size
-  only : (p : InParts l places) → p .power ≡ w .power
-  only p = by (lt-or (p .power) (w .power))
+  pub no-power : (bitAnd (places / l .qubits) (places / l .qubits - 1) ≡ 0 → ⊥) → false ≡ inParts l places
+  no-power h = sym (not-in-parts l places (λ p. h (ap (λ (z : ℕ). bitAnd z (z - 1)) (only p) ∙ power-one (p .power))))
+
+  -- a power of two decides by how large it is
+  pub parts : {size : ℕ} → size ≡ places / l .qubits → l .qubits * size ≡ places → 0 < size → bitAnd size (size - 1) ≡ 0 → leb (2 * l .entries) size ≡ inParts l places
+  parts {size} s e h o = by (leb (2 * l .entries) size) refl
     where
-      by : (p .power < w .power) ⊎ (w .power ≤ p .power) → p .power ≡ w .power
-      by (inl h) = absurd (omega (arith, w .below (p .power) h, p .in-all))
-      by (inr h) = at (eq-or-lt-of-le h)
-        where
-          at : (w .power ≡ p .power) ⊎ (w .power < p .power) → p .power ≡ w .power
-          at (inl e) = sym e
-          at (inr less) =
-              let m : l .qubits * 2 ^ suc (w .power) ≤ l .qubits * 2 ^ p .power = mul-le-mul-left (l .qubits) (pow-mono {i = suc (w .power)} {j = p .power} less) in
-              let d : l .qubits * 2 ^ suc (w .power) ≡ l .qubits * size * 2 =
-              ap (λ (z : ℕ). l .qubits * z) (pow-suc 2 (w .power) ∙ ap (λ (z : ℕ). z * 2) (sym (w .is))) ∙ sym (mul-assoc (l .qubits) size 2) in
-              absurd (omega (arith, p .some, p .in-all, all, m, d))
-
-  pub not-parts : (l .qubits * size ≡ places → ⊥) → false ≡ inParts l places
-  not-parts h = sym (not-in-parts l places (λ p. h (ap (λ (z : ℕ). l .qubits * z) (w .is ∙ ap (λ (z : ℕ). 2 ^ z) (sym (only p))) ∙ sym (p .in-all))))
-
-  module _ (e : l .qubits * size ≡ places) where
-    -- then the size decides
-    pub parts : leb (2 * l .entries) size ≡ inParts l places
-    parts = by (leb (2 * l .entries) size) refl
-      where
-        by : (b : Bool) → leb (2 * l .entries) size ≡ b → b ≡ inParts l places
-        by true t =
-            let h = leb-true (2 * l .entries) size t in
-            sym (in-parts-from l places (record {
-              some = omega (arith, one-of (l .qubits) size some, w .is, pow-pos (w .power), e);
-              power = w .power;
-              in-all = sym e ∙ ap (λ (z : ℕ). l .qubits * z) (w .is);
-              large = omega (arith, h, w .is);
-            }))
-        by false t =
-            let h = leb-false (2 * l .entries) size t in
-            sym (not-in-parts l places (λ p. absurd (omega (arith, h, p .large, w .is, ap (λ (z : ℕ). 2 ^ z) (only p)))))
+      by : (b : Bool) → leb (2 * l .entries) size ≡ b → b ≡ inParts l places
+      by true t =
+          let (k, z) = power-of-two size h o in
+          sym (in-parts-from l places (record {
+            some = omega (arith, one-of (l .qubits) size some, h, e);
+            power = k;
+            in-all = sym e ∙ ap (λ (w : ℕ). l .qubits * w) z;
+            large = omega (arith, leb-true (2 * l .entries) size t, z);
+          }))
+      by false t = sym (not-in-parts l places (λ p. omega (arith, leb-false (2 * l .entries) size t, p .large, s, only p)))

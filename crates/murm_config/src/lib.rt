@@ -78,18 +78,22 @@ pub fn too_short(config: MurmConfig, prints: usize, parents: usize, codes: usize
 }
 
 // Whether an index of so many places is one part for each width up to Q, all of one size, a power of two and at least twice E (SPECIFICATION
-// 7.16). Nothing is divided. The bound is that of any slice of 32-bit places.
+// 7.16). A power of two has no bit in common with the number before it, and any other number above 0 has one. The bound is that of any slice of 32-bit places.
 fn in_parts(config: MurmConfig, places: usize) -> bool
     requires { ⌜ (0 < config .«max_qubits») × (config .«max_qubits» ≤ 5) × (config .«max_entries_per_qubit» ≤ 1000000) × (places < 2305843009213693952) ⌝ }
     ensures { λ r. ⌜ r ≡ inParts (toldConfig config) places ⌝ }
 {
     let q = config.max_qubits as usize;
     let e = config.max_entries_per_qubit as usize;
-    let mut size = 1;
-    while q * size < places {
-        size *= 2;
-    }
+    let size = places / q;
     if q * size != places {
+        return false;
+    }
+    if size == 0 {
+        return false;
+    }
+    let last = size as u64 - 1;
+    if size as u64 & last != 0 {
         return false;
     }
     size >= 2 * e

@@ -18,7 +18,6 @@ use Rattle.walk.specs.Index.{By, lookedUp, keptUp, kept}
 use Rattle.walk.specs.Modes.{Mode}
 use Rattle.walk.specs.Finds.{Part, partWith}
 use Rattle.walk.specs.Walk.{Node, State, any, root, gate, listAt, prod, pruned, knows, candidate, skipped, child, try}
-use Rattle.walk.proofs.Grown.{parentAt}
 use Rattle.walk.specs.AtWidth.{printOf}
 use Rattle.walk.proofs.Laws.{fitsBy}
 use Rattle.walk.proofs.Grown.{Link}
@@ -67,12 +66,9 @@ module _ {mode : Mode} {by : By} {lim : WidthLimits} {f u c i : List ℕ} {count
     codes = column-at (h .columns .gates) (h .columns .count-is);
   }
 
-  -- a node's gate and parent, by the arrays
+  -- a node's gate, by the array
   pub gate-at : (j : ℕ) → j < count → getD c j 0 ≡ gate (getD (h .ns) j root)
   gate-at j l = column-at (h .columns .gates) (h .columns .count-is) j (omega (arith, h .columns .count-is))
-
-  pub parent-at : (j : ℕ) → j < count → getD u j 0 ≡ parentAt (h .ns) j
-  parent-at j l = column-at (h .columns .parents) (h .columns .count-is) j (omega (arith, h .columns .count-is))
 
   pub pruned-is : (g j : ℕ) → j < count → prunedAt c j g ≡ pruned (rules mode lim) g (listAt (h .ns) j)
   pruned-is g zero l = sym (ap (λ (v : Node). pruned (rules mode lim) g (v .list)) (first (rules mode lim) (h .grown) .1))

@@ -2,11 +2,16 @@
 // 6.5, 6.7, 6.8). The order of the tests matters: whether a candidate is known is asked before the count is held against the entry limit, so that a
 // full width is saturated only by a candidate that it lacks.
 ghost use mathlib.Core.Path.{_≡_};
+ghost use mathlib.Core.Bool.{true};
 ghost use Prim.Native.Nat.{_<_};
 ghost use lib.ListN.{length};
+ghost use Rattle.circuit.specs.Codes.{valid};
+ghost use Rattle.exact.specs.Rows.{act, gateOf};
+ghost use Rattle.exact.specs.Fits.{stepFits};
 ghost use Rattle.exact.specs.Places.{held};
+ghost use Rattle.places.specs.Places.{places};
+ghost use Rattle.matrix.specs.Step.{Ready};
 ghost use Rattle.index.specs.Told.{toldBy};
-ghost use Rattle.width_answer.specs.Answers.{AskedPlaces};
 ghost use Rattle.known.specs.Known.{toldMode};
 ghost use Rattle.next_node.specs.Arrays.{Room};
 ghost use Rattle.next_node.specs.Append.{RootPut, prunedAt, Appended};
@@ -63,7 +68,8 @@ pub fn is_pruned(node: usize, gate: u32, codes: &[u32]) -> bool
     gate < last
 }
 
-// A candidate that fits, by its fingerprint and its matrix: a known one is skipped, an unknown one is appended, or saturates a width that is full.
+// A candidate that fits, the gate after the node, by its fingerprint and the node's matrix m: a known one is skipped, an unknown one is appended, or
+// saturates a width that is full. Two matrices may be formed in lent places; what they hold afterwards is not told.
 pub fn append(
     mode: BuildMode,
     by: LookupBy,
@@ -77,13 +83,19 @@ pub fn append(
     parents: &mut [u32],
     codes: &mut [u32],
     index: &mut [u32],
-    candidate: &[Coefficient],
+    m: &[Coefficient],
+    left: &mut [Coefficient; 4096],
+    right: &mut [Coefficient; 4096],
 ) -> Tried
     requires room { ⌜ Room (toldBy by) limits count node (now fingerprints) (now parents) (now codes) (now index) ⌝ }
-    requires asked { ⌜ AskedPlaces (limits .width) (now candidate) ⌝ }
-    ensures appended { λ r. ⌜ Appended (toldMode mode) (toldBy by) limits count node gate print (held (limits .width) exponent (now (candidate .entry)))
+    requires ready { ⌜ Ready (limits .width) exponent (now m) ⌝ }
+    requires gate { ⌜ (valid (limits .width) gate ≡ true) × (stepFits (limits .width) (gateOf (limits .width) gate) (held (limits .width) exponent (now m)) ≡ true) ⌝ }
+    requires long { ⌜ (length (now left) ≡ places) × (length (now right) ≡ places) ⌝ }
+    ensures appended { λ r. ⌜ Appended (toldMode mode) (toldBy by) limits count node gate print
+        (act (limits .width) (gateOf (limits .width) gate) (held (limits .width) exponent (now (m .entry))))
         (now (fingerprints .entry)) (now (parents .entry)) (now (codes .entry)) (now (index .entry))
         (now (fingerprints .exit)) (now (parents .exit)) (now (codes .exit)) (now (index .exit)) r ⌝ }
+    ensures long { λ _. ⌜ (length (now (left .exit)) ≡ places) × (length (now (right .exit)) ≡ places) ⌝ }
 {
     let entries = limits.entries;
     if known::is_known(
@@ -92,12 +104,15 @@ pub fn append(
         limits,
         count,
         print,
+        gate,
         exponent,
         fingerprints,
         parents,
         codes,
         index,
-        candidate,
+        m,
+        left,
+        right,
     ) {
         return Tried {
             count,

@@ -17,15 +17,13 @@ use Rattle.exact.proofs.Answered.{isGiven, number}
 use Rattle.exact.proofs.Coded.{proper}
 use Rattle.exact.proofs.Keeps.{step-equal, act-equal'}
 use Rattle.exact.proofs.Prints.{fingerprint-equal}
-use Rattle.exact.proofs.Values.{equal-trans}
 use Rattle.exact.specs.Places.{held}
 use Rattle.matrix.specs.Step.{Holds}
 use Rattle.matrix.specs.declared.Applied.{Applied}
 use Rattle.matrix.specs.declared.Applied.the-variants as a
 use Rattle.matrix.specs.declared.Applied.the-variants.{Done}
-use Rattle.node_matrix.specs.declared.Candidate.{Candidate}
 use Rattle.node_matrix.specs.declared.Candidate.the-variants.{Print, DoesNotFit}
-use Rattle.node_matrix.specs.Matrices.{printAfter, OnCopy, LeftIn, FormedAs}
+use Rattle.node_matrix.specs.Matrices.{printAfter, OnCopy, FormedAs}
 
 module _ (n g : ℕ) (x : Exact) where
   pub given-print : {f : ℕ} → stepFits n (gateOf n g) x ≡ true → f ≡ fingerprint n (act n (gateOf n g) x) → given f ≡ printAfter n g x
@@ -70,10 +68,3 @@ module _ (n g : ℕ) (x : Exact) (l : List ℤ) where
 
   pub formed-print : {k f : ℕ} → (stepFits n (gateOf n g) x ≡ true) × Holds n k l (act n (gateOf n g) x) → f ≡ fingerprint n (held n k l) → FormedAs n g x l (Print f k)
   formed-print w e = record { print = given-print n g x (w .0) (e ∙ fingerprint-equal n (w .1 .equal)); left = w .1 }
-
--- what a candidate that fits left in the places, by the case told; and the same after an equal matrix
-pub left-holds : (n g : ℕ) (x : Exact) (l : List ℤ) {r : Candidate} {f k : ℕ} → r ≡ Print f k → LeftIn n g x l r → Holds n k l (act n (gateOf n g) x)
-left-holds n g x l e w = subst (LeftIn n g x l) e w
-
-pub left-equal : (n g : ℕ) {k : ℕ} (x : Exact) {y : Exact} {l : List ℤ} → Holds n k l (act n (gateOf n g) x) → Equal n x y → Equal n (held n k l) (act n (gateOf n g) y)
-left-equal n g x w e = equal-trans n (w .equal) (act-equal' n (gateOf n g) e (proper n g))

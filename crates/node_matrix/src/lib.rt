@@ -105,8 +105,8 @@ fn copy_matrix(n: usize, from: &[Coefficient], to: &mut [Coefficient])
     }
 }
 
-// A gate applied to a copy of a matrix.
-fn apply_to_copy(
+// A gate applied to a copy of a matrix: the exponent of the result, which is then in `copy`, or that the step does not fit.
+pub fn apply_to_copy(
     n: usize,
     gate: u32,
     exponent: u16,
@@ -126,7 +126,7 @@ fn apply_to_copy(
 
 // One candidate: the fingerprint of a matrix after a gate, or that the step does not fit. The gate is applied to a copy in `scratch`, which then holds
 // the candidate's matrix.
-pub fn candidate_print(
+fn candidate_print(
     n: usize,
     gate: u32,
     exponent: u16,

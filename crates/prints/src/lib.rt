@@ -1,10 +1,11 @@
 // The phase of a matrix, equality up to phase, and the fingerprint. matrix.rs of the original: `canonical_phase_power` (here `least_power` of
-// the pivot), `equivalent_up_to_global_phase`, `unitary_fingerprint`. Entries are turned one by one as they are read, and nothing is copied. The
-// fingerprints of two matrices can be worked together.
+// the pivot), `equivalent_up_to_global_phase`, `unitary_fingerprint`. Entries are turned as they are read, and no matrix is copied. The fingerprints of two
+// matrices can be worked together.
 ghost use mathlib.Core.Path.{_≡_};
 ghost use Prim.Native.Nat.{_*_, _^_, _<_, _≤_};
 ghost use lib.ListN.{length};
 ghost use Rattle.cyclotomic.specs.Zomega.{phase, Small, turn};
+ghost use Rattle.cyclotomic.specs.Eights.{OfEight, readAt};
 ghost use Rattle.exact.specs.Places.{entry, read, held};
 ghost use Rattle.exact.proofs.Words.{AllSmall};
 ghost use Rattle.exact.specs.Phase.{pivot, upToPhase};
@@ -12,6 +13,7 @@ ghost use Rattle.exact.specs.Fingerprint.{start, mix, mixAll, fold, fourWords, 
 ghost use Rattle.prints.specs.Prints.{FirstNonzero, SmallTo, streams};
 use cyclotomic::Coefficient;
 use cyclotomic::Cyclotomic;
+use cyclotomic::TurnPlaces;
 
 // The place of the first of the entries that is not zero; their number if all are.
 fn first_nonzero(m: &[Coefficient], size: usize) -> usize
@@ -126,6 +128,21 @@ impl Streams {
         c.mix(words::sign_extended(z.d))
     }
 
+    // An entry is mixed in, turned: four of its eight coefficients are read, at the places of the turn.
+    fn mix_eight(self, x: &[Coefficient; 8], t: TurnPlaces) -> Streams
+        requires { ⌜ OfEight t ⌝ }
+        ensures { λ r. ⌜ streams r ≡ mixAll (streams self) (fourWords (readAt (now (x .entry)) t)) ⌝ }
+    {
+        let i = t.a;
+        let j = t.b;
+        let k = t.c;
+        let l = t.d;
+        let a = self.mix(words::sign_extended(x[i]));
+        let b = a.mix(words::sign_extended(x[j]));
+        let c = b.mix(words::sign_extended(x[k]));
+        c.mix(words::sign_extended(x[l]))
+    }
+
     fn fold(self) -> u64
         ensures { λ r. ⌜ r ≡ fold (streams self) ⌝ }
     {
@@ -180,7 +197,9 @@ pub struct Pair {
 }
 
 // The fingerprints of two matrices of width n, over sqrt(2)^j and sqrt(2)^k, entry by entry in turns. A step of a stream waits for the step before
-// it, and not for the other matrix's: two take little longer than one.
+// it, and not for the other matrix's: two take little longer than one. Each matrix's turns are worked once, on places: where two are mixed this is
+// faster than to turn each entry, where one is mixed it is slower. Both eights are made before either is mixed, since the compiler would otherwise
+// give them one place in memory, which is slower (docs/PAIRS.md has the times).
 pub fn pair_fingerprints(
     left: &[Coefficient],
     right: &[Coefficient],
@@ -197,12 +216,16 @@ pub fn pair_fingerprints(
     let p = least_power(pivot(left, n));
     let q = least_power(pivot(right, n));
     let size = places::area(n);
+    let u = cyclotomic::turn_places(p);
+    let v = cyclotomic::turn_places(q);
     let mut s = head(n, j);
     let mut t = head(n, k);
     let mut e = 0;
     while e < size {
-        s = s.mix_entry(places::get(left, e).times_omega(p));
-        t = t.mix_entry(places::get(right, e).times_omega(q));
+        let x = places::get(left, e).eight();
+        let y = places::get(right, e).eight();
+        s = s.mix_eight(&x, u);
+        t = t.mix_eight(&y, v);
         e += 1;
     }
     Pair {

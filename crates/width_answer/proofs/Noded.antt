@@ -13,8 +13,8 @@ use Rattle.walk.specs.Chains.{Chain, good, chainOf}
 use Rattle.synthesis_arena.specs.declared.NodeCircuit.{NodeCircuit}
 use Rattle.synthesis_arena.specs.declared.NodeCircuit.the-variants.{Length, Bad}
 use Rattle.synthesis_arena.proofs.Told.{circuit-read, circuit-refused}
-use Rattle.walk.specs.Finds.{rechecked, Finding, node, none, refused, byChain}
-use Rattle.walk.specs.Answers.{given, Outcome, outcome, written, thenWrite}
+use Rattle.walk.specs.Finds.{rechecked, node, none, refused, byChain}
+use Rattle.walk.specs.Answers.{given, outcome, written}
 use Rattle.width_answer.specs.Answers.{copied, NodeFound}
 use Rattle.circuit.proofs.Coded.{basis-valid}
 

@@ -1,11 +1,10 @@
 -- The recheck of a list, by how its steps went and by what the places hold. Assumes nothing.
 use mathlib.Core.Path.{_≡_, refl, sym, ap, _∙_}
-use mathlib.Core.Bool.{Bool, true, false, _&&_}
+use mathlib.Core.Bool.{Bool, false}
 use mathlib.Core.List.{List}
-use mathlib.Core.Logic.{_↔_}
 use Prim.Native.Nat.{ℕ}
 use lib.IntN.{ℤ}
-use Rattle.ints.proofs.Bools.{clash, iff, both-true, and-both}
+use Rattle.ints.proofs.Bools.{clash, iff}
 use Rattle.exact.specs.Matrix.{Exact}
 use Rattle.exact.proofs.Words.{Equal}
 use Rattle.exact.specs.Lists.{product}
@@ -17,7 +16,7 @@ use Rattle.exact.proofs.Phases.{up-trans, phased-test, phased-equal}
 use Rattle.exact.proofs.Values.{equal-sym}
 use Rattle.exact.specs.Places.{held}
 use Rattle.lists.specs.Walk.{HoldsProduct}
-use Rattle.walk.specs.Finds.{fitsAll, rechecked}
+use Rattle.walk.specs.Finds.{rechecked}
 
 -- ---- the test says the same of equal matrices
 

@@ -2,7 +2,7 @@
 use mathlib.Core.Path.{_≡_, refl, sym, ap, _∙_, subst}
 use mathlib.Core.Bool.{Bool, true, false}
 use mathlib.Core.List.{List, [], _++_}
-use Prim.Native.Nat.{ℕ, suc, _+_, _≤_, _<_, _-_}
+use Prim.Native.Nat.{ℕ, zero, suc, _+_, _≤_, _<_, _-_}
 use native.Mathlib.Omega.{arith}
 use lib.ListN.{length, take, drop, length-take, length-append}
 use lib.Seq.{length-take-le}
@@ -14,7 +14,9 @@ use Rattle.synthesis_arena.specs.declared.Found.the-variants.{At, NotFound}
 use Rattle.ints.specs.Lists.{pick}
 use Rattle.ints.proofs.Bools.{clash}
 use Rattle.walk.specs.Chains.{Chain, good, bad}
-use Rattle.walk.specs.Finds.{WidthLimits, Part, Finding, node, none, refused, rechecked, chainAt, byChain, byLookup, lookedIn, findFrom, findBy, findOf}
+use Rattle.walk.specs.Finds.{WidthLimits, Part, Finding, node, none, refused, rechecked, chainAt, byChain, byLookup, lookedIn, findFrom, findBy}
+use Rattle.walk.specs.Lookup.{found}
+use Rattle.walk.specs.Lookup as lookup
 use Rattle.walk.proofs.Indexed.{looked-node}
 use Rattle.walk.specs.Answers.{outcome, writeOf, thenWrite, answerOf}
 use Rattle.walk.specs.Answers as a
@@ -47,53 +49,67 @@ goes-on n x k rest (good l) h = by (rechecked n l x) h
     by false h = refl
 
 module _ (limits : WidthLimits) (part : Part) (y : ℕ) (x : Exact) where
-  -- what is left of the search finds what the whole finds
-  pub record Searching (from left : ℕ) : Type 0 where
+  -- what is left of the search, from some place on that leads to node k, finds what the whole finds
+  pub record Searching (k left : ℕ) : Type 0 where
+    pub from : ℕ
+    pub looked : lookedIn part from y ≡ found k
     pub rest : findFrom limits part y x left from ≡ findBy limits part y x
 
-  pub search-start : Searching 0 (part .count)
+  pub search-start : {k : ℕ} → lookedIn part 0 y ≡ found k → Searching k (part .count)
   unfolding findBy
-  search-start = record { rest = refl }
+  search-start e = record { from = 0; looked = e; rest = refl }
 
-  -- no turn is left
-  pub search-done : {from left : ℕ} → Searching from left → left ≡ 0 → (list : List ℕ) → PrintFound limits part y x none list
+  -- where the look-up leads to no node, nothing more is found
+  no-more : (m from : ℕ) → lookedIn part from y ≡ lookup.none → none ≡ findFrom limits part y x m from
   unfolding findFrom
-  search-done {from} s e list = record { is = ap (λ (m : ℕ). findFrom limits part y x m from) (sym e) ∙ s .rest; copies = λ out. refl }
+  no-more zero from e = refl
+  no-more (suc m) from e = ap (byLookup limits part x (λ next. findFrom limits part y x m next)) (sym e)
 
-  -- one turn, by what the look-up told
-  module _ {from left : ℕ} (s : Searching from left) (some : 0 < left) {r : Found} (told : toldFound r ≡ lookedIn part from y) where
-    turned : {f : Found} → r ≡ f → byLookup limits part x (λ next. findFrom limits part y x (left - 1) next) (toldFound f) ≡ findBy limits part y x
+  -- the first look-up finds none
+  pub search-miss : {r : Found} → toldFound r ≡ lookedIn part 0 y → r ≡ NotFound → (list : List ℕ) → PrintFound limits part y x none list
+  unfolding findBy
+  search-miss told e list = record { is = no-more (part .count) 0 (sym told ∙ ap toldFound e); copies = λ out. refl }
+
+  -- one turn, at the node that was looked up
+  module _ {k left : ℕ} (s : Searching k left) where
+    pub search-below : k < part .count
+    search-below = looked-node (part .by) (part .index) (part .fingerprints) (part .count) (s .from) y k (s .looked) .below
+
+    -- no turn is left
+    pub search-done : left ≡ 0 → (list : List ℕ) → PrintFound limits part y x none list
     unfolding findFrom
-    turned e =
-        let z : suc (left - 1) ≡ left = omega (arith, some) in
-        ap (byLookup limits part x (λ next. findFrom limits part y x (left - 1) next)) (sym (ap toldFound e) ∙ told)
-        ∙ ap (λ (m : ℕ). findFrom limits part y x m from) z ∙ s .rest
+    search-done e list = record { is = ap (λ (m : ℕ). findFrom limits part y x m (s .from)) (sym e) ∙ s .rest; copies = λ out. refl }
 
-    pub search-none : r ≡ NotFound → (list : List ℕ) → PrintFound limits part y x none list
-    search-none e list = record { is = turned e; copies = λ out. refl }
+    module _ (some : 0 < left) {g : Finding} {list : List ℕ} (w : NodeFound (limits .width) x (chainAt limits part) k g list) where
+      turned : byLookup limits part x (λ next. findFrom limits part y x (left - 1) next) (found k) ≡ findBy limits part y x
+      unfolding findFrom
+      turned =
+          let z : suc (left - 1) ≡ left = omega (arith, some) in
+          ap (byLookup limits part x (λ next. findFrom limits part y x (left - 1) next)) (sym (s .looked))
+          ∙ ap (λ (m : ℕ). findFrom limits part y x m (s .from)) z ∙ s .rest
 
-    pub search-below : {k : ℕ} → r ≡ At k → k < part .count
-    search-below {k} e = looked-node (part .by) (part .index) (part .fingerprints) (part .count) from y k (sym told ∙ ap toldFound e) .below
+      -- the node ends the search
+      pub search-ends : isNone g ≡ false → PrintFound limits part y x g list
+      unfolding writeOf
+      search-ends n = record {
+        is = w .is ∙ ends (limits .width) x k _ (chainAt limits part k) (sym (ap isNone (w .is)) ∙ n) ∙ turned;
+        copies = w .copies;
+      }
 
-    -- the node ends the search
-    pub search-ends : {k : ℕ} → r ≡ At k → {g : Finding} {list : List ℕ} → NodeFound (limits .width) x (chainAt limits part) k g list → isNone g ≡ false
-        → PrintFound limits part y x g list
-    unfolding writeOf
-    search-ends {k} e {g} w n = record {
-      is = w .is ∙ ends (limits .width) x k _ (chainAt limits part k) (sym (ap isNone (w .is)) ∙ n) ∙ turned e;
-      copies = w .copies;
-    }
+      -- or is passed
+      passed : g ≡ none → findFrom limits part y x (left - 1) (k + 1) ≡ findBy limits part y x
+      passed n =
+          let z : k + 1 ≡ suc k = omega arith in
+          ap (findFrom limits part y x (left - 1)) z
+          ∙ sym (goes-on (limits .width) x k (findFrom limits part y x (left - 1) (suc k)) (chainAt limits part k) (sym (w .is) ∙ n)) ∙ turned
 
-    -- or is passed
-    pub search-on : {k : ℕ} → r ≡ At k → {g : Finding} {list : List ℕ} → NodeFound (limits .width) x (chainAt limits part) k g list → g ≡ none
-        → Searching (k + 1) (left - 1)
-    search-on {k} e w n =
-        let z : k + 1 ≡ suc k = omega arith in
-        record {
-          rest =
-              ap (findFrom limits part y x (left - 1)) z
-              ∙ sym (goes-on (limits .width) x k (findFrom limits part y x (left - 1) (suc k)) (chainAt limits part k) (sym (w .is) ∙ n)) ∙ turned e;
-        }
+      -- and the look-up past it tells the next node, or that there is none
+      module _ (n : g ≡ none) {r : Found} (told : toldFound r ≡ lookedIn part (k + 1) y) where
+        pub search-none : r ≡ NotFound → (after : List ℕ) → PrintFound limits part y x none after
+        search-none e after = record { is = no-more (left - 1) (k + 1) (sym told ∙ ap toldFound e) ∙ passed n; copies = λ out. refl }
+
+        pub search-on : {j : ℕ} → r ≡ At j → Searching j (left - 1)
+        search-on e = record { from = k + 1; looked = sym told ∙ ap toldFound e; rest = passed n }
 
 -- by the case that the answer is
 pub as-told : {n : ℕ} {x : Exact} {chain : ℕ → Chain} {k : ℕ} {list : List ℕ} {r s : Find} → r ≡ s → NodeFound n x chain k (toldFind r) list

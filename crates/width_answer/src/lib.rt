@@ -10,7 +10,11 @@ ghost use Rattle.circuit.specs.Codes.{valid};
 ghost use Rattle.exact.specs.Places.{held};
 ghost use Rattle.walk.specs.Chains.{chainOf};
 ghost use Rattle.width_answer.specs.Answers.{AskedPlaces, toldFind, NodeFound, PrintFound, ListFound};
-ghost use Rattle.walk.specs.Finds.{partWith, rechecked};
+ghost use Rattle.exact.specs.Matrix.{identity};
+ghost use Rattle.places.specs.Places.{places};
+ghost use Rattle.matrix.specs.Step.{Holds};
+ghost use Rattle.walk.specs.Lookup.{found};
+ghost use Rattle.walk.specs.Finds.{partWith, rechecked, lookedIn};
 ghost use Rattle.index.specs.Told.{toldBy};
 ghost use Rattle.synthesis_arena.specs.Limits.{toldLimits};
 use circuit::GateSet;
@@ -28,18 +32,24 @@ pub enum Find {
     BadChain,
 }
 
-// The recheck: the product of the list is formed from the identity; whether every step fits, and it is equal up to phase to the matrix asked
-// (SPECIFICATION 7.6).
-pub fn recheck(codes: &[u32], n: usize, exponent: u16, query: &[Coefficient]) -> bool
+// The recheck: the product of the list is formed from the identity in lent places; whether every step fits, and it is equal up to phase to the matrix
+// asked (SPECIFICATION 7.6). What the places hold afterwards is not told.
+pub fn recheck(
+    codes: &[u32],
+    n: usize,
+    exponent: u16,
+    query: &[Coefficient],
+    scratch: &mut [Coefficient; 4096],
+) -> bool
     requires { ⌜ n ≤ 5 ⌝ }
     requires { ⌜ all (valid n) (now codes) ≡ true ⌝ }
     requires { ⌜ AskedPlaces n (now query) ⌝ }
-    ensures { λ r. ⌜ r ≡ rechecked n (now (codes .entry)) (held n exponent (now (query .entry))) ⌝ }
+    requires { ⌜ Holds n 0 (now scratch) identity ⌝ }
+    ensures passes { λ r. ⌜ r ≡ rechecked n (now (codes .entry)) (held n exponent (now (query .entry))) ⌝ }
+    ensures long { λ _. ⌜ length (now (scratch .exit)) ≡ places ⌝ }
 {
-    let mut data: [Coefficient; 4096] = [0; 4096];
-    matrix::put_identity(&mut data, n);
-    match lists::apply_gates(&mut data, n, codes) {
-        Walked::Fits(k) => prints::equivalent_up_to_global_phase(&data, query, n, k, exponent),
+    match lists::apply_gates(scratch, n, codes) {
+        Walked::Fits(k) => prints::equivalent_up_to_global_phase(scratch, query, n, k, exponent),
         Walked::UnfitAt(_) => false,
     }
 }
@@ -56,7 +66,7 @@ pub fn copy_codes(to: &mut [u32], from: &[u32])
     }
 }
 
-// What one node is to the matrix asked. Its list is read into the first places of `list`.
+// What one node is to the matrix asked. Its list is read into the first places of `list`, and its product formed in `scratch`.
 fn find_node(
     limits: WidthLimits,
     node: usize,
@@ -65,12 +75,15 @@ fn find_node(
     codes: &[u32],
     query: &[Coefficient],
     list: &mut [u32],
+    scratch: &mut [Coefficient; 4096],
 ) -> Find
     requires { ⌜ (limits .width ≤ 5) × (limits .gates ≤ length (now list)) ⌝ }
     requires { ⌜ (node < length (now parents)) × (node < length (now codes)) ⌝ }
     requires { ⌜ AskedPlaces (limits .width) (now query) ⌝ }
-    ensures { λ r. ⌜ NodeFound (limits .width) (held (limits .width) exponent (now (query .entry)))
+    requires { ⌜ Holds (limits .width) 0 (now scratch) identity ⌝ }
+    ensures is { λ r. ⌜ NodeFound (limits .width) (held (limits .width) exponent (now (query .entry)))
         (chainOf (limits .width) (limits .basis) (now (parents .entry)) (now (codes .entry)) (limits .gates)) node (toldFind r) (now (list .exit)) ⌝ }
+    ensures long { λ _. ⌜ length (now (scratch .exit)) ≡ places ⌝ }
 {
     let NodeCircuit::Length(size) = synthesis_arena::circuit(
         parents,
@@ -83,19 +96,27 @@ fn find_node(
     ) else {
         return Find::BadChain; // 13
     };
-    if !recheck(&list[0..size], limits.width as usize, exponent, query) {
+    if !recheck(
+        &list[0..size],
+        limits.width as usize,
+        exponent,
+        query,
+        scratch,
+    ) {
         return Find::Nothing; // its list does not pass
     }
     Find::Node(node, size)
 }
 
-// The node of a width's part with a fingerprint whose list passes the recheck against a matrix: by the scan the lowest (SPECIFICATION 7.4, 7.15). Nodes
-// with the fingerprint are looked at rising: one whose list does not pass is passed over, and a bad chain ends the search. Each lies past the one before, so no
-// more are looked at than there are. The list of the node found is left in the first places of `list`; what `list` holds where none is found is not told.
-pub fn find_print(
+// The node of a width's part with a fingerprint whose list passes the recheck against a matrix: by the scan the lowest (SPECIFICATION 7.4, 7.15). The caller
+// has looked the first node up, and has put the identity into `scratch`. Nodes with the fingerprint are looked at rising: one whose list does not pass is
+// passed over, and a bad chain ends the search. Each lies past the one before, so no more are looked at than there are. The list of the node found is left in
+// the first places of `list`; what `list` holds where none is found, and what `scratch` holds afterwards, is not told.
+pub fn find_at(
     by: LookupBy,
     limits: WidthLimits,
     count: usize,
+    node: usize,
     print: u64,
     exponent: u16,
     fingerprints: &[u64],
@@ -104,23 +125,24 @@ pub fn find_print(
     index: &[u32],
     query: &[Coefficient],
     list: &mut [u32],
+    scratch: &mut [Coefficient; 4096],
 ) -> Find
     requires { ⌜ (limits .width ≤ 5) × (limits .gates ≤ length (now list)) ⌝ }
     requires { ⌜ (count ≤ length (now fingerprints)) × (count ≤ length (now parents)) × (count ≤ length (now codes)) ⌝ }
     requires { ⌜ AskedPlaces (limits .width) (now query) ⌝ }
-    ensures { λ r. ⌜ PrintFound (toldLimits limits)
+    requires { ⌜ lookedIn (partWith (toldBy by) (now fingerprints) (now parents) (now codes) count (now index)) 0 print ≡ found node ⌝ }
+    requires { ⌜ Holds (limits .width) 0 (now scratch) identity ⌝ }
+    ensures found { λ r. ⌜ PrintFound (toldLimits limits)
         (partWith (toldBy by) (now (fingerprints .entry)) (now (parents .entry)) (now (codes .entry)) count (now (index .entry))) print
         (held (limits .width) exponent (now (query .entry))) (toldFind r) (now (list .exit)) ⌝ }
+    ensures long { λ _. ⌜ length (now (scratch .exit)) ≡ places ⌝ }
 {
     let lookup = by;
     let lim = limits;
-    let mut from = 0;
+    let mut at = node;
     let mut left = count;
     while left > 0 {
-        let Found::At(node) = index::look_up(lookup, index, fingerprints, count, from, print) else {
-            return Find::Nothing;
-        };
-        match find_node(lim, node, exponent, parents, codes, query, list) {
+        match find_node(lim, at, exponent, parents, codes, query, list, scratch) {
             Find::Node(k, m) => {
                 return Find::Node(k, m);
             }
@@ -129,7 +151,12 @@ pub fn find_print(
                 return Find::BadChain; // nothing past it is looked at
             }
         }
-        from = node + 1;
+        let Found::At(next) = index::look_up(lookup, index, fingerprints, count, at + 1, print)
+        else {
+            return Find::Nothing; // none is left
+        };
+        matrix::set_identity(scratch, lim.width as usize);
+        at = next;
         left -= 1;
     }
     Find::Nothing
@@ -156,10 +183,16 @@ pub fn find_width(
         (held (limits .width) exponent (now (query .entry))) (toldFind r) (now (list .exit)) ⌝ }
 {
     let print = prints::unitary_fingerprint(query, limits.width as usize, exponent);
-    find_print(
+    let Found::At(node) = index::look_up(by, index, fingerprints, count, 0, print) else {
+        return Find::Nothing;
+    };
+    let mut scratch: [Coefficient; 4096] = [0; 4096]; // only here: a miss does without it
+    matrix::put_identity(&mut scratch, limits.width as usize);
+    find_at(
         by,
         limits,
         count,
+        node,
         print,
         exponent,
         fingerprints,
@@ -168,5 +201,6 @@ pub fn find_width(
         index,
         query,
         list,
+        &mut scratch,
     )
 }

@@ -7,13 +7,13 @@ use native.Mathlib.Omega.{arith}
 use borrow.Author.Tests.{not-true, not-false}
 use lib.ListN.{length}
 use Rattle.next_node.specs.Append.{prunedAt}
-use Rattle.candidates.proofs.Unskipped.{Sifted, sifted-none, sifted-out, sifted-in, sifted-all}
+use Rattle.candidates.proofs.Sifting.{Sifted, sifted-none, sifted-out, sifted-in, sifted-all, map-same}
 use borrow.Author.Needs.{needs}
 use Rattle.candidates.proofs.unpruned.Statement.{statement}
 use Rattle.candidates.proofs.unpruned.Tie as tie
 
 abbrev Inv-loop : tie.InvT-loop
-Inv-loop node gates codes kept₀ size₀ i₀ kept size i = (i ≤ length gates) × Sifted (prunedAt codes node) gates kept₀ kept size i
+Inv-loop node gates codes kept₀ size₀ i₀ kept size i = (i ≤ length gates) × Sifted (prunedAt codes node) (λ g. g) gates kept₀ kept size i
 
 abbrev μ-loop : tie.MeasureT-loop
 μ-loop node gates codes kept₀ size₀ i₀ kept size i = length gates - i
@@ -33,7 +33,12 @@ loop-again c =
     )
 
 returns : tie.Need-returns Inv-loop μ-loop
-returns c = sifted-all (c .before .loop .inv .1) (omega (arith, c .loop-test .left)) (c .before .loop .inv .0) (c .before .before .before .before .pre .1 .1)
+returns c =
+    let l = c .before .loop in record {
+      is = sifted-all (l .inv .1) (omega (arith, c .loop-test .left)) ∙ map-same _;
+      few = omega (arith, l .inv .0, l .inv .1 .few);
+      long = l .inv .1 .long ∙ c .before .before .before .before .pre .1 .1;
+    }
 
 pub unpruned-spec : {M : Type 1} → statement M
 unpruned-spec =
@@ -41,7 +46,7 @@ unpruned-spec =
     (tie.spec
     Inv-loop
     μ-loop
-    (λ c. (omega arith, sifted-none _ _ _))
+    (λ c. (omega arith, sifted-none _ _ _ _))
     (λ c. search needs)
     (λ c. search needs)
     (λ c. search needs)

@@ -1,6 +1,6 @@
 -- `synthesize_by` meets its contract: each test that was passed decides its row. Assumes nothing.
 use borrow.Author.Needs.{needs}
-use mathlib.Core.Path.{sym, ap, _∙_}
+use mathlib.Core.Path.{ap, _∙_}
 use Rattle.refusal.specs.Told.{toldCheck}
 use Rattle.refusal.specs.declared.Check.{Check}
 use Rattle.refusal.proofs.Numbers.{passed, refused}

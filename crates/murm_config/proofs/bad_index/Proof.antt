@@ -1,6 +1,6 @@
 -- `bad_index` meets its contract: the scan's arm asks for no index. Assumes nothing.
 use mathlib.Core.Path.{sym, ap, _∙_}
-use mathlib.Core.Bool.{Bool, not}
+use mathlib.Core.Bool.{not}
 use borrow.Author.Needs.{needs}
 use Rattle.tables.specs.Checks.{indexRow}
 use Rattle.index.specs.Told.{toldBy}

@@ -1,6 +1,6 @@
 -- `check_node` meets its contract: each test that was passed decides its row. Assumes nothing.
 use borrow.Author.Needs.{needs}
-use mathlib.Core.Path.{sym, ap, subst}
+use mathlib.Core.Path.{ap, subst}
 use Prim.Native.Nat.{ℕ, _≤_, _<_}
 use Rattle.refusal.specs.Told.{byRow}
 use Rattle.murm_config.specs.Told.{toldMurm}

@@ -1,6 +1,5 @@
 -- `apply_to_copy` meets its contract: the step on the copy is the step on the matrix. Assumes nothing.
 use native.Mathlib.Omega.{arith}
-use borrow.Author.Needs.{needs}
 use Rattle.places.proofs.Placed.{area-le}
 use Rattle.node_matrix.proofs.Copies.{copied-ready, on-copy, copy-long}
 use Rattle.node_matrix.proofs.apply_to_copy.Statement.{statement}

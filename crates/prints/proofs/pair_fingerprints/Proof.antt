@@ -1,78 +1,66 @@
 -- `pair_fingerprints` meets its contract: before each round the words of the entries passed are mixed into each matrix's own streams. The
 -- measure is how many entries are left. Assumes nothing.
-use mathlib.Core.Path.{_≡_, refl, sym, _∙_}
+use mathlib.Core.Path.{_≡_, refl, ap, _∙_}
 use Prim.Native.Nat.{_*_, _^_, _≤_, _<_, _-_}
 use native.Mathlib.Nat.{lt-of-le-of-lt}
-use native.Mathlib.Numerals.{add-one}
 use native.Mathlib.Omega.{arith}
 use lib.Dec.{lit<}
 use borrow.Author.Needs.{needs}
 use Rattle.cyclotomic.specs.Zomega.{turn}
+use Rattle.cyclotomic.specs.Eights.{eightOf}
 use Rattle.exact.specs.Fingerprint.{mixAll, wordsOf}
 use Rattle.exact.specs.Places.{entry}
 use Rattle.places.proofs.Placed.{area-le, small-at}
 use Rattle.prints.specs.Prints.{streams}
 use Rattle.prints.proofs.Pivots.{phase-of}
-use Rattle.prints.proofs.Mixing.{words-last, print-is}
+use Rattle.prints.proofs.Mixing.{eight-last, print-is}
 use Rattle.prints.proofs.pair_fingerprints.Statement.{statement}
 use Rattle.prints.proofs.pair_fingerprints.Tie as tie
 
 abbrev Inv-loop : tie.InvT-loop
-Inv-loop left right n j k p q size s₀ t₀ e₀ s t e =
+Inv-loop left right n j k p q size u v s₀ t₀ e₀ s t e =
     (e ≤ size) × (streams s ≡ mixAll (streams s₀) (wordsOf e (λ i. turn p (entry left i))))
     × (streams t ≡ mixAll (streams t₀) (wordsOf e (λ i. turn q (entry right i))))
 
 abbrev μ-loop : tie.MeasureT-loop
-μ-loop left right n j k p q size s₀ t₀ e₀ s t e = size - e
+μ-loop left right n j k p q size u v s₀ t₀ e₀ s t e = size - e
 
 -- the place is one of the matrix's, and so of the 1,024
-inside : (c : tie.In-loop Inv-loop μ-loop) → let n = c .before .before .before .before .before .before .before .before .before .args .n in c .before .loop .e < 2 ^ n * 2 ^ n
-inside c = rw (c .before .before .before .before .area .ensures) at (c .loop-test .taken)
+inside : (c : tie.In-loop Inv-loop μ-loop) → let n = c .before .before .before .before .before .before .before .before .before .before .before .args .n in c .before .loop .e < 2 ^ n * 2 ^ n
+inside c = rw (c .before .before .before .before .before .before .area .ensures) at (c .loop-test .taken)
 
 in-places : (c : tie.In-loop Inv-loop μ-loop) → c .before .loop .e < 1024
-in-places c = let s = c .before .before .before .before .before .before .before .before .before in omega (arith, inside c, area-le (s .args .n) (s .pre .0))
+in-places c = let s = c .before .before .before .before .before .before .before .before .before .before .before in omega (arith, inside c, area-le (s .args .n) (s .pre .0))
 
 get-requires : tie.Need-get-requires Inv-loop μ-loop
-get-requires c κs = let s = c .before .before .before .before .before .before .before .before .before in omega (arith, inside c, s .pre .1 .0 .0)
+get-requires c κs = omega (arith, inside c, c .before .before .before .before .before .before .before .before .before .before .before .pre .1 .0 .0)
 
-times-omega-requires : tie.Need-times-omega-requires Inv-loop μ-loop
-times-omega-requires c κs =
-    rw (c .get .ensures) (small-at _ _ _ (c .before .before .before .before .before .before .before .before .before .before .pre .1 .1 .0) (inside (c .before)))
+eight-requires : tie.Need-eight-requires Inv-loop μ-loop
+eight-requires c κs = rw (c .get .ensures) (small-at _ _ _ (c .before .before .before .before .before .before .before .before .before .before .before .before .pre .1 .1 .0) (inside (c .before)))
 
 get-requires-2 : tie.Need-get-requires-2 Inv-loop μ-loop
-get-requires-2 c κs =
-    let d = c .before .before .before in
-    let s = d .before .before .before .before .before .before .before .before .before in
-    omega (arith, inside d, s .pre .1 .0 .1)
+get-requires-2 c κs = omega (arith, inside (c .before .before), c .before .before .before .before .before .before .before .before .before .before .before .before .before .pre .1 .0 .1)
 
-times-omega-requires-2 : tie.Need-times-omega-requires-2 Inv-loop μ-loop
-times-omega-requires-2 c κs =
-    let d = c .before .before .before .before in
-    rw (c .get2 .ensures) (small-at _ _ _ (d .before .before .before .before .before .before .before .before .before .pre .1 .1 .1) (inside d))
+eight-requires-2 : tie.Need-eight-requires-2 Inv-loop μ-loop
+eight-requires-2 c κs = rw (c .get2 .ensures) (small-at _ _ _ (c .before .before .before .before .before .before .before .before .before .before .before .before .before .before .pre .1 .1 .1) (inside (c .before .before .before)))
 
 loop-again : tie.Need-loop-again Inv-loop μ-loop
 loop-again c =
-    let a = c .before .before .before in
-    let l = a .before .before .before .before .loop in (
-      omega (arith, a .before .before .before .loop-test .taken),
-      rw (add-one (l .e))
-          (a .mix-entry .ensures ∙ rw (a .before .times-omega .ensures, a .before .before .get .ensures, l .inv .1) (sym (words-last (l .e) _ _))),
-      rw (add-one (l .e))
-          (c .mix-entry2 .ensures ∙ rw (c .before .times-omega2 .ensures, c .before .before .get2 .ensures, l .inv .2) (sym (words-last (l .e) _ _))),
+    let l = c .before .before .before .before .before .before .before .before .before .loop in (
+      omega (arith, c .before .before .before .before .before .before .before .before .loop-test .taken),
+      eight-last _ _ (l .e) (c .before .before .before .before .before .before .before .before .before .before .before .before .before .turn-places .ensures) (c .before .before .before .before .before .before .eight .ensures ∙ ap eightOf (c .before .before .before .before .before .before .before .get .ensures)) (l .inv .1) (c .before .before .mix-eight .ensures),
+      eight-last _ _ (l .e) (c .before .before .before .before .before .before .before .before .before .before .before .before .turn-places2 .ensures) (c .before .before .before .before .eight2 .ensures ∙ ap eightOf (c .before .before .before .before .before .get2 .ensures)) (l .inv .2) (c .mix-eight2 .ensures),
     )
 
 returns : tie.Need-returns Inv-loop μ-loop
 returns c =
-    let x = c .before .before in
-    let l = x .before .loop in
-    let h = x .before .before in
-    let a = h .before .before in
-    let s = a .before .before .before .before .before in
-    let z : l .e ≡ 2 ^ s .args .n * 2 ^ s .args .n = omega (arith, x .loop-test .left, a .area .ensures) in
+    let l = c .before .before .before .loop in
+    let s = c .before .before .before .before .before .before .before .before .before .before .before .before .before in
+    let z : l .e ≡ 2 ^ s .args .n * 2 ^ s .args .n = omega (arith, c .before .before .loop-test .left, c .before .before .before .before .before .before .before .before .area .ensures) in
     let small = lt-of-le-of-lt (s .pre .0) (lit< tt) in (
       c .before .fold .ensures
-          ∙ rw (l .inv .1, h .before .head .ensures, z) (print-is (s .args .n) (s .args .j) _ _ small (omega arith) (phase-of _ _ _ _ (a .before .before .before .least-power .ensures) (a .before .before .before .before .pivot .ensures .0))),
-      c .fold2 .ensures ∙ rw (l .inv .2, h .head2 .ensures, z) (print-is (s .args .n) (s .args .k) _ _ small (omega arith) (phase-of _ _ _ _ (a .before .least-power2 .ensures) (a .before .before .pivot2 .ensures .0))),
+          ∙ rw (l .inv .1, c .before .before .before .before .before .head .ensures, z) (print-is (s .args .n) (s .args .j) _ _ small (omega arith) (phase-of _ _ _ _ (c .before .before .before .before .before .before .before .before .before .before .before .least-power .ensures) (c .before .before .before .before .before .before .before .before .before .before .before .before .pivot .ensures .0))),
+      c .fold2 .ensures ∙ rw (l .inv .2, c .before .before .before .before .head2 .ensures, z) (print-is (s .args .n) (s .args .k) _ _ small (omega arith) (phase-of _ _ _ _ (c .before .before .before .before .before .before .before .before .before .least-power2 .ensures) (c .before .before .before .before .before .before .before .before .before .before .pivot2 .ensures .0))),
     )
 
 pub pair-fingerprints-spec : {M : Type 1} → statement M
@@ -86,18 +74,20 @@ pair-fingerprints-spec =
     (λ c κs. search needs)
     (λ c κs. search needs)
     (λ c κs. search needs)
-    (λ c κs. search needs)
-    (λ c κs. search needs)
+    (λ c κs. tt)
+    (λ c κs. tt)
+    (λ c κs. tt)
+    (λ c κs. tt)
     (λ c. (omega arith, refl, refl))
     get-requires
-    times-omega-requires
-    (λ c κs. search needs)
+    eight-requires
     get-requires-2
-    times-omega-requires-2
+    eight-requires-2
     (λ c κs. search needs)
-    (λ c. omega (arith, in-places (c .before .before .before .before .before .before)))
-    (λ c. omega (arith, c .before .before .before .before .before .before .loop-test .taken))
+    (λ c κs. search needs)
+    (λ c. omega (arith, in-places (c .before .before .before .before .before .before .before .before)))
+    (λ c. omega (arith, c .before .before .before .before .before .before .before .before .loop-test .taken))
     loop-again
-    (λ c κs. search needs)
-    (λ c κs. search needs)
+    (λ c κs. tt)
+    (λ c κs. tt)
     returns)

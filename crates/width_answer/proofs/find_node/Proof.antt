@@ -11,21 +11,21 @@ read : (c : tie.After-size) → let s = c .before .before .before .before .befor
 read c = listed _ _ _ _ _ _ _ (c .before .before .before .before .circuit .ensures) (c .size .given .1)
 
 returns : tie.Need-returns
-returns c = node-bad _ _ _ _ _ _ _ (c .before .before .before .before .circuit .ensures) _ _ (c .enum-told .given .1)
+returns c = (node-bad _ _ _ _ _ _ _ (c .before .before .before .before .circuit .ensures) _ _ (c .enum-told .given .1), c .before .before .before .before .before .before .before .before .before .pre .1 .1 .1 .long)
 
 part-recheck-end : tie.Need-part-recheck-end
 part-recheck-end c = read (c .before .before) .within
 
 recheck-requires : tie.Need-recheck-requires
 recheck-requires c κs =
-    let p = c .before .before .before .before .before .before .before .before .before .before .before .before .before .pre in
-    (p .0 .0, (read (c .before .before .before .before) .all-valid, (p .1 .1 .0, p .1 .1 .1)))
+    let p = c .before .before .before .before .before .before .before .before .before .before .before .before .before .before .pre in
+    (p .0 .0, (read (c .before .before .before .before .before) .all-valid, (p .1 .1 .0, p .1 .1 .1)))
 
 returns-2 : tie.Need-returns-2
-returns-2 c = node-none _ _ _ _ _ _ _ (read (c .before .before .before .before .before .before)) (sym (c .before .recheck .ensures) ∙ not-true _ (c .if1 .taken))
+returns-2 c = (node-none _ _ _ _ _ _ _ (read (c .before .before .before .before .before .before .before)) (sym (c .before .recheck .ensures .0) ∙ not-true _ (c .if1 .taken)), c .before .recheck .ensures .1)
 
 returns-3 : tie.Need-returns-3
-returns-3 c = node-found _ _ _ _ _ _ _ (read (c .before .before .before .before .before .before)) (sym (c .before .recheck .ensures) ∙ not-false _ (c .if1 .left))
+returns-3 c = (node-found _ _ _ _ _ _ _ (read (c .before .before .before .before .before .before .before)) (sym (c .before .recheck .ensures .0) ∙ not-false _ (c .if1 .left)), c .before .recheck .ensures .1)
 
 pub find-node-spec : {M : Type 1} → statement M
 find-node-spec =

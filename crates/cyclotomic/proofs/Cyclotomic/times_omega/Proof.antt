@@ -1,6 +1,6 @@
 -- `times_omega` meets its contract: after i single turns it is the turn by i. Assumes nothing.
 use borrow.Author.Needs.{needs}
-use mathlib.Core.Path.{_≡_, refl, sym, ap, _∙_, subst}
+use mathlib.Core.Path.{_≡_, sym, ap, _∙_, subst}
 use Prim.Native.Nat.{ℕ, suc, _+_, _-_, _≤_}
 use native.Mathlib.Omega.{arith}
 use Rattle.cyclotomic.specs.Zomega.{Zω, turn, Small}

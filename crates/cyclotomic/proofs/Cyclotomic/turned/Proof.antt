@@ -1,8 +1,6 @@
 -- `turned` meets its contract: one turn. Assumes nothing.
 use borrow.Author.Needs.{needs}
-use mathlib.Core.Path.{_≡_, _∙_}
-use lib.IntN.{negℤ, negℤ-negℤ}
-use mir.Val.{toZ, ofZ}
+use mathlib.Core.Path.{_∙_}
 use Rattle.ints.proofs.Machine.{said}
 use Rattle.cyclotomic.specs.Zomega.{near, turn}
 use Rattle.cyclotomic.proofs.Number.{each}

@@ -13,9 +13,8 @@ use Rattle.generators.specs.Generators.{generators}
 use Rattle.generators.proofs.Generated.{lists}
 use Rattle.walk.specs.Walk.{Rules, Node, State, root, listAt, child, try, tryAll, layer}
 use Rattle.walk.proofs.Grown.{Grown, more, ParentsTo}
-use Rattle.walk.proofs.Laws.{Over}
 use Rattle.walk.proofs.Sequences.{length-snoc, all-snoc, prefix-snoc, prefix-at}
-use Rattle.walk.proofs.Candidates.{try-cases, try-later, layer-keeps}
+use Rattle.walk.proofs.Candidates.{try-cases, layer-keeps}
 use Rattle.next_node.specs.Arrays.{unsaturated}
 
 pub mem-at : (gs : List ℕ) (j : ℕ) → j < length gs → List·Memᴰ (getD gs j 0) gs
@@ -65,15 +64,6 @@ module _ (R : Rules) (E d hi : ℕ) where
   pub kept-node : (s : State) (k : ℕ) → k < hi → TriedKept k (s .nodes) → TriedKept (suc k) (tryAll R E s k (R .generators) .nodes)
   unfolding layer
   kept-node s k l i = kept-layer s k 1 (suc k) (omega arith) l i
-
-  -- some generators after node k, whose list stays
-  pub kept-part : (k : ℕ) (own : List ℕ) → k < hi → (part : List ℕ) → Over R part → (s : State) → TriedKept k (s .nodes)
-      → listAt (s .nodes) k ≡ own → TriedKept k (tryAll R E s k part .nodes) × (listAt (tryAll R E s k part .nodes) k ≡ own)
-  unfolding tryAll
-  kept-part k own l [] m s i e = (i, e)
-  kept-part k own l (g ∷ part) m s i e =
-      kept-part k own l part (m .1) (try R E s k g) (kept-try s k g l (m .0) i)
-      (ap (λ (v : Node). v .list) (prefix-at (try-later R E s k g .prefix) k root (omega (arith, i .size))) ∙ e)
 
 -- a state that is not saturated, by its nodes
 pub unfilled : (s : State) (b : Bool) → b ≡ s .saturated → b ≡ false → s ≡ unsaturated (s .nodes)

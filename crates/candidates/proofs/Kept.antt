@@ -1,24 +1,26 @@
 -- Two arrays that are filled side by side: the gates that are left, and the fingerprints of their candidates. Assumes nothing.
-use mathlib.Core.Path.{_≡_, refl, sym, ap, _∙_, subst}
-use mathlib.Core.Bool.{Bool, true, false, not, _||_}
-use mathlib.Core.List.{List, [], _∷_, map, List·Memᴰ}
-use Prim.Native.Nat.{ℕ, zero, suc, _+_, _-_, _≤_, _<_}
-use native.Mathlib.Nat.{not-suc-le-zero, le-of-suc-le-suc}
+use mathlib.Core.Path.{_≡_, sym, ap, _∙_, subst}
+use mathlib.Core.Bool.{Bool, not, _||_}
+use mathlib.Core.List.{List, [], _∷_, _++_, map, List·Memᴰ}
+use Prim.Native.Nat.{ℕ, _+_, _-_, _≤_, _<_}
+use native.Mathlib.Numerals.{add-one}
 use native.Mathlib.Omega.{arith}
 use lib.IntN.{ℤ}
-use lib.ListN.{length, getD, set, take, length-set}
-use lib.Seq.{length-take-le, getD-take}
+use lib.ListN.{length, getD, set, take}
+use lib.Seq.{length-take-le, getD-take, take-suc, take-suc-set}
 use Rattle.circuit.specs.Codes.{valid}
 use Rattle.generators.specs.Generators.{generators}
 use Rattle.exact.specs.Matrix.{Exact}
+use Rattle.walk.specs.Index.{By}
+use Rattle.walk.proofs.Sequences.{map-snoc}
 use Rattle.node_matrix.specs.declared.Candidate.{Candidate}
 use Rattle.node_matrix.specs.declared.Candidate.the-variants.{Print, DoesNotFit}
 use Rattle.node_matrix.specs.Matrices.{FormedAs}
 use Rattle.node_matrix.proofs.Prints.{print-given, print-refused}
 use Rattle.next_node.specs.Append.{prunedAt}
-use Rattle.candidates.specs.Tries.{unskipped, Unpruned, unfit, candidatePrint, LeftOf, Room105, ValidTo, placedGate, placedPrint, placedCount}
+use Rattle.candidates.specs.Tries.{unskipped, Unpruned, unfit, candidatePrint, LeftOf, Room105, ValidTo, placedGate, placedPrint, placedCount, aheadOf, LookedAhead}
 use Rattle.candidates.proofs.Keeping.{mem-at, generator-valid}
-use Rattle.candidates.proofs.Sifting.{Sifted, sifted-none, sifted-skip, sifted-out, sifted-in, sifted-all, map-same, unskipped-both, unskipped-mem}
+use Rattle.candidates.proofs.Sifting.{Sifted, sifted-none, sifted-skip, sifted-in, sifted-all, map-same, unskipped-both, unskipped-mem}
 
 -- both arrays after i of the gates
 pub record TwoSifted (skip : ℕ → Bool) (y : ℕ → ℕ) (gs kept₀ prints₀ kept prints : List ℕ) (size i : ℕ) : Type 0 where
@@ -84,90 +86,30 @@ module _ (n : ℕ) (x : Exact) {m : ℕ} {kept₀ prints₀ kept prints : List �
       (subst (λ (z : List ℕ). TwoSifted (unfit n x) (candidatePrint n x) gs kept₀ prints₀ z prints′ (placedCount r size) (i + 1)) (sym b)
       (subst (λ (z : List ℕ). TwoSifted (unfit n x) (candidatePrint n x) gs kept₀ prints₀ (placedGate r g kept size) z (placedCount r size) (i + 1)) (sym c) (put r q f)))
 
--- ---- the loop that keeps the gates whose fingerprints a test does not skip, in the arrays that it reads
+-- what y says of the first j of some numbers stands in the first places, and what it says of the next is stored
+pub mapped-more : (y : ℕ → ℕ) (ps new : List ℕ) (j : ℕ) {v : ℕ} → j < length ps → j < length new → v ≡ y (getD ps j 0) → take j new ≡ map y (take j ps)
+    → take (j + 1) (set new j v) ≡ map y (take (j + 1) ps)
+mapped-more y ps new j {v} l r e h =
+    ap (λ (i : ℕ). take i (set new j v)) (add-one j) ∙ take-suc-set new j v r ∙ ap (λ (z : List ℕ). z ++ (v ∷ [])) h ∙ ap (λ (x : ℕ). map y (take j ps) ++ (x ∷ [])) e
+    ∙ sym (ap (λ (i : ℕ). map y (take i ps)) (add-one j) ∙ ap (map y) (take-suc ps j 0 l) ∙ map-snoc y (take j ps) (getD ps j 0))
 
-pub map-at : (y : ℕ → ℕ) (gs : List ℕ) (j : ℕ) → j < length gs → getD (map y gs) j 0 ≡ y (getD gs j 0)
-map-at y [] j h = absurd (not-suc-le-zero h)
-map-at y (g ∷ gs) zero h = refl
-map-at y (g ∷ gs) (suc j) h = map-at y gs j (le-of-suc-le-suc h)
-
--- after i of the gates, whatever y the fingerprints are by
-pub record PrintsSifted (skip : ℕ → Bool) (m : ℕ) (kept₀ prints₀ kept prints : List ℕ) (size i : ℕ) : Type 0 where
-  pub few : size ≤ i
-  pub long-gates : length kept ≡ 105
-  pub long-prints : length prints ≡ 105
-  pub two : (y : ℕ → ℕ) → take m prints₀ ≡ map y (take m kept₀) → TwoSifted (λ g. skip (y g)) y (take m kept₀) kept₀ prints₀ kept prints size i
-
-pub prints-none : (skip : ℕ → Bool) {m : ℕ} {kept prints : List ℕ} → Room105 m kept prints → PrintsSifted skip m kept prints kept prints 0 0
-prints-none skip room = record { few = omega arith; long-gates = room .long-gates; long-prints = room .long-prints; two = λ y e. two-none _ y _ _ _ }
-
-module _ {skip : ℕ → Bool} {m : ℕ} {kept₀ prints₀ kept prints : List ℕ} {size i : ℕ} (room : Room105 m kept₀ prints₀)
-    (w : PrintsSifted skip m kept₀ prints₀ kept prints size i) (l : i < m) where
-  module _ (y : ℕ → ℕ) (e : take m prints₀ ≡ map y (take m kept₀)) where
-    abbrev r : TwoSifted (λ g. skip (y g)) y (take m kept₀) kept₀ prints₀ kept prints size i
-    r = w .two y e
-
-    inside : i < length (take m kept₀)
-    inside = omega (arith, source-long room r)
-
-    print-at : getD prints i 0 ≡ y (getD (take m kept₀) i 0)
-    print-at = r .words .after i (omega arith) ∙ sym (getD-take m prints₀ i 0 l) ∙ ap (λ (z : List ℕ). getD z i 0) e ∙ map-at y (take m kept₀) i inside
-
-    skip-at : (b : Bool) → skip (getD prints i 0) ≡ b → skip (y (getD (take m kept₀) i 0)) ≡ b
-    skip-at b q = ap skip (sym print-at) ∙ q
-
-  abbrev g : ℕ
-  g = getD kept i 0
-
-  abbrev p : ℕ
-  p = getD prints i 0
-
-  pub prints-out : skip p ≡ true → PrintsSifted skip m kept₀ prints₀ (set kept size g) (set prints size p) size (i + 1)
-  prints-out q = record {
-    few = omega (arith, w .few);
-    long-gates = length-set kept size g ∙ w .long-gates;
-    long-prints = length-set prints size p ∙ w .long-prints;
-    two = λ y e. record { gates = sifted-out (r y e .gates) (inside y e) g (skip-at y e true q); words = sifted-out (r y e .words) (inside y e) p (skip-at y e true q) };
-  }
-
-  pub prints-in : skip p ≡ false → PrintsSifted skip m kept₀ prints₀ (set kept size g) (set prints size p) (size + 1) (i + 1)
-  prints-in q = record {
-    few = omega (arith, w .few);
-    long-gates = length-set kept size g ∙ w .long-gates;
-    long-prints = length-set prints size p ∙ w .long-prints;
-    two = λ y e. record {
-      gates = sifted-in (r y e .gates) (inside y e) (source-at room (r y e) i (omega arith) l) (skip-at y e false q) (omega (arith, w .few, room .few, room .long-gates));
-      words = sifted-in (r y e .words) (inside y e) (print-at y e) (skip-at y e false q) (omega (arith, w .few, room .few, room .long-prints));
-    };
-  }
-
--- ---- the three tests one after the other
-
--- the fingerprints of the gates that are left
-pub left-prints : {skip : ℕ → Bool} {y : ℕ → ℕ} {gs kept prints : List ℕ} {size : ℕ} → LeftOf skip y gs kept prints size → take size prints ≡ map y (take size kept)
-left-prints {skip} {y} w = w .prints-are ∙ ap (map y) (sym (w .gates-are))
+-- ---- the two tests one after the other
 
 module _ {node : ℕ} {all codes kept : List ℕ} {size : ℕ} (a : Unpruned node all codes kept size) (few : length all ≤ 105) {q : ℕ → Bool} {y : ℕ → ℕ} {kept′ prints′ : List ℕ} {fit : ℕ}
     (b : LeftOf q y (take size kept) kept′ prints′ fit) where
-  pub fitting-room : Room105 fit kept′ prints′
-  fitting-room = record {
-    few = omega (arith, b .few, length-take-le size kept (omega (arith, a .few, a .long)), a .few);
-    long-gates = b .long-gates;
-    long-prints = b .long-prints;
-  }
+  pub fit-few : fit ≤ 105
+  fit-few = omega (arith, b .few, length-take-le size kept (omega (arith, a .few, a .long)), a .few)
 
-  module _ {s : ℕ → Bool} {kept″ prints″ : List ℕ} {new : ℕ} (c : LeftOf s y (take fit kept′) kept″ prints″ new) where
-    pub new-few : new ≤ 105
-    new-few = omega (arith, c .few, length-take-le fit kept′ (omega (arith, fitting-room .few, b .long-gates)), fitting-room .few)
+  pub both-gates : take (fit - 0) kept′ ≡ unskipped (λ g. prunedAt codes node g || q g) all
+  both-gates = let z : fit - 0 ≡ fit = omega arith in rw z (b .gates-are ∙ ap (unskipped q) (a .is) ∙ unskipped-both (prunedAt codes node) q all)
 
-    pub three-gates : take (new - 0) kept″ ≡ unskipped (λ g. (prunedAt codes node g || q g) || s g) all
-    three-gates =
-        let z : new - 0 ≡ new = omega arith in
-        ap (λ (i : ℕ). take i kept″) z ∙ c .gates-are ∙ ap (unskipped s) (b .gates-are ∙ ap (unskipped q) (a .is) ∙ unskipped-both (prunedAt codes node) q all)
-        ∙ unskipped-both (λ g. prunedAt codes node g || q g) s all
+  pub both-prints : take (fit - 0) prints′ ≡ map y (take (fit - 0) kept′)
+  both-prints = let z : fit - 0 ≡ fit = omega arith in rw z (b .prints-are ∙ ap (map y) (sym (b .gates-are)))
 
-    pub three-prints : take (new - 0) prints″ ≡ map y (take (new - 0) kept″)
-    three-prints = let z : new - 0 ≡ new = omega arith in rw z (left-prints c)
+-- what was looked up ahead, as a slice from place 0 on
+pub looked-first : {by : By} {i f nodes : List ℕ} {count size : ℕ} (prints : List ℕ) → LookedAhead by i f count (take size prints) nodes size
+    → take (size - 0) nodes ≡ aheadOf by i f count (take (size - 0) prints)
+looked-first {size = size} prints w = let z : size - 0 ≡ size = omega arith in rw z (w .is)
 
 -- the gates that the skip rules leave are valid
 pub unpruned-valid : (n basis : ℕ) → n ≤ 5 → {node : ℕ} {gs c kept : List ℕ} {size : ℕ} → gs ≡ generators n basis → Unpruned node gs c kept size → size ≤ length kept → ValidTo n kept size

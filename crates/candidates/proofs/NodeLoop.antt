@@ -1,8 +1,8 @@
--- The loop over the gates gs, at a node with the list own: the arrays hold some nodes, from which the gates that are left give the goal. A step of the
--- loop tries the next. Assumes nothing.
+-- The loop over the gates gs, at node k, from the nodes ns₀ on: the arrays hold some nodes, of which ns₀ are the first, and from which the gates that are left
+-- give the goal. A step of the loop tries the next gate. Assumes nothing.
 use mathlib.Core.Path.{_≡_, refl, sym, ap, _∙_, subst}
 use mathlib.Core.Bool.{Bool, true, false}
-use mathlib.Core.List.{List, [], _∷_, _++_}
+use mathlib.Core.List.{List, List·Memᴰ}
 use Prim.Native.Nat.{ℕ, suc, _+_, _≤_, _<_}
 use native.Mathlib.Numerals.{add-one}
 use native.Mathlib.Omega.{arith}
@@ -10,31 +10,15 @@ use lib.ListN.{length, getD, drop, drop-of-length-le}
 use lib.Seq.{drop-cons}
 use Rattle.walk.specs.Modes.{Mode}
 use Rattle.walk.specs.Index.{By}
-use Rattle.walk.specs.Walk.{Rules, Node, State, listAt, try, tryAll}
-use Rattle.walk.proofs.Laws.{Over}
-use Rattle.walk.proofs.Candidates.{tryAll-saturated}
+use Rattle.walk.specs.Walk.{Rules, Node, State, root, listAt, try, tryAll}
+use Rattle.walk.proofs.Grown.{Prefix}
+use Rattle.walk.proofs.Sequences.{prefix-refl, prefix-trans, prefix-at}
+use Rattle.walk.proofs.Candidates.{try-later, tryAll-saturated}
 use Rattle.synthesis_arena.specs.declared.WidthLimits.{WidthLimits}
 use Rattle.next_node.specs.Arrays.{rules, unsaturated, Columns, Long, Live, After}
-use Rattle.candidates.proofs.Keeping.{TriedKept, kept-part, unfilled}
+use Rattle.candidates.proofs.Keeping.{TriedKept, kept-try, unfilled}
 
--- ---- the next of a list
-
-pub one-part : (gs : List ℕ) (j : ℕ) → j < length gs → drop j gs ≡ (getD gs j 0 ∷ []) ++ drop (j + 1) gs
-one-part gs j l = drop-cons gs j 0 l ∙ ap (λ (i : ℕ). getD gs j 0 ∷ drop i gs) (sym (add-one j))
-
-tryAll-append : (R : Rules) (E : ℕ) (s : State) (k : ℕ) (xs ys : List ℕ) → tryAll R E s k (xs ++ ys) ≡ tryAll R E (tryAll R E s k xs) k ys
-unfolding tryAll
-tryAll-append R E s k [] ys = refl
-tryAll-append R E s k (x ∷ xs) ys = tryAll-append R E (try R E s k x) k xs ys
-
--- one gate is one try
-pub try-one : (R : Rules) (E : ℕ) (s : State) (k g : ℕ) → try R E s k g ≡ tryAll R E s k (g ∷ [])
-unfolding tryAll
-try-one R E s k g = refl
-
--- ---- the loop
-
-module _ (mode : Mode) (by : By) (lim : WidthLimits) (k d : ℕ) (f0 u0 c0 i0 own : List ℕ) (goal : State) (gs : List ℕ) where
+module _ (mode : Mode) (by : By) (lim : WidthLimits) (k d : ℕ) (f0 u0 c0 i0 : List ℕ) (ns₀ : List Node) (goal : State) (gs : List ℕ) where
   abbrev R : Rules
   R = rules mode lim
 
@@ -45,7 +29,7 @@ module _ (mode : Mode) (by : By) (lim : WidthLimits) (k d : ℕ) (f0 u0 c0 i0 ow
     pub ns : List Node
     pub columns : Columns by lim f0 u0 c0 i0 ns f u c i count
     pub kept : TriedKept R E d (suc k) k ns
-    pub own-is : listAt ns k ≡ own
+    pub later : Prefix ns₀ ns
     pub rest : tryAll R E (unsaturated ns) k (drop j gs) ≡ goal
 
   module _ {j : ℕ} {f u c i : List ℕ} {count : ℕ} (r : NodeRun j f u c i count) where
@@ -70,29 +54,33 @@ module _ (mode : Mode) (by : By) (lim : WidthLimits) (k d : ℕ) (f0 u0 c0 i0 ow
     pub node-run-lt : k < count
     node-run-lt = omega (arith, r .kept .size, r .columns .count-is)
 
-    -- part: the gates that were tried
-    module _ (part : List ℕ) {f′ u′ c′ i′ : List ℕ} {count′ : ℕ} {b : Bool} (a : After by lim f0 u0 c0 i0 (tryAll R E (unsaturated (r .ns)) k part) f′ u′ c′ i′ count′ b) where
+    -- the node's list stays
+    pub node-run-own : k < length ns₀ → listAt (r .ns) k ≡ listAt ns₀ k
+    node-run-own l = ap (λ (v : Node). v .list) (prefix-at (r .later) k root l)
+
+    -- after the next gate
+    module _ (l : j < length gs) {f′ u′ c′ i′ : List ℕ} {count′ : ℕ} {b : Bool}
+        (a : After by lim f0 u0 c0 i0 (try R E (unsaturated (r .ns)) k (getD gs j 0)) f′ u′ c′ i′ count′ b) where
       abbrev tried : State
-      tried = tryAll R E (unsaturated (r .ns)) k part
+      tried = try R E (unsaturated (r .ns)) k (getD gs j 0)
 
-      module _ (j′ : ℕ) (split : drop j gs ≡ part ++ drop j′ gs) where
-        left-over : tryAll R E tried k (drop j′ gs) ≡ goal
-        left-over = sym (tryAll-append R E (unsaturated (r .ns)) k part (drop j′ gs)) ∙ ap (tryAll R E (unsaturated (r .ns)) k) (sym split) ∙ r .rest
+      left-over : tryAll R E tried k (drop (j + 1) gs) ≡ goal
+      unfolding tryAll
+      left-over = ap (λ (z : ℕ). tryAll R E tried k (drop z gs)) (add-one j) ∙ ap (tryAll R E (unsaturated (r .ns)) k) (sym (drop-cons gs j 0 l)) ∙ r .rest
 
-        pub node-run-next : Over R part → b ≡ false → NodeRun j′ f′ u′ c′ i′ count′
-        node-run-next inside q =
-            let stays = kept-part R E d (suc k) k own (omega arith) part inside (unsaturated (r .ns)) (r .kept) (r .own-is) in record {
-              ns = tried .nodes;
-              columns = a .columns;
-              kept = stays .0;
-              own-is = stays .1;
-              rest = ap (λ (t : State). tryAll R E t k (drop j′ gs)) (sym (unfilled tried b (a .full-is) q)) ∙ left-over;
-            }
+      pub node-run-next : List·Memᴰ (getD gs j 0) (R .generators) → b ≡ false → NodeRun (j + 1) f′ u′ c′ i′ count′
+      node-run-next m q = record {
+        ns = tried .nodes;
+        columns = a .columns;
+        kept = kept-try R E d (suc k) (unsaturated (r .ns)) k (getD gs j 0) (omega arith) m (r .kept);
+        later = prefix-trans (r .later) (try-later R E (unsaturated (r .ns)) k (getD gs j 0) .prefix);
+        rest = ap (λ (t : State). tryAll R E t k (drop (j + 1) gs)) (sym (unfilled tried b (a .full-is) q)) ∙ left-over;
+      }
 
-        pub node-run-full : b ≡ true → After by lim f0 u0 c0 i0 goal f′ u′ c′ i′ count′ b
-        node-run-full q =
-            let e : tried ≡ goal = sym (tryAll-saturated R E tried k (drop j′ gs) (sym (a .full-is) ∙ q)) ∙ left-over in
-            subst (λ (t : State). After by lim f0 u0 c0 i0 t f′ u′ c′ i′ count′ b) e a
+      pub node-run-full : b ≡ true → After by lim f0 u0 c0 i0 goal f′ u′ c′ i′ count′ b
+      node-run-full q =
+          let e : tried ≡ goal = sym (tryAll-saturated R E tried k (drop (j + 1) gs) (sym (a .full-is) ∙ q)) ∙ left-over in
+          subst (λ (t : State). After by lim f0 u0 c0 i0 t f′ u′ c′ i′ count′ b) e a
 
     pub node-run-end : length gs ≤ j → After by lim f0 u0 c0 i0 goal f u c i count false
     unfolding tryAll
@@ -102,11 +90,11 @@ module _ (mode : Mode) (by : By) (lim : WidthLimits) (k d : ℕ) (f0 u0 c0 i0 ow
 
 abbrev pub node-run-start : {mode : Mode} {by : By} {lim : WidthLimits} {k : ℕ} {f u c i : List ℕ} {count : ℕ} (h : Live mode by lim f u c i count k (suc k)) → k < count
     → {goal : State} (gs : List ℕ) → tryAll (rules mode lim) (lim .entries) (unsaturated (h .ns)) k gs ≡ goal
-    → NodeRun mode by lim k (h .d) (h .f0) (h .u0) (h .c0) (h .i0) (listAt (h .ns) k) goal gs 0 f u c i count
+    → NodeRun mode by lim k (h .d) (h .f0) (h .u0) (h .c0) (h .i0) (h .ns) goal gs 0 f u c i count
 node-run-start h l gs e = record {
   ns = h .ns;
   columns = h .columns;
   kept = record { grown = h .grown; low = h .low; few = h .few; size = omega (arith, l, h .columns .count-is); flat = h .flat; short = h .short };
-  own-is = refl;
+  later = prefix-refl (h .ns);
   rest = e;
 }

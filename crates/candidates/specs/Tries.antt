@@ -1,8 +1,8 @@
--- What the candidates of a node leave in the three arrays and the part of the index, and which gates are left out ahead: the contracts of `unpruned`, `put_formed`,
--- `fitting`, `unknown`, `try_gates` and `try_node`. f, u, c are the arrays of fingerprints, parents and codes and i the part before a call, f′, u′, c′, i′ after it. Assumes
--- nothing.
+-- What the candidates of a node leave in the three arrays and the part of the index, which gates are left out ahead, and which nodes are looked up
+-- ahead: the contracts of `unpruned`, `put_formed`, `fitting`, `look_ahead`, `try_gates` and `try_node`. f, u, c are the arrays of fingerprints,
+-- parents and codes and i the part before a call, f′, u′, c′, i′ after it. Assumes nothing.
 use mathlib.Core.Path.{_≡_}
-use mathlib.Core.Bool.{Bool, true, false, not, _||_}
+use mathlib.Core.Bool.{Bool, true, not, _||_}
 use mathlib.Core.List.{List, [], _∷_, map}
 use Prim.Native.Nat.{ℕ, suc, _+_, _≤_, _<_}
 use lib.IntN.{ℤ}
@@ -19,13 +19,12 @@ use Rattle.exact.proofs.Words.{Equal}
 use Rattle.places.specs.Places.{places}
 use Rattle.matrix.specs.Step.{Ready}
 use Rattle.walk.specs.Modes.{Mode}
-use Rattle.walk.specs.Index.{By}
-use Rattle.walk.specs.Finds.{Part, partWith}
+use Rattle.walk.specs.Index.{By, lookedUp}
 use Rattle.walk.specs.Walk.{listAt, prod, tryAll}
 use Rattle.synthesis_arena.specs.declared.WidthLimits.{WidthLimits}
 use Rattle.node_matrix.specs.declared.Candidate.{Candidate}
 use Rattle.node_matrix.specs.declared.Candidate.the-variants.{Print, DoesNotFit}
-use Rattle.known.specs.Known.{knownAhead}
+use Rattle.known.specs.Known.{aheadBy}
 use Rattle.next_node.specs.Arrays.{rules, unsaturated, Live, After}
 use Rattle.next_node.specs.Append.{prunedAt}
 use Rattle.next_node.specs.declared.Tried.{Tried}
@@ -59,10 +58,6 @@ pub record LeftOf (skip : ℕ → Bool) (y : ℕ → ℕ) (gs kept prints : List
   pub long-gates : length kept ≡ 105
   pub long-prints : length prints ≡ 105
 
--- of the gates gs with the fingerprints ps of their candidates those are left that are not known ahead
-abbrev pub UnknownLeft : Mode → Part → List ℕ → List ℕ → List ℕ → List ℕ → ℕ → Type 0
-UnknownLeft mode part gs ps kept prints size = (y : ℕ → ℕ) → ps ≡ map y gs → LeftOf (λ g. knownAhead mode part (y g)) y gs kept prints size
-
 -- two arrays of 105 places, of which the first are in use
 pub record Room105 (size : ℕ) (kept prints : List ℕ) : Type 0 where
   pub few : size ≤ 105
@@ -86,10 +81,20 @@ abbrev pub placedPrint : Candidate → List ℕ → ℕ → List ℕ
 placedPrint (Print y k) prints at = set prints at y
 placedPrint DoesNotFit prints at = prints
 
--- the gate g after the node, whose matrix is x, is left out: by the two skip rules, because its step does not fit, or as known ahead
-abbrev pub idle : Mode → By → WidthLimits → ℕ → ℕ → List ℕ → List ℕ → List ℕ → List ℕ → Exact → ℕ → Bool
-idle mode by lim count node f u c i x g =
-    (prunedAt c node g || unfit (lim .width) x g) || knownAhead mode (partWith by f u c count i) (candidatePrint (lim .width) x g)
+-- the gate g after the node, whose matrix is x, is left out: by the two skip rules, or because its step does not fit
+abbrev pub leftOut : WidthLimits → ℕ → List ℕ → Exact → ℕ → Bool
+leftOut lim node c x g = prunedAt c node g || unfit (lim .width) x g
+
+-- ---- nodes that are looked up ahead
+
+-- what is looked up ahead for each of some fingerprints
+abbrev pub aheadOf : By → List ℕ → List ℕ → ℕ → List ℕ → List ℕ
+aheadOf by i f count ps = map (λ y. aheadBy by (lookedUp by i f count 0 y)) ps
+
+-- the first places of 105 hold it
+pub record LookedAhead (by : By) (i f : List ℕ) (count : ℕ) (ps nodes : List ℕ) (size : ℕ) : Type 0 where
+  pub is : take size nodes ≡ aheadOf by i f count ps
+  pub long : length nodes ≡ 105
 
 -- ---- what is tried
 

@@ -1,23 +1,24 @@
-// The candidates of one node: each generator after it, in order (SPECIFICATION 6.4 to 6.8). The node's matrix is formed once. A candidate that the walk
-// skips stays skipped, whatever nodes are added (`skipped-stays`, proofs/Skipped), so those that are skipped are left out ahead, one reason after the other:
-// first the two skip rules, then steps that do not fit, then, where a fingerprint alone makes known and the look-up is through the index, fingerprints that a
-// node has. The fingerprints are worked two by two. The look-ups of all candidates are made before the first is appended, so that waits for memory overlap; those that
-// are left are looked up again when their turn comes, since an earlier candidate of the node may have their fingerprint. In the other cases each is looked
-// up once, when its turn comes.
+// The candidates of one node: each generator after it, in order (SPECIFICATION 6.4 to 6.8). The node's matrix is formed once. Gates that the two skip
+// rules prune, or whose step does not fit, are left out first: a candidate that the walk skips stays skipped, whatever nodes are added (`skipped-stays`,
+// proofs/Skipped). The fingerprints of the others are worked two by two. Then all are looked up through the index, before the first is appended, so that
+// waits for memory overlap. A node that is found ahead stays the one that the look-up gives (`found-stays`, proofs/Gates). Where none was found, the
+// candidate is looked up again when its turn comes, since an earlier candidate of the node may have its fingerprint. By the scan each is looked up once,
+// when its turn comes.
 ghost use mathlib.Core.Path.{_≡_};
 ghost use mathlib.Core.List.{map};
 ghost use Prim.Native.Nat.{suc, _≤_, _<_};
 ghost use lib.ListN.{length, take};
+ghost use Rattle.circuit.specs.Codes.{mark};
 ghost use Rattle.generators.specs.Generators.{generators};
 ghost use Rattle.exact.specs.Matrix.{identity};
 ghost use Rattle.exact.specs.Places.{held};
 ghost use Rattle.places.specs.Places.{places};
 ghost use Rattle.matrix.specs.Step.{Holds, Ready};
-ghost use Rattle.walk.specs.Finds.{partWith};
 ghost use Rattle.index.specs.Told.{toldBy};
 ghost use Rattle.known.specs.Known.{toldMode};
 ghost use Rattle.next_node.specs.Arrays.{Live};
-ghost use Rattle.candidates.specs.Tries.{unskipped, Unpruned, unfit, candidatePrint, LeftOf, UnknownLeft, ValidTo, Room105, placedGate, placedPrint, placedCount, idle, NodeFormed, GatesTried, NodeTried, Lent};
+ghost use Rattle.candidates.specs.Tries.{unskipped, Unpruned, unfit, candidatePrint, LeftOf, ValidTo, Room105, placedGate, placedPrint, placedCount};
+ghost use Rattle.candidates.specs.Tries.{aheadOf, LookedAhead, leftOut, NodeFormed, GatesTried, NodeTried, Lent};
 use cyclotomic::Coefficient;
 use index::LookupBy;
 use known::BuildMode;
@@ -109,44 +110,31 @@ fn fitting(
     put_formed(fit, last, one, kept, prints)
 }
 
-// Of the gates in the first places those whose candidates are not known ahead of their turn, with the fingerprints. Both are put into the first places; how
-// many they are is returned.
-fn unknown(
-    mode: BuildMode,
+// The nodes to which the fingerprints in the first places lead, before a candidate is appended: they are put into the first places of `nodes`, each as
+// `node_ahead` tells it.
+fn look_ahead(
     by: LookupBy,
     count: usize,
     size: usize,
+    prints: &[u64; 105],
     fingerprints: &[u64],
-    parents: &[u32],
-    codes: &[u32],
     index: &[u32],
-    kept: &mut [u32; 105],
-    prints: &mut [u64; 105],
-) -> usize
-    requires within { ⌜ count ≤ length (now fingerprints) ⌝ }
-    requires room { ⌜ Room105 size (now kept) (now prints) ⌝ }
-    ensures unknown { λ r. ⌜ UnknownLeft (toldMode mode) (partWith (toldBy by) (now (fingerprints .entry)) (now (parents .entry)) (now (codes .entry)) count (now (index .entry)))
-        (take size (now (kept .entry))) (take size (now (prints .entry))) (now (kept .exit)) (now (prints .exit)) r ⌝ }
+    nodes: &mut [u32; 105],
+)
+    requires within { ⌜ (count ≤ length (now fingerprints)) × (count ≤ mark) ⌝ }
+    requires room { ⌜ (size ≤ 105) × (length (now prints) ≡ 105) × (length (now nodes) ≡ 105) ⌝ }
+    ensures ahead { λ _. ⌜ LookedAhead (toldBy by) (now (index .entry)) (now (fingerprints .entry)) count (take size (now (prints .entry))) (now (nodes .exit)) size ⌝ }
 {
-    let how = mode;
     let lookup = by;
-    let mut left = 0;
     let mut j = 0;
     while j < size {
-        let g = kept[j];
-        let p = prints[j];
-        kept[left] = g;
-        prints[left] = p;
-        if !known::is_known_ahead(how, lookup, count, p, fingerprints, parents, codes, index) {
-            left += 1;
-        }
+        nodes[j] = known::node_ahead(lookup, count, prints[j], fingerprints, index);
         j += 1;
     }
-    left
 }
 
-// The gates that are left after a node whose matrix is in m, in order, with the fingerprints of their candidates: each goes to `append`, until the width is
-// saturated.
+// The gates that are left after a node whose matrix is in m, in order, with the fingerprints of their candidates and the nodes that were found ahead for
+// them: each goes to `append`, until the width is saturated.
 fn try_gates(
     mode: BuildMode,
     by: LookupBy,
@@ -156,6 +144,7 @@ fn try_gates(
     exponent: u16,
     gates: &[u32],
     prints: &[u64],
+    nodes: &[u32],
     fingerprints: &mut [u64],
     parents: &mut [u32],
     codes: &mut [u32],
@@ -165,9 +154,9 @@ fn try_gates(
     right: &mut [Coefficient; 4096],
 ) -> Tried
     requires bounds { ⌜ ((limits .width) ≤ 5) × (node < count) × ((limits .entries) ≤ 1000000) × ((limits .gates) ≤ 64) ⌝ }
-    requires gates { ⌜ now gates ≡ unskipped (idle (toldMode mode) (toldBy by) limits count node (now fingerprints) (now parents) (now codes) (now index)
-        (held (limits .width) exponent (now m))) (generators (limits .width) (limits .basis)) ⌝ }
+    requires gates { ⌜ now gates ≡ unskipped (leftOut limits node (now codes) (held (limits .width) exponent (now m))) (generators (limits .width) (limits .basis)) ⌝ }
     requires prints { ⌜ now prints ≡ map (candidatePrint (limits .width) (held (limits .width) exponent (now m))) (now gates) ⌝ }
+    requires nodes { ⌜ now nodes ≡ aheadOf (toldBy by) (now index) (now fingerprints) count (now prints) ⌝ }
     requires formed { ⌜ NodeFormed (toldMode mode) (toldBy by) limits count node exponent (now fingerprints) (now parents) (now codes) (now index) (now m) ⌝ }
     requires long { ⌜ (length (now left) ≡ places) × (length (now right) ≡ places) ⌝ }
     ensures tried { λ r. ⌜ GatesTried (toldMode mode) (toldBy by) limits count node exponent (now (m .entry))
@@ -183,6 +172,7 @@ fn try_gates(
     while j < gates.len() {
         let g = gates[j];
         let p = prints[j];
+        let found = nodes[j];
         let t = next_node::append(
             how,
             lookup,
@@ -191,6 +181,7 @@ fn try_gates(
             node,
             g,
             p,
+            found,
             exponent,
             fingerprints,
             parents,
@@ -246,18 +237,8 @@ pub fn try_node(
     let mut prints: [u64; 105] = [0; 105];
     let n = limits.width as usize;
     let fit = fitting(n, exponent, size, &mut kept, &mut prints, m, left, right);
-    let left_over = unknown(
-        mode,
-        by,
-        count,
-        fit,
-        fingerprints,
-        parents,
-        codes,
-        index,
-        &mut kept,
-        &mut prints,
-    );
+    let mut nodes: [u32; 105] = [0; 105];
+    look_ahead(by, count, fit, &prints, fingerprints, index, &mut nodes);
     try_gates(
         mode,
         by,
@@ -265,8 +246,9 @@ pub fn try_node(
         count,
         node,
         exponent,
-        &kept[0..left_over],
-        &prints[0..left_over],
+        &kept[0..fit],
+        &prints[0..fit],
+        &nodes[0..fit],
         fingerprints,
         parents,
         codes,

@@ -25,9 +25,9 @@ use Rattle.exact.proofs.Acts.{power-of, power-sym, power-trans}
 use Rattle.exact.proofs.Papers.{paper-value}
 use Rattle.exact.proofs.Coded.{basis-below}
 use Rattle.exact.specs.Places.{held}
-use Rattle.walk.specs.Walk.{gate}
+use Rattle.walk.specs.Walk.{root, gate}
 use Rattle.walk.specs.AtWidth.{atWidth, ListOf, parentOf}
-use Rattle.walk.proofs.Held.{map-at}
+use Rattle.walk.proofs.Sequences.{map-at}
 use Rattle.walk.proofs.Prefixes.{completed-unsaturated}
 use Rattle.walk.specs.Modes.{byPrint}
 use Rattle.tables.specs.Checks.{Limits, Arrays, coefficientCount, queryRows}
@@ -238,9 +238,9 @@ module _ (t : Table) (m : Arrays) (b : Built byPrint t m) (w : ℕ) (p : 0 < w) 
       let n = b .nodes w p u j (omega (arith, h)) in
       let ns = walkOf byPrint (t .limits) w .nodes in
       let x : getD (partOf w (t .limits .entries) (m .parents)) j 0 ≡ getD (map parentOf ns) j 0 =
-      part-at (m .parents) j (omega (arith, h, few)) ∙ (n .parent ∙ sym (map-at parentOf ns j (omega (arith, h)))) in
+      part-at (m .parents) j (omega (arith, h, few)) ∙ (n .parent ∙ sym (map-at parentOf root ns j (omega (arith, h)))) in
       let y : getD (partOf w (t .limits .entries) (m .codes)) j 0 ≡ getD (map gate ns) j 0 =
-      part-at (m .codes) j (omega (arith, h, few)) ∙ (n .code ∙ sym (map-at gate ns j (omega (arith, h)))) in
+      part-at (m .codes) j (omega (arith, h, few)) ∙ (n .code ∙ sym (map-at gate root ns j (omega (arith, h)))) in
       ap (λ (v : ℕ). nodeLine j v (getD (partOf w (t .limits .entries) (m .codes)) j 0)) x ∙ ap (λ (v : ℕ). nodeLine j (getD (map parentOf ns) j 0) v) y)
 
   width-text : widthText t (m .parents) (m .codes) w ≡ walkText (t .limits) w

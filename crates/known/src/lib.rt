@@ -5,22 +5,25 @@ ghost use mathlib.Core.Path.{_≡_};
 ghost use mathlib.Core.Bool.{true};
 ghost use Prim.Native.Nat.{_≤_};
 ghost use lib.ListN.{length};
-ghost use Rattle.circuit.specs.Codes.{valid};
+ghost use Rattle.circuit.specs.Codes.{valid, mark};
 ghost use Rattle.exact.specs.Rows.{act, gateOf};
 ghost use Rattle.exact.specs.Fits.{stepFits};
 ghost use Rattle.exact.specs.Places.{held};
 ghost use Rattle.places.specs.Places.{places};
 ghost use Rattle.matrix.specs.Step.{Ready};
 ghost use Rattle.walk.specs.Lookup.{found};
+ghost use Rattle.walk.specs.Index.{lookedUp};
 ghost use Rattle.walk.specs.Finds.{partWith, lookedIn, findBy, isNode};
 ghost use Rattle.index.specs.Told.{toldBy};
 ghost use Rattle.synthesis_arena.specs.Limits.{toldLimits};
+ghost use Rattle.synthesis_arena.specs.Lookup.{toldFound};
 ghost use Rattle.width_answer.specs.Answers.{AskedPlaces};
-ghost use Rattle.known.specs.Known.{toldMode, isFound, isKnown, knownAhead};
+ghost use Rattle.known.specs.Known.{toldMode, isKnown, aheadBy, Hint};
 use cyclotomic::Coefficient;
 use index::LookupBy;
 use matrix::Applied;
 use synthesis_arena::Found;
+use synthesis_arena::MARK;
 use synthesis_arena::WidthLimits;
 use width_answer::Find;
 
@@ -31,57 +34,44 @@ pub enum BuildMode {
     Keeping,
 }
 
-// Whether the look-up leads to a node.
-fn has_print(
+// The node to which a candidate's fingerprint leads, looked up before its turn comes; the mark where there is none. By the scan nothing is looked up
+// ahead: look-ups through the index wait for memory, and several wait together; a scan does not wait.
+pub fn node_ahead(
     by: LookupBy,
     count: usize,
     print: u64,
     fingerprints: &[u64],
-    parents: &[u32],
-    codes: &[u32],
     index: &[u32],
-) -> bool
-    requires within { ⌜ count ≤ length (now fingerprints) ⌝ }
-    ensures found { λ r. ⌜ r ≡ isFound (lookedIn
-        (partWith (toldBy by) (now (fingerprints .entry)) (now (parents .entry)) (now (codes .entry)) count (now (index .entry))) 0 print) ⌝ }
+) -> u32
+    requires within { ⌜ (count ≤ length (now fingerprints)) × (count ≤ mark) ⌝ }
+    ensures ahead { λ r. ⌜ r ≡ aheadBy (toldBy by) (lookedUp (toldBy by) (now (index .entry)) (now (fingerprints .entry)) count 0 print) ⌝ }
 {
-    match index::look_up(by, index, fingerprints, count, 0, print) {
-        Found::At(_) => true,
-        Found::NotFound => false,
+    match by {
+        LookupBy::Scan => MARK,
+        LookupBy::Index => match index::probe(index, fingerprints, count, 0, print) {
+            Found::At(node) => node as u32,
+            Found::NotFound => MARK,
+        },
     }
 }
 
-// Whether a candidate is known by its fingerprint, where it pays to ask before its turn comes: a fingerprint alone makes known, and the look-up is through the
-// index. A scan of the fingerprints does not wait for memory, so it is made once.
-pub fn is_known_ahead(
-    mode: BuildMode,
+// The node to which a fingerprint leads: where one was found ahead it is that node.
+fn first_node(
     by: LookupBy,
     count: usize,
     print: u64,
+    ahead: u32,
     fingerprints: &[u64],
-    parents: &[u32],
-    codes: &[u32],
     index: &[u32],
-) -> bool
+) -> Found
     requires within { ⌜ count ≤ length (now fingerprints) ⌝ }
-    ensures known { λ r. ⌜ r ≡ knownAhead (toldMode mode)
-        (partWith (toldBy by) (now (fingerprints .entry)) (now (parents .entry)) (now (codes .entry)) count (now (index .entry))) print ⌝ }
+    requires ahead { ⌜ Hint (lookedUp (toldBy by) (now index) (now fingerprints) count 0 print) ahead ⌝ }
+    ensures first { λ r. ⌜ toldFound r ≡ lookedUp (toldBy by) (now (index .entry)) (now (fingerprints .entry)) count 0 print ⌝ }
 {
-    match mode {
-        BuildMode::Keeping => false,
-        BuildMode::ByPrint => match by {
-            LookupBy::Scan => false,
-            LookupBy::Index => has_print(
-                LookupBy::Index,
-                count,
-                print,
-                fingerprints,
-                parents,
-                codes,
-                index,
-            ),
-        },
+    if ahead != MARK {
+        return Found::At(ahead as usize);
     }
+    index::look_up(by, index, fingerprints, count, 0, print)
 }
 
 // Whether the search from the first node with the fingerprint on finds one for the matrix. The chains of a table that is being built are good.
@@ -186,14 +176,15 @@ fn has_candidate(
     )
 }
 
-// Whether the candidate that the gate gives after the matrix m, whose fingerprint is given, is known in the mode. Two matrices may be formed in
-// lent places; what they hold afterwards is not told.
+// Whether the candidate that the gate gives after the matrix m, whose fingerprint is given, is known in the mode. `ahead` is the node that was
+// found ahead for it, or the mark. Two matrices may be formed in lent places; what they hold afterwards is not told.
 pub fn is_known(
     mode: BuildMode,
     by: LookupBy,
     limits: WidthLimits,
     count: usize,
     print: u64,
+    ahead: u32,
     gate: u32,
     exponent: u16,
     fingerprints: &[u64],
@@ -206,6 +197,7 @@ pub fn is_known(
 ) -> bool
     requires bounds { ⌜ (limits .width ≤ 5) × (limits .gates ≤ 64) ⌝ }
     requires within { ⌜ (count ≤ length (now fingerprints)) × (count ≤ length (now parents)) × (count ≤ length (now codes)) ⌝ }
+    requires ahead { ⌜ Hint (lookedUp (toldBy by) (now index) (now fingerprints) count 0 print) ahead ⌝ }
     requires ready { ⌜ Ready (limits .width) exponent (now m) ⌝ }
     requires gate { ⌜ (valid (limits .width) gate ≡ true) × (stepFits (limits .width) (gateOf (limits .width) gate) (held (limits .width) exponent (now m)) ≡ true) ⌝ }
     requires long { ⌜ (length (now candidate) ≡ places) × (length (now scratch) ≡ places) ⌝ }
@@ -214,7 +206,7 @@ pub fn is_known(
         (act (limits .width) (gateOf (limits .width) gate) (held (limits .width) exponent (now (m .entry)))) ⌝ }
     ensures long { λ _. ⌜ (length (now (candidate .exit)) ≡ places) × (length (now (scratch .exit)) ≡ places) ⌝ }
 {
-    let Found::At(node) = index::look_up(by, index, fingerprints, count, 0, print) else {
+    let Found::At(node) = first_node(by, count, print, ahead, fingerprints, index) else {
         return false;
     };
     match mode {

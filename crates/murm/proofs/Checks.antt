@@ -11,16 +11,16 @@ use lib.ListN.{length, getD, take, drop, drop-of-length-le}
 use lib.Seq.{drop-cons, take-suc, take-all}
 use mir.Val.{SFits}
 use borrow.Author.Count.{below-more}
-use borrow.Author.Tests.{eq-eqb, ne-eqb, ltb-true, ltb-false, not-true}
+use borrow.Author.Tests.{eq-eqb, ne-eqb, eqb-true, eqb-false, ltb-true, ltb-false, not-true}
 use lib.Dec.{eqb, ltb}
 use Rattle.ints.specs.Lists.{pick}
-use Rattle.ints.proofs.Bools.{or-false, or-assoc, neither}
+use Rattle.ints.proofs.Bools.{clash, or-false, or-assoc, neither}
 use Rattle.ints.proofs.Machine.{range}
 use Rattle.cyclotomic.specs.Zomega.{limit, near, eqZ}
 use Rattle.circuit.specs.Codes.{valid}
 use Rattle.tables.specs.Checks.{anyBelow}
 use Rattle.tables.specs.Lists.{firstInvalid}
-use Rattle.murm.specs.Work.{PastLimit, InRange}
+use Rattle.murm.specs.Work.{InRange}
 
 -- ---- codes: the first i are valid
 
@@ -60,9 +60,22 @@ past-is (negsuc n) f =
     by true e = e ∙ sym (eq-eqb n limit (omega (arith, ltb-true (limit - 1) n e, f .sfits)))
     by false e = e ∙ sym (ne-eqb n limit (λ q. omega (arith, ltb-false (limit - 1) n e)))
 
-pub not-past : (z : ℤ) → SFits near z → ltZ z (negℤ (pos limit)) ≡ false → natAbs z ≤ limit
-not-past (pos n) f h = omega (arith, f .sfits)
-not-past (negsuc n) f h = omega (arith, ltb-false (limit - 1) n h)
+-- one that is not -32768 is within the limit
+not-lowest : (z : ℤ) → SFits near z → eqZ z (negsuc limit) ≡ false → natAbs z ≤ limit
+not-lowest (pos n) f e = omega (arith, f .sfits)
+not-lowest (negsuc n) f e = omega (arith, f .sfits, eqb-false n limit e)
+
+-- none is below -32768, so that one that has another below it is not -32768
+above-other : (x y : ℤ) → SFits near x → ltZ x y ≡ true → eqZ y (negsuc limit) ≡ false
+above-other x (pos n) f h = refl
+above-other (pos m) (negsuc n) f h = clash h refl
+above-other (negsuc m) (negsuc n) f h = ne-eqb n limit (λ q. omega (arith, ltb-true n m h, f .sfits, q))
+
+-- and one that is not above -32768 is -32768
+not-above : (x y : ℤ) → SFits near y → ltZ x y ≡ false → eqZ x (negsuc limit) ≡ true → eqZ y (negsuc limit) ≡ true
+not-above (pos m) y f h e = clash e refl
+not-above (negsuc m) (pos n) f h e = clash refl h
+not-above (negsuc m) (negsuc n) f h e = eq-eqb n limit (omega (arith, ltb-false n m h, eqb-true m limit e, f .sfits))
 
 below-last : (l : List ℤ) (x : ℤ) → anyBelow (l ++ (x ∷ [])) ≡ (anyBelow l || eqZ x (negsuc limit))
 unfolding anyBelow
@@ -70,27 +83,40 @@ below-last [] x = or-false (eqZ x (negsuc limit))
 below-last (y ∷ l) x =
     ap (λ (b : Bool). eqZ y (negsuc limit) || b) (below-last l x) ∙ sym (or-assoc (eqZ y (negsuc limit)) (anyBelow l) (eqZ x (negsuc limit)))
 
--- whether one of the first i coefficients is -32768
-pub record RangeTo (l : List ℤ) (i : ℕ) (found : Bool) : Type 0 where
-  pub within : i ≤ length l
-  pub told : found ≡ anyBelow (take i l)
-  pub small : found ≡ false → (j : ℕ) → j < i → natAbs (getD l j (pos 0)) ≤ limit
+-- the least of 0 and the first i coefficients: it is -32768 exactly where one of them is
+pub record LeastTo (l : List ℤ) (i : ℕ) (least : ℤ) : Type 0 where
+  pub fits : SFits near least
+  pub told : eqZ least (negsuc limit) ≡ anyBelow (take i l)
+  pub small : eqZ least (negsuc limit) ≡ false → (j : ℕ) → j < i → natAbs (getD l j (pos 0)) ≤ limit
 
-pub range-none : (l : List ℤ) → RangeTo l 0 false
+pub least-none : (l : List ℤ) → LeastTo l 0 (pos 0)
 unfolding anyBelow
-range-none l = record { within = omega arith; told = refl; small = λ e j h. absurd (omega arith) }
+least-none l = record { fits = record { sfits = omega arith }; told = refl; small = λ e j h. absurd (omega arith) }
 
-module _ {l : List ℤ} {i : ℕ} {found : Bool} (w : RangeTo l i found) where
-  pub range-more : (r : Bool) → i < length l → PastLimit (getD l i (pos 0)) r → RangeTo l (i + 1) (found || r)
-  range-more r h p = record {
-    within = omega arith;
-    told = (λ k. w .told k || p .told k) ∙ sym (below-last (take i l) (getD l i (pos 0))) ∙ ap anyBelow (sym (take-suc l i (pos 0) h))
-        ∙ ap (λ (k : ℕ). anyBelow (take k l)) (sym (add-one i));
-    small = λ e. below-more _ _ (w .small (neither found r e .0)) (p .small (neither found r e .1));
-  }
+module _ {l : List ℤ} {i : ℕ} {least : ℤ} (w : LeastTo l i least) where
+  module _ (h : i < length l) (f : SFits near (getD l i (pos 0))) where
+    least-more : (z : ℤ) → SFits near z → eqZ z (negsuc limit) ≡ (eqZ least (negsuc limit) || eqZ (getD l i (pos 0)) (negsuc limit)) → LeastTo l (i + 1) z
+    least-more z g e = record {
+      fits = g;
+      told = e ∙ ap (λ (b : Bool). b || eqZ (getD l i (pos 0)) (negsuc limit)) (w .told) ∙ sym (below-last (take i l) (getD l i (pos 0)))
+          ∙ ap anyBelow (sym (take-suc l i (pos 0) h)) ∙ ap (λ (k : ℕ). anyBelow (take k l)) (sym (add-one i));
+      small = λ q. let n = neither (eqZ least (negsuc limit)) (eqZ (getD l i (pos 0)) (negsuc limit)) (sym e ∙ q) in
+          below-more _ _ (w .small (n .0)) (not-lowest (getD l i (pos 0)) f (n .1));
+    }
 
-  pub range-end : length l ≤ i → InRange l (not found)
-  range-end h = record {
-    told = ap not (w .told ∙ ap anyBelow (take-all i l h));
-    small = λ e j k. w .small (not-true found e) j (omega arith);
+    -- a coefficient that is less takes the place of the least
+    pub least-taken : ltZ (getD l i (pos 0)) least ≡ true → LeastTo l (i + 1) (getD l i (pos 0))
+    least-taken t = least-more (getD l i (pos 0)) f (rw (above-other (getD l i (pos 0)) least f t))
+
+    pub least-kept : ltZ (getD l i (pos 0)) least ≡ false → LeastTo l (i + 1) least
+    least-kept t = least-more least (w .fits) (by (eqZ (getD l i (pos 0)) (negsuc limit)) refl)
+      where
+        by : (b : Bool) → eqZ (getD l i (pos 0)) (negsuc limit) ≡ b → eqZ least (negsuc limit) ≡ (eqZ least (negsuc limit) || b)
+        by true e = rw (not-above (getD l i (pos 0)) least (w .fits) t e)
+        by false e = sym (or-false (eqZ least (negsuc limit)))
+
+  pub least-end : length l ≤ i → (r : Bool) → r ≡ eqZ least (negsuc limit) → InRange l (not r)
+  least-end h r p = record {
+    told = ap not (p ∙ w .told ∙ ap anyBelow (take-all i l h));
+    small = λ e j k. w .small (sym p ∙ not-true r e) j (omega arith);
   }

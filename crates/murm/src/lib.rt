@@ -5,8 +5,10 @@
 ghost use mathlib.Core.Path.{_≡_};
 ghost use mathlib.Core.Bool.{false, _&&_};
 ghost use Prim.Native.Nat.{_+_, _*_, _^_, _≤_, _<_};
+ghost use lib.IntN.{negsuc};
 ghost use lib.Dec.{ltb};
 ghost use lib.ListN.{length};
+ghost use Rattle.cyclotomic.specs.Zomega.{limit, eqZ};
 ghost use Rattle.exact.specs.Matrix.{allDivisible};
 ghost use Rattle.exact.proofs.Words.{AllSmall};
 ghost use Rattle.exact.specs.Places.{read, held};
@@ -14,7 +16,7 @@ ghost use Rattle.synthesis_arena.specs.Limits.{toldLimits};
 ghost use Rattle.width_answer.specs.Answers.{AskedPlaces, toldFind, ListFound};
 ghost use Rattle.walk.specs.Answers.{outcome as replied};
 ghost use Rattle.tables.specs.Checks.{firstRow, queryRows, arrays, arraysBy, roomRow};
-ghost use Rattle.tables.specs.Tables.{left, buildOf, fillLeft, fillOf, query, recordRow, countAt, foundIn, writtenIn, synthesized};
+ghost use Rattle.tables.specs.Tables.{left, buildOf, fillLeft, fillOf, query, recordRow, foundIn, writtenIn, synthesized};
 ghost use Rattle.walk.specs.Index.{indexed};
 ghost use Rattle.walk.specs.Modes.{byPrint};
 ghost use Rattle.index.specs.Told.{toldBy};
@@ -24,7 +26,7 @@ ghost use Rattle.refusal.specs.Told.{toldCheck};
 ghost use Rattle.murm_config.specs.Told.{toldConfig, toldMurm};
 ghost use Rattle.tables.specs.Lists.{firstInvalid, outcome, listed};
 ghost use Rattle.murm.specs.Entries.{partFrom, toldListed, fingerprinted, toldFingerprinted, toldBuilding, toldFilling, toldFoundNode, toldWritten, askedOf, toldSynthesized};
-ghost use Rattle.murm.specs.Work.{PastLimit, InRange, Checked, FindChecked, FoundFor, Writable, nodeWritten};
+ghost use Rattle.murm.specs.Work.{InRange, Checked, FindChecked, Counted, FoundFor, Writable, nodeWritten};
 use circuit::LibraryGate;
 use cyclotomic::Coefficient;
 use cyclotomic::LIMIT;
@@ -108,22 +110,25 @@ pub fn library_circuit_matrix(width: u32, codes: &[u32], out: &mut [Coefficient]
 
 // Whether a coefficient is -32768.
 fn past_limit(x: Coefficient) -> bool
-    ensures { λ r. ⌜ PastLimit x r ⌝ }
+    ensures { λ r. ⌜ r ≡ eqZ x (negsuc limit) ⌝ }
 {
     (x as Wide) < -LIMIT
 }
 
-// Row 10: whether no coefficient is -32768. There is no early return: this loop is many times faster without one.
+// Row 10: whether no coefficient is -32768, by the least of them and 0. There is no early return: this loop is many times faster without one.
 fn in_range(entries: &[Coefficient]) -> bool
     ensures { λ r. ⌜ InRange (now (entries .entry)) r ⌝ }
 {
-    let mut found = false;
+    let mut least: Coefficient = 0;
     let mut i = 0;
     while i < entries.len() {
-        found = found | past_limit(entries[i]);
+        let x = entries[i];
+        if x < least {
+            least = x;
+        }
         i += 1;
     }
-    !found
+    !past_limit(least)
 }
 
 // Row 11: whether k is above 0 and all entries are divisible, so that the matrix is not in lowest denominator.
@@ -331,7 +336,9 @@ fn find_from(
         &parents[start..end],
         &codes[start..end],
         &index[place..place + size],
-        matrix,
+        // all of it, made anew: a slice that is handed on as it lies is copied as one word of 16 bytes, and that load waits for the two stores
+        // before it (docs/SPEED.md)
+        &matrix[0..matrix.len()],
         list,
     )
 }
@@ -339,7 +346,7 @@ fn find_from(
 // The part of a width that has entries is searched.
 fn find_part(
     by: LookupBy,
-    table: Murm,
+    config: MurmConfig,
     fingerprints: &[u64],
     parents: &[u32],
     codes: &[u32],
@@ -350,21 +357,21 @@ fn find_part(
     matrix: &[Coefficient],
     list: &mut [u32],
 ) -> Find
-    requires { ⌜ (recordRow (toldMurm table) .holds ≡ false) × (count ≡ countAt (toldMurm table) width) × (0 < count) ⌝ }
-    requires { ⌜ roomRow (toldConfig (table .config)) (arrays (now fingerprints) (now parents) (now codes)) .holds ≡ false ⌝ }
+    requires { ⌜ Counted (toldConfig config) width count × (0 < count) ⌝ }
+    requires { ⌜ roomRow (toldConfig config) (arrays (now fingerprints) (now parents) (now codes)) .holds ≡ false ⌝ }
     requires { ⌜ (firstRow (queryRows width exponent (now matrix)) ≡ 0) × AllSmall width (read width (now matrix)) × (64 ≤ length (now list)) ⌝ }
-    ensures { λ r. ⌜ FoundFor (toldMurm table)
+    ensures { λ r. ⌜ FoundFor (toldConfig config) count
         (arraysBy (toldBy by) (now (fingerprints .entry)) (now (parents .entry)) (now (codes .entry)) (now (index .entry)))
         (query width exponent (now (matrix .entry))) (toldFind r) (now (list .exit)) ⌝ }
 {
-    let e = table.config.max_entries_per_qubit as usize;
-    let size = index.len() / table.config.max_qubits as usize;
+    let e = config.max_entries_per_qubit as usize;
+    let size = index.len() / config.max_qubits as usize;
     let before = width as usize - 1;
-    let basis = table.config.basis;
+    let basis = config.basis;
     let limits = WidthLimits {
         width,
         basis: basis.0,
-        gates: table.config.max_gates as usize,
+        gates: config.max_gates as usize,
         entries: e,
     };
     find_from(
@@ -385,34 +392,34 @@ fn find_part(
 }
 
 // The node that answers a matrix that no row up to 11 refuses, with its list in the first places of `list`. A width without entries has none
-// (SPECIFICATION 7.3).
+// (SPECIFICATION 7.3). The limits and the width's count are handed on, and not the record, which each call would copy.
 fn find_any(
     by: LookupBy,
-    table: Murm,
+    config: MurmConfig,
     fingerprints: &[u64],
     parents: &[u32],
     codes: &[u32],
     index: &[u32],
     width: u32,
+    count: usize,
     exponent: u16,
     matrix: &[Coefficient],
     list: &mut [u32],
 ) -> Find
-    requires { ⌜ recordRow (toldMurm table) .holds ≡ false ⌝ }
-    requires { ⌜ roomRow (toldConfig (table .config)) (arrays (now fingerprints) (now parents) (now codes)) .holds ≡ false ⌝ }
+    requires { ⌜ Counted (toldConfig config) width count ⌝ }
+    requires { ⌜ roomRow (toldConfig config) (arrays (now fingerprints) (now parents) (now codes)) .holds ≡ false ⌝ }
     requires { ⌜ (firstRow (queryRows width exponent (now matrix)) ≡ 0) × AllSmall width (read width (now matrix)) × (64 ≤ length (now list)) ⌝ }
-    ensures { λ r. ⌜ FoundFor (toldMurm table)
+    ensures { λ r. ⌜ FoundFor (toldConfig config) count
         (arraysBy (toldBy by) (now (fingerprints .entry)) (now (parents .entry)) (now (codes .entry)) (now (index .entry)))
         (query width exponent (now (matrix .entry))) (toldFind r) (now (list .exit)) ⌝ }
 {
-    let count = murm_config::count_at(table, width);
     if count == 0 {
         return Find::Nothing;
     }
     // taken apart and made anew: handed on as it lies in memory, the answer makes the caller wait (docs/SPEED.md)
     match find_part(
         by,
-        table,
+        config,
         fingerprints,
         parents,
         codes,
@@ -466,15 +473,18 @@ fn find_passed(
         (arraysBy (toldBy by) (now (fingerprints .entry)) (now (parents .entry)) (now (codes .entry)) (now (index .entry)))
         (query width exponent (now (matrix .entry))) ⌝ }
 {
+    let config = table.config;
+    let count = murm_config::count_at(table, width);
     let mut list: [u32; 64] = [0; 64];
     found_node(find_any(
         by,
-        table,
+        config,
         fingerprints,
         parents,
         codes,
         index,
         width,
+        count,
         exponent,
         matrix,
         &mut list,
@@ -643,15 +653,18 @@ fn ask(
     if out.len() < table.config.max_gates as usize {
         return Synthesized::Refused(Refusal::ListTooShort);
     }
+    let config = table.config;
+    let count = murm_config::count_at(table, width);
     let mut list: [u32; 64] = [0; 64];
     match find_any(
         by,
-        table,
+        config,
         fingerprints,
         parents,
         codes,
         index,
         width,
+        count,
         exponent,
         matrix,
         &mut list,

@@ -13,19 +13,15 @@ use Rattle.exact.proofs.Listed.{product-nil}
 use Rattle.walk.specs.Walk.{Node, root, gate}
 use Rattle.walk.specs.AtWidth.{printOf, parentOf}
 use Rattle.walk.specs.Index.{By, keptUp, kept}
-use Rattle.walk.proofs.Held.{map-at}
+use Rattle.walk.proofs.Sequences.{map-at, map-snoc}
 use Rattle.walk.proofs.Indexed.{kept-cong, kept-more}
 use Rattle.synthesis_arena.specs.declared.WidthLimits.{WidthLimits}
 use Rattle.next_node.specs.Arrays.{Column, Columns}
 
-map-snoc : (p : Node → ℕ) (ns : List Node) (m : Node) → map p (ns ++ (m ∷ [])) ≡ map p ns ++ (p m ∷ [])
-map-snoc p [] m = refl
-map-snoc p (n ∷ ns) m = ap (λ (z : List ℕ). p n ∷ z) (map-snoc p ns m)
-
 module _ {p : Node → ℕ} {ns : List Node} {xs old : List ℕ} {n : ℕ} (w : Column p old ns xs n) (q : n ≡ length ns) where
   -- at a node's place
   pub column-at : (j : ℕ) → j < length ns → getD xs j 0 ≡ p (getD ns j root)
-  column-at j h = ap (λ (z : List ℕ). getD z j 0) (w .is) ∙ List·getD-append (map p ns) (drop n old) 0 j (omega (arith, length-map ns p)) ∙ map-at p ns j h
+  column-at j h = ap (λ (z : List ℕ). getD z j 0) (w .is) ∙ List·getD-append (map p ns) (drop n old) 0 j (omega (arith, length-map ns p)) ∙ map-at p root ns j h
 
   pub column-length : n ≤ length old → length xs ≡ length old
   column-length h = omega (arith, ap length (w .is), length-append (map p ns) (drop n old), length-map ns p, length-drop n old)

@@ -11,8 +11,9 @@ ghost use Rattle.exact.specs.Fits.{stepFits};
 ghost use Rattle.exact.specs.Places.{held};
 ghost use Rattle.places.specs.Places.{places};
 ghost use Rattle.matrix.specs.Step.{Ready};
+ghost use Rattle.walk.specs.Index.{lookedUp};
 ghost use Rattle.index.specs.Told.{toldBy};
-ghost use Rattle.known.specs.Known.{toldMode};
+ghost use Rattle.known.specs.Known.{toldMode, Hint};
 ghost use Rattle.next_node.specs.Arrays.{Room};
 ghost use Rattle.next_node.specs.Append.{RootPut, prunedAt, Appended};
 use circuit::LibraryGate;
@@ -69,7 +70,8 @@ pub fn is_pruned(node: usize, gate: u32, codes: &[u32]) -> bool
 }
 
 // A candidate that fits, the gate after the node, by its fingerprint and the node's matrix m: a known one is skipped, an unknown one is appended, or
-// saturates a width that is full. Two matrices may be formed in lent places; what they hold afterwards is not told.
+// saturates a width that is full. `ahead` is the node that was found ahead for it, or the mark. Two matrices may be formed in lent places; what they hold
+// afterwards is not told.
 pub fn append(
     mode: BuildMode,
     by: LookupBy,
@@ -78,6 +80,7 @@ pub fn append(
     node: usize,
     gate: u32,
     print: u64,
+    ahead: u32,
     exponent: u16,
     fingerprints: &mut [u64],
     parents: &mut [u32],
@@ -88,6 +91,7 @@ pub fn append(
     right: &mut [Coefficient; 4096],
 ) -> Tried
     requires room { ⌜ Room (toldBy by) limits count node (now fingerprints) (now parents) (now codes) (now index) ⌝ }
+    requires ahead { ⌜ Hint (lookedUp (toldBy by) (now index) (now fingerprints) count 0 print) ahead ⌝ }
     requires ready { ⌜ Ready (limits .width) exponent (now m) ⌝ }
     requires gate { ⌜ (valid (limits .width) gate ≡ true) × (stepFits (limits .width) (gateOf (limits .width) gate) (held (limits .width) exponent (now m)) ≡ true) ⌝ }
     requires long { ⌜ (length (now left) ≡ places) × (length (now right) ≡ places) ⌝ }
@@ -104,6 +108,7 @@ pub fn append(
         limits,
         count,
         print,
+        ahead,
         gate,
         exponent,
         fingerprints,

@@ -128,21 +128,6 @@ impl Streams {
         c.mix(words::sign_extended(z.d))
     }
 
-    // An entry is mixed in, turned: four of its eight coefficients are read, at the places of the turn.
-    fn mix_eight(self, x: &[Coefficient; 8], t: TurnPlaces) -> Streams
-        requires { ⌜ OfEight t ⌝ }
-        ensures { λ r. ⌜ streams r ≡ mixAll (streams self) (fourWords (readAt (now (x .entry)) t)) ⌝ }
-    {
-        let i = t.a;
-        let j = t.b;
-        let k = t.c;
-        let l = t.d;
-        let a = self.mix(words::sign_extended(x[i]));
-        let b = a.mix(words::sign_extended(x[j]));
-        let c = b.mix(words::sign_extended(x[k]));
-        c.mix(words::sign_extended(x[l]))
-    }
-
     fn fold(self) -> u64
         ensures { λ r. ⌜ r ≡ fold (streams self) ⌝ }
     {
@@ -190,16 +175,55 @@ pub fn unitary_fingerprint(m: &[Coefficient], n: usize, k: u16) -> u64
     mix_entries(m, places::area(n), power, head(n, k)).fold()
 }
 
+// The streams of two matrices.
+pub struct TwoStreams {
+    pub left: Streams,
+    pub right: Streams,
+}
+
+// An entry of each of two matrices is mixed in, turned: four of its eight coefficients are read, at the places of its matrix's turn. The words go in
+// turns, one of the left matrix and one of the right: in this order a build takes less time (docs/PAIRS.md).
+fn mix_eights(
+    s: Streams,
+    t: Streams,
+    x: &[Coefficient; 8],
+    y: &[Coefficient; 8],
+    u: TurnPlaces,
+    v: TurnPlaces,
+) -> TwoStreams
+    requires { ⌜ OfEight u × OfEight v ⌝ }
+    ensures left { λ r. ⌜ streams (r .left) ≡ mixAll (streams s) (fourWords (readAt (now (x .entry)) u)) ⌝ }
+    ensures right { λ r. ⌜ streams (r .right) ≡ mixAll (streams t) (fourWords (readAt (now (y .entry)) v)) ⌝ }
+{
+    let i = u.a;
+    let j = u.b;
+    let k = u.c;
+    let l = u.d;
+    let e = v.a;
+    let f = v.b;
+    let g = v.c;
+    let h = v.d;
+    let left_a = s.mix(words::sign_extended(x[i]));
+    let right_a = t.mix(words::sign_extended(y[e]));
+    let left_b = left_a.mix(words::sign_extended(x[j]));
+    let right_b = right_a.mix(words::sign_extended(y[f]));
+    let left_c = left_b.mix(words::sign_extended(x[k]));
+    let right_c = right_b.mix(words::sign_extended(y[g]));
+    TwoStreams {
+        left: left_c.mix(words::sign_extended(x[l])),
+        right: right_c.mix(words::sign_extended(y[h])),
+    }
+}
+
 // The fingerprints of two matrices.
 pub struct Pair {
     pub left: u64,
     pub right: u64,
 }
 
-// The fingerprints of two matrices of width n, over sqrt(2)^j and sqrt(2)^k, entry by entry in turns. A step of a stream waits for the step before
-// it, and not for the other matrix's: two take little longer than one. Each matrix's turns are worked once, on places: where two are mixed this is
-// faster than to turn each entry, where one is mixed it is slower. Both eights are made before either is mixed, since the compiler would otherwise
-// give them one place in memory, which is slower (docs/PAIRS.md has the times).
+// The fingerprints of two matrices of width n, over sqrt(2)^j and sqrt(2)^k, one entry of each at a time. A step of a stream waits for the step
+// before it, and not for the other matrix's: two take little longer than one. Each matrix's turns are worked once, on places: where two are mixed
+// this is faster than to turn each entry, where one is mixed it is slower (docs/PAIRS.md has the times).
 pub fn pair_fingerprints(
     left: &[Coefficient],
     right: &[Coefficient],
@@ -224,8 +248,9 @@ pub fn pair_fingerprints(
     while e < size {
         let x = places::get(left, e).eight();
         let y = places::get(right, e).eight();
-        s = s.mix_eight(&x, u);
-        t = t.mix_eight(&y, v);
+        let both = mix_eights(s, t, &x, &y, u, v);
+        s = both.left;
+        t = both.right;
         e += 1;
     }
     Pair {

@@ -14,7 +14,7 @@ use Rattle.walk.specs.Walk.{Node, root, gate}
 use Rattle.walk.specs.Modes.{Mode}
 use Rattle.walk.specs.AtWidth.{printOf, parentOf}
 use Rattle.walk.specs.Index.{By, scan, indexed}
-use Rattle.walk.proofs.Held.{map-at}
+use Rattle.walk.proofs.Sequences.{map-at}
 use Rattle.tables.specs.Checks.{firstRow, Limits, limitRows, Arrays, arraysBy, placesOf, roomRow, indexRow, partsRow}
 use Rattle.tables.specs.Tables.{Table, walkOf, recordOf, printsOf, parentsOf, codesOf, filledTo, indexTo, builtTo}
 use Rattle.tables.specs.Tables.{BuildReply, table, refusal, Left, left, buildRows, leftBy, buildOf}
@@ -46,7 +46,7 @@ module _ (mode : Mode) (l : Limits) (some : 0 < l .entries) (p : ℕ → Node �
   column-at old r (suc v) h q j b =
       let e : suc v - 1 ≡ v = omega arith in
       rw e (filled-at column (l .entries) column-short (l .qubits) v j old r (omega arith) (omega (arith, column-count (suc v)))
-      ∙ ap (λ (xs : List ℕ). getD xs j 0) (is (suc v)) ∙ map-at (p (suc v)) (walkOf mode l (suc v) .nodes) j b)
+      ∙ ap (λ (xs : List ℕ). getD xs j 0) (is (suc v)) ∙ map-at (p (suc v)) root (walkOf mode l (suc v) .nodes) j b)
 
 -- ---- limits and arrays that no row refuses: the record, and the arrays filled up to Q, are a built table
 
@@ -157,7 +157,7 @@ module _ (mode : Mode) (l : Limits) (some : 0 < l .entries) (p : ℕ → Node �
       (λ v j lt d. let b : j < length (walkOf mode l (suc v) .nodes) = omega (arith, column-count mode l some p column is (suc v)) in
       let e : suc v - 1 ≡ v = omega arith in
       ap (λ (z : ℕ). getD old (z * l .entries + j) 0) (sym e) ∙ f (suc v) (omega arith) (omega arith) j b
-      ∙ sym (ap (λ (xs : List ℕ). getD xs j 0) (is (suc v)) ∙ map-at (p (suc v)) (walkOf mode l (suc v) .nodes) j b))
+      ∙ sym (ap (λ (xs : List ℕ). getD xs j 0) (is (suc v)) ∙ map-at (p (suc v)) root (walkOf mode l (suc v) .nodes) j b))
 
 -- the index: by the scan it is left, and otherwise the fill is the build
 index-same : {mode : Mode} (t : Table) (a : Arrays) → Built mode t a → FilledFrom t a → indexTo mode (t .limits) (a .by) (t .limits .qubits) (a .index) ≡ a .index

@@ -14,7 +14,8 @@ use Rattle.walk.specs.Modes.{Mode}
 use Rattle.walk.specs.AtWidth.{printOf}
 use Rattle.walk.specs.Index.{By, scan, indexed, lookedUp, filled, kept}
 use Rattle.walk.specs.Finds.{lookedIn}
-use Rattle.walk.proofs.Held.{map-at}
+use Rattle.walk.specs.Walk.{root}
+use Rattle.walk.proofs.Sequences.{map-at}
 use Rattle.walk.proofs.Indexed.{kept-looks-up, kept-length, kept-cong}
 use Rattle.tables.specs.Checks.{Limits, Arrays, inParts, indexRow}
 use Rattle.tables.specs.Tables.{Table, walkOf, printsOf, partsTo, partSize, indexTo, recordRow, countAt, partOf, partAt, filledIndex}
@@ -171,7 +172,7 @@ module _ {mode : Mode} (t : Table) (a : Arrays) (b : Built mode t a) where
   prints-at w p h j l =
       let c = walk-count mode (t .limits) w (accepted (t .limits) (b .accepted) .some) .1 in
       getD-take (t .limits .entries) (drop ((w - 1) * t .limits .entries) (a .prints)) j 0 (omega (arith, c))
-      ∙ getD-drop ((w - 1) * t .limits .entries) (a .prints) j 0 ∙ b .nodes w p h j l .print ∙ sym (map-at (printOf w) (walkOf mode (t .limits) w .nodes) j l)
+      ∙ getD-drop ((w - 1) * t .limits .entries) (a .prints) j 0 ∙ b .nodes w p h j l .print ∙ sym (map-at (printOf w) root (walkOf mode (t .limits) w .nodes) j l)
 
   -- a fill leaves what a build of the limits leaves
   pub fill-is-build : filledIndex t a ≡ indexTo mode (t .limits) indexed (t .limits .qubits) (a .index)

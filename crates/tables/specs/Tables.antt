@@ -182,11 +182,14 @@ countAt t w = pick (notAWidth t w) 0 (widthAt t w .count)
 abbrev pub partOf : ℕ → ℕ → List ℕ → List ℕ
 partOf n E xs = take E (drop ((n - 1) * E) xs)
 
--- and in the three and the index, with its count
+-- and in the three and the index, with a count of its entries
+abbrev pub partBy : Limits → ℕ → Arrays → ℕ → Part
+partBy l count a w =
+    partWith (a .by) (partOf w (l .entries) (a .prints)) (partOf w (l .entries) (a .parents)) (partOf w (l .entries) (a .codes))
+    count (partOf w (partSize l (length (a .index))) (a .index))
+
 abbrev pub partAt : Table → Arrays → ℕ → Part
-partAt t a w =
-    partWith (a .by) (partOf w (t .limits .entries) (a .prints)) (partOf w (t .limits .entries) (a .parents)) (partOf w (t .limits .entries) (a .codes))
-    (countAt t w) (partOf w (partSize (t .limits) (length (a .index))) (a .index))
+partAt t a w = partBy (t .limits) (countAt t w) a w
 
 -- the limits of a width of the table
 abbrev pub limitsAt : Limits → ℕ → WidthLimits

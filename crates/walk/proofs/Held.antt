@@ -1,9 +1,8 @@
 -- Arrays that hold the nodes of a walk: what a place holds, and the chain of a node. Assumes nothing.
-use mathlib.Core.Path.{_≡_, refl, sym, ap, _∙_}
+use mathlib.Core.Path.{_≡_, sym, ap, _∙_}
 use mathlib.Core.Bool.{true}
-use mathlib.Core.List.{List, [], _∷_, _++_, map, reverse, reverse-cons}
+use mathlib.Core.List.{List, [], _∷_, _++_, reverse, reverse-cons}
 use Prim.Native.Nat.{ℕ, zero, suc, _-_, _≤_, _<_}
-use native.Mathlib.Nat.{not-suc-le-zero, le-of-suc-le-suc}
 use native.Mathlib.Omega.{arith}
 use borrow.Author.Tests.{eq-eqb}
 use lib.Dec.{eqb}
@@ -19,12 +18,6 @@ use Rattle.walk.specs.Chains.{Chain, good, then, marked, chainOf}
 use Rattle.walk.proofs.Grown.{Grown, Link}
 use Rattle.walk.proofs.Nodes.{first, link}
 use Rattle.walk.proofs.Chaining.{chain-more}
-
--- what p says of the nodes, at one of them
-pub map-at : (p : Node → ℕ) (ns : List Node) (j : ℕ) → j < length ns → getD (map p ns) j 0 ≡ p (getD ns j root)
-map-at p [] j h = absurd (not-suc-le-zero h)
-map-at p (n ∷ ns) zero h = refl
-map-at p (n ∷ ns) (suc j) h = map-at p ns j (le-of-suc-le-suc h)
 
 -- the first places of two arrays hold the parents and the gates of the nodes; what other places hold plays no part
 pub record HoldsChains (ns : List Node) (u c : List ℕ) : Type 0 where

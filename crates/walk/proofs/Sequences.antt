@@ -1,8 +1,8 @@
--- Tests, lists with one more at the end, and beginnings of lists, as the walk's proofs use them. Assumes nothing.
+-- Tests, what is said of each element of a list, lists with one more at the end, and beginnings of lists, as the walk's proofs use them. Assumes nothing.
 use mathlib.Core.Path.{_≡_, refl, sym, ap, _∙_}
 use mathlib.Core.Logic.{_⊎_, inl, inr, ⊎-elim}
 use mathlib.Core.Bool.{Bool, true, false, _||_}
-use mathlib.Core.List.{List, [], _∷_, _++_, append-assoc, append-nil}
+use mathlib.Core.List.{List, [], _∷_, _++_, map, append-assoc, append-nil}
 use Prim.Native.Nat.{ℕ, zero, suc, _≤_, _<_}
 use native.Mathlib.Nat.{not-suc-le-zero, le-of-suc-le-suc, zero-lt-suc}
 use native.Mathlib.Decide.{decLt}
@@ -52,6 +52,19 @@ module _ {A : Type 0} (f : A → Bool) (d : A) where
   any-at [] k h e = absurd (not-suc-le-zero h)
   any-at (n ∷ ns) zero h e = rw e
   any-at (n ∷ ns) (suc k) h e = or-right (f n) (any f ns) (any-at ns k (le-of-suc-le-suc h) e)
+
+-- ---- what p says of each element
+
+module _ {A : Type 0} (p : A → ℕ) where
+  -- at one of them, by whatever element stands for those past the end
+  pub map-at : (d : A) (ns : List A) (j : ℕ) → j < length ns → getD (map p ns) j 0 ≡ p (getD ns j d)
+  map-at d [] j h = absurd (not-suc-le-zero h)
+  map-at d (n ∷ ns) zero h = refl
+  map-at d (n ∷ ns) (suc j) h = map-at d ns j (le-of-suc-le-suc h)
+
+  pub map-snoc : (ns : List A) (m : A) → map p (ns ++ (m ∷ [])) ≡ map p ns ++ (p m ∷ [])
+  map-snoc [] m = refl
+  map-snoc (n ∷ ns) m = ap (λ (z : List ℕ). p n ∷ z) (map-snoc ns m)
 
 -- ---- one more at the end
 

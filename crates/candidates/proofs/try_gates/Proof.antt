@@ -6,7 +6,7 @@ use native.Mathlib.Omega.{arith}
 use lib.ListN.{length, length-map}
 use Rattle.generators.specs.Generators.{generators}
 use Rattle.places.specs.Places.{places}
-use Rattle.walk.specs.Walk.{listAt, tryAll}
+use Rattle.walk.specs.Walk.{tryAll}
 use Rattle.index.specs.Told.{toldBy}
 use Rattle.known.specs.Known.{toldMode}
 use Rattle.next_node.specs.Arrays.{rules, unsaturated}
@@ -14,47 +14,55 @@ use Rattle.next_node.proofs.Tries.{live-room}
 use Rattle.exact.specs.Places.{held}
 use Rattle.candidates.specs.Tries.{candidatePrint, NodeFormed}
 use Rattle.candidates.proofs.NodeLoop.{NodeRun, node-run-live, node-run-lt, node-run-end}
-use Rattle.candidates.proofs.Gates.{gate-fits, gate-ahead, ahead-now, gates-start, gates-full, gates-next}
+use Rattle.candidates.proofs.Gates.{gate-fits, gate-ahead, ahead-now, hint-now, gates-start, gates-full, gates-next}
 use borrow.Author.Needs.{needs}
 use Rattle.candidates.proofs.try_gates.Statement.{statement}
 use Rattle.candidates.proofs.try_gates.Tie as tie
 
 abbrev Inv-loop : tie.InvT-loop
-Inv-loop count node exponent gates prints fingerprints₀ parents₀ codes₀ index₀ m left₀ right₀ how lookup l n₀ j₀ fingerprints parents codes index left right n j =
+Inv-loop count node exponent gates prints nodes fingerprints₀ parents₀ codes₀ index₀ m left₀ right₀ how lookup l n₀ j₀ fingerprints parents codes index left right n j =
     (j ≤ length gates)
     × ((w : NodeFormed (toldMode how) (toldBy lookup) l count node exponent fingerprints₀ parents₀ codes₀ index₀ m)
-    → NodeRun (toldMode how) (toldBy lookup) l node (w .live .d) (w .live .f0) (w .live .u0) (w .live .c0) (w .live .i0) (listAt (w .live .ns) node)
+    → NodeRun (toldMode how) (toldBy lookup) l node (w .live .d) (w .live .f0) (w .live .u0) (w .live .c0) (w .live .i0) (w .live .ns)
     (tryAll (rules (toldMode how) l) (l .entries) (unsaturated (w .live .ns)) node (generators (l .width) (l .basis))) gates j fingerprints parents codes index n)
     × (length fingerprints ≡ length fingerprints₀) × (length parents ≡ length parents₀) × (length codes ≡ length codes₀)
     × (length index ≡ length index₀) × (length left ≡ places) × (length right ≡ places)
 
 abbrev μ-loop : tie.MeasureT-loop
-μ-loop count node exponent gates prints fingerprints₀ parents₀ codes₀ index₀ m left₀ right₀ how lookup l n₀ j₀ fingerprints parents codes index left right n j = length gates - j
+μ-loop count node exponent gates prints nodes fingerprints₀ parents₀ codes₀ index₀ m left₀ right₀ how lookup l n₀ j₀ fingerprints parents codes index left right n j = length gates - j
 
 loop-holds : tie.Need-loop-holds Inv-loop μ-loop
 loop-holds c =
-    let p = c .before .before .before .before .before .before .pre in
-    (omega arith, λ w. gates-start w (p .0 .1) (p .1 .0) (live-room (w .live) (p .0 .1) (p .0 .0) (p .0 .3) (p .0 .2)), refl, refl, refl, refl, p .1 .1 .1 .1 .0, p .1 .1 .1 .1 .1)
+    let p = c .before .before .before .before .before .before .before .pre in
+    (omega arith, λ w. gates-start w (p .0 .1) (p .1 .0), refl, refl, refl, refl, p .1 .1 .1 .1 .1 .0, p .1 .1 .1 .1 .1 .1)
 
-shared-slice-read-p : tie.Need-shared-slice-read-p Inv-loop μ-loop
-shared-slice-read-p c =
-    let s = c .before .before .before .before .before .before .before .before .before .before in
-    let a = s .args in
-    omega (arith, c .before .before .loop-test .taken, ap length (s .pre .1 .1 .0), length-map (a .gates .now) (candidatePrint (a .limits .width) (held (a .limits .width) (a .exponent) (a .m .now))))
+-- as many fingerprints as gates, and as many nodes
+prints-long : (s : tie.Start Inv-loop μ-loop) → length (s .args .prints .now) ≡ length (s .args .gates .now)
+prints-long s = let a = s .args in ap length (s .pre .1 .1 .0) ∙ length-map (a .gates .now) (candidatePrint (a .limits .width) (held (a .limits .width) (a .exponent) (a .m .now)))
+
+nodes-long : (s : tie.Start Inv-loop μ-loop) → length (s .args .nodes .now) ≡ length (s .args .prints .now)
+nodes-long s = ap length (s .pre .1 .1 .1 .0) ∙ length-map (s .args .prints .now) _
 
 append-requires : tie.Need-append-requires Inv-loop μ-loop
 append-requires c κs =
-    let p = c .before .before .before .before .before .before .before .before .before .before .before .before .before .before .before .before .pre in
-    let w = p .1 .1 .1 .0 in
-    let l = c .before .before .before .before .before .before .before .before .before .loop in
-    let r = l .inv .1 w in
-    (live-room (node-run-live _ _ _ _ _ _ _ _ _ _ _ _ r (w .live .deep) (w .live .long)) (node-run-lt _ _ _ _ _ _ _ _ _ _ _ _ r) (p .0 .0) (p .0 .3) (p .0 .2), (w .ready, (gate-fits w (p .0 .1) (p .1 .0) (p .0 .0) (l .j) (c .before .before .before .before .before .before .before .before .loop-test .taken), (l .inv .6, l .inv .7))))
+    let s = c .before .before .before .before .before .before .before .before .before .before .before .before .before .before .before .before .before .before in
+    let p = s .pre in
+    let w = p .1 .1 .1 .1 .0 in
+    let l = c .before .before .before .before .before .before .before .before .before .before .loop in
+    let t = c .before .before .before .before .before .before .before .before .before .loop-test .taken in
+    let r = l .inv .1 w in (
+      live-room (node-run-live _ _ _ _ _ _ _ _ _ _ _ _ r (w .live .deep) (w .live .long)) (node-run-lt _ _ _ _ _ _ _ _ _ _ _ _ r) (p .0 .0) (p .0 .3) (p .0 .2),
+      (
+        hint-now w (p .0 .1) (p .1 .0) r t (p .0 .2) (s .args .prints .now) (prints-long s) (p .1 .1 .1 .0),
+        (w .ready, (gate-fits w (p .0 .1) (p .1 .0) (p .0 .0) (l .j) t, (l .inv .6, l .inv .7))),
+      ),
+    )
 
 returns : tie.Need-returns Inv-loop μ-loop
 returns c =
-    let p = c .before .before .before .before .before .before .before .before .before .before .before .before .before .before .before .before .before .before .before .before .before .before .before .before .before .before .pre in
-    let l = c .before .before .before .before .before .before .before .before .before .before .before .before .before .before .before .before .before .before .before .loop in
-    let t = c .before .before .before .before .before .before .before .before .before .before .before .before .before .before .before .before .before .before .loop-test .taken in
+    let p = c .before .before .before .before .before .before .before .before .before .before .before .before .before .before .before .before .before .before .before .before .before .before .before .before .before .before .before .before .pre in
+    let l = c .before .before .before .before .before .before .before .before .before .before .before .before .before .before .before .before .before .before .before .before .loop in
+    let t = c .before .before .before .before .before .before .before .before .before .before .before .before .before .before .before .before .before .before .before .loop-test .taken in
     let e = c .before .before .before .before .before .before .before .before .before .append .ensures in (
       λ w. let r = l .inv .1 w in
           let a = ahead-now w (p .0 .1) (p .1 .0) r t (gate-ahead w (p .0 .1) (p .1 .0) (p .1 .1 .0) (l .j) t) in
@@ -64,19 +72,19 @@ returns c =
 
 loop-again : tie.Need-loop-again Inv-loop μ-loop
 loop-again c =
-    let p = c .before .before .before .before .before .before .before .before .before .before .before .before .before .before .before .before .before .before .before .before .before .before .before .before .before .before .pre in
-    let l = c .before .before .before .before .before .before .before .before .before .before .before .before .before .before .before .before .before .before .before .loop in
-    let t = c .before .before .before .before .before .before .before .before .before .before .before .before .before .before .before .before .before .before .loop-test .taken in
+    let p = c .before .before .before .before .before .before .before .before .before .before .before .before .before .before .before .before .before .before .before .before .before .before .before .before .before .before .before .before .pre in
+    let l = c .before .before .before .before .before .before .before .before .before .before .before .before .before .before .before .before .before .before .before .before .loop in
+    let t = c .before .before .before .before .before .before .before .before .before .before .before .before .before .before .before .before .before .before .before .loop-test .taken in
     let b = c .before .before .before .before .before .before .before .before .before .append in
     let e = b .ensures in (
       omega (arith, t),
       λ w. let r = l .inv .1 w in
           let a = ahead-now w (p .0 .1) (p .1 .0) r t (gate-ahead w (p .0 .1) (p .1 .0) (p .1 .1 .0) (l .j) t) in
           gates-next w (p .0 .1) (p .1 .0) r t (e .0 (node-run-live _ _ _ _ _ _ _ _ _ _ _ _ r (w .live .deep) (w .live .long)) (a .unpruned) (a .fits) (a .print) (a .equal)) (c .if1 .left),
-      b .kept .1 .1 .1 .1 .1 .1 .1 .1 .0 ∙ l .inv .2,
-      b .kept .1 .1 .1 .1 .1 .1 .1 .1 .1 .0 ∙ l .inv .3,
-      b .kept .1 .1 .1 .1 .1 .1 .1 .1 .1 .1 .0 ∙ l .inv .4,
-      b .kept .1 .1 .1 .1 .1 .1 .1 .1 .1 .1 .1 .0 ∙ l .inv .5,
+      b .kept .1 .1 .1 .1 .1 .1 .1 .1 .1 .0 ∙ l .inv .2,
+      b .kept .1 .1 .1 .1 .1 .1 .1 .1 .1 .1 .0 ∙ l .inv .3,
+      b .kept .1 .1 .1 .1 .1 .1 .1 .1 .1 .1 .1 .0 ∙ l .inv .4,
+      b .kept .1 .1 .1 .1 .1 .1 .1 .1 .1 .1 .1 .1 .0 ∙ l .inv .5,
       e .1 .0,
       e .1 .1,
     )
@@ -94,15 +102,17 @@ try-gates-spec =
     (λ c. search needs)
     (λ c. search needs)
     (λ c. search needs)
-    shared-slice-read-p
+    (λ c. omega (arith, c .before .before .loop-test .taken, prints-long (c .before .before .before .before .before .before .before .before .before .before .before)))
+    (λ c. search needs)
+    (λ c. omega (arith, c .before .before .before .loop-test .taken, prints-long (c .before .before .before .before .before .before .before .before .before .before .before .before), nodes-long (c .before .before .before .before .before .before .before .before .before .before .before .before)))
     append-requires
-    (λ c. c .before .before .before .before .before .before .before .before .before .append .kept .1 .1 .1 .1 .1 .1 .1 .1 .0 ∙ c .before .before .before .before .before .before .before .before .before .before .before .before .before .before .before .before .before .before .before .loop .inv .2)
-    (λ c. c .before .before .before .before .before .before .before .before .before .append .kept .1 .1 .1 .1 .1 .1 .1 .1 .1 .0 ∙ c .before .before .before .before .before .before .before .before .before .before .before .before .before .before .before .before .before .before .before .loop .inv .3)
-    (λ c. c .before .before .before .before .before .before .before .before .before .append .kept .1 .1 .1 .1 .1 .1 .1 .1 .1 .1 .0 ∙ c .before .before .before .before .before .before .before .before .before .before .before .before .before .before .before .before .before .before .before .loop .inv .4)
-    (λ c. c .before .before .before .before .before .before .before .before .before .append .kept .1 .1 .1 .1 .1 .1 .1 .1 .1 .1 .1 .0 ∙ c .before .before .before .before .before .before .before .before .before .before .before .before .before .before .before .before .before .before .before .loop .inv .5)
+    (λ c. c .before .before .before .before .before .before .before .before .before .append .kept .1 .1 .1 .1 .1 .1 .1 .1 .1 .0 ∙ c .before .before .before .before .before .before .before .before .before .before .before .before .before .before .before .before .before .before .before .before .loop .inv .2)
+    (λ c. c .before .before .before .before .before .before .before .before .before .append .kept .1 .1 .1 .1 .1 .1 .1 .1 .1 .1 .0 ∙ c .before .before .before .before .before .before .before .before .before .before .before .before .before .before .before .before .before .before .before .before .loop .inv .3)
+    (λ c. c .before .before .before .before .before .before .before .before .before .append .kept .1 .1 .1 .1 .1 .1 .1 .1 .1 .1 .1 .0 ∙ c .before .before .before .before .before .before .before .before .before .before .before .before .before .before .before .before .before .before .before .before .loop .inv .4)
+    (λ c. c .before .before .before .before .before .before .before .before .before .append .kept .1 .1 .1 .1 .1 .1 .1 .1 .1 .1 .1 .1 .0 ∙ c .before .before .before .before .before .before .before .before .before .before .before .before .before .before .before .before .before .before .before .before .loop .inv .5)
     returns
-    (λ c. omega (arith, c .before .before .before .before .before .before .before .before .before .before .before .before .before .before .before .before .before .before .loop-test .taken, c .before .before .before .before .before .before .before .before .before .before .before .before .before .before .before .before .before .before .before .before .before .before .before .before .before .before .good, c .before .before .before .before .before .before .before .before .before .before .before .before .before .before .before .before .before .before .before .before .before .before .before .before .before .before .fits))
-    (λ c. omega (arith, c .before .before .before .before .before .before .before .before .before .before .before .before .before .before .before .before .before .before .loop-test .taken))
+    (λ c. omega (arith, c .before .before .before .before .before .before .before .before .before .before .before .before .before .before .before .before .before .before .before .loop-test .taken, c .before .before .before .before .before .before .before .before .before .before .before .before .before .before .before .before .before .before .before .before .before .before .before .before .before .before .before .before .good, c .before .before .before .before .before .before .before .before .before .before .before .before .before .before .before .before .before .before .before .before .before .before .before .before .before .before .before .before .fits))
+    (λ c. omega (arith, c .before .before .before .before .before .before .before .before .before .before .before .before .before .before .before .before .before .before .before .loop-test .taken))
     loop-again
     (λ c. c .before .loop .inv .2)
     (λ c. c .before .loop .inv .3)

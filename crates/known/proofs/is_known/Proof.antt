@@ -16,12 +16,12 @@ use Rattle.known.proofs.is_known.Tie as tie
 returns : tie.Need-returns
 returns c =
     let s = c .before .before .before .before .before .before .before in
-    (sym (known-none _ _ _ _ (toldMode (s .args .mode)) (sym (c .before .before .look-up .ensures) ∙ ap toldFound (c .enum-told .given .1))), s .pre .1 .1 .1 .1)
+    (sym (known-none _ _ _ _ (toldMode (s .args .mode)) (sym (c .before .before .first-node .ensures) ∙ ap toldFound (c .enum-told .given .1))), s .pre .1 .1 .1 .1 .1)
 
 has-candidate-requires : tie.Need-has-candidate-requires
 has-candidate-requires c κs =
     let p = c .before .before .before .before .before .before .before .before .before .before .before .before .pre in
-    (p .0, (p .1 .0, (sym (c .before .before .before .before .before .before .before .look-up .ensures) ∙ ap toldFound (c .before .before .before .before .before .node .given .1), (p .1 .1 .0, (p .1 .1 .1 .0, p .1 .1 .1 .1)))))
+    (p .0, (p .1 .0, (sym (c .before .before .before .before .before .before .before .first-node .ensures) ∙ ap toldFound (c .before .before .before .before .before .node .given .1), (p .1 .1 .1 .0, (p .1 .1 .1 .1 .0, p .1 .1 .1 .1 .1)))))
 
 returns-2 : tie.Need-returns-2
 returns-2 c =
@@ -30,8 +30,8 @@ returns-2 c =
     let part = partWith (toldBy (a .by)) (a .fingerprints .now) (a .parents .now) (a .codes .now) (a .count) (a .index .now) in
     let x = act (a .limits .width) (gateOf (a .limits .width) (a .gate)) (held (a .limits .width) (a .exponent) (a .m .now)) in (
       sym (ap (λ (m : BuildMode). isKnown (toldMode m) (toldLimits (a .limits)) part (a .print) x) (c .enum-told2 .given .1)
-          ∙ known-print (toldLimits (a .limits)) part (a .print) x (sym (c .before .before .before .before .before .look-up .ensures) ∙ ap toldFound (c .before .before .before .node .given .1))),
-      s .pre .1 .1 .1 .1,
+          ∙ known-print (toldLimits (a .limits)) part (a .print) x (sym (c .before .before .before .before .before .first-node .ensures) ∙ ap toldFound (c .before .before .before .node .given .1))),
+      s .pre .1 .1 .1 .1 .1,
     )
 
 returns-3 : tie.Need-returns-3

@@ -1,42 +1,30 @@
 -- `find_any` meets its contract: a width without entries has no node, and the answer of a width with entries is made anew. Assumes nothing.
 use borrow.Author.Needs.{needs}
-use mathlib.Core.Path.{_≡_, sym, _∙_, subst}
+use mathlib.Core.Path.{_≡_, subst}
 use mathlib.Core.List.{List}
 use Prim.Native.Nat.{ℕ}
 use native.Mathlib.Omega.{arith}
-use Rattle.tables.specs.Checks.{Arrays, arraysBy}
-use Rattle.tables.specs.Tables.{Table, Query, query, matrixOf, limitsAt, partAt}
+use Rattle.tables.specs.Checks.{arraysBy}
+use Rattle.tables.specs.Tables.{query, matrixOf, limitsAt, partBy}
 use Rattle.exact.specs.Matrix.{Exact}
 use Rattle.walk.specs.Finds.{WidthLimits, Part}
 use Rattle.width_answer.specs.Answers.{toldFind, ListFound}
 use Rattle.width_answer.specs.declared.Find.{Find}
 use Rattle.width_answer.proofs.Widths.{empty-found}
 use Rattle.index.specs.Told.{toldBy}
-use Rattle.murm_config.specs.Told.{toldMurm}
+use Rattle.murm_config.specs.Told.{toldConfig}
 use Rattle.murm.proofs.find_any.Statement.{statement}
 use Rattle.murm.proofs.find_any.Tie as tie
 
--- what the definition is asked
-module _ (s : tie.Start) where
-  abbrev table : Table
-  table = toldMurm (s .args .table)
-
-  abbrev memory : Arrays
-  memory = arraysBy (toldBy (s .args .by)) (s .args .fingerprints .now) (s .args .parents .now) (s .args .codes .now) (s .args .index .now)
-
-  abbrev asked : Query
-  asked = query (s .args .width) (s .args .exponent) (s .args .matrix .now)
-
 returns : tie.Need-returns
 returns c =
-    let s = c .before .before .before .before .before .before .before in
-    empty-found (limitsAt (table s .limits) (s .args .width)) (partAt (table s) (memory s) (s .args .width)) (matrixOf (asked s)) _
-    (sym (c .before .count-at .ensures) ∙ c .if1 .taken)
+    let a = c .before .before .before .before .before .before .args in
+    empty-found (limitsAt (toldConfig (a .config)) (a .width))
+    (partBy (toldConfig (a .config)) (a .count) (arraysBy (toldBy (a .by)) (a .fingerprints .now) (a .parents .now) (a .codes .now) (a .index .now)) (a .width))
+    (matrixOf (query (a .width) (a .exponent) (a .matrix .now))) _ (c .if1 .taken)
 
 find-part-requires : tie.Need-find-part-requires
-find-part-requires c κs =
-    let s = c .before .before .before .before .before .before .before .before in
-    ((s .pre .0, c .before .before .count-at .ensures, omega (arith, c .before .if1 .left)), (s .pre .1 .0, s .pre .1 .1))
+find-part-requires c κs = let p = c .before .before .before .before .before .before .before .pre in ((p .0, omega (arith, c .before .if1 .left)), p .1)
 
 -- the answer made anew is the one that was found
 as-found : {l : WidthLimits} {part : Part} {x : Exact} {list : List ℕ} {r s : Find} → r ≡ s → ListFound l part x (toldFind r) list → ListFound l part x (toldFind s) list
@@ -55,7 +43,6 @@ pub find-any-spec : {M : Type 1} → statement M
 find-any-spec =
     tie.close
     (tie.spec
-    (λ c κs. search needs)
     returns
     find-part-requires
     (λ c. search needs)

@@ -3,7 +3,7 @@ use borrow.Author.Needs.{needs}
 use mir.Facts.{toZ-ofZ, sfits-widen}
 use Rattle.cyclotomic.specs.Zomega.{near, far}
 use Rattle.ints.proofs.Machine.{read-wide}
-use Rattle.murm.proofs.Checks.{past-is, not-past}
+use Rattle.murm.proofs.Checks.{past-is}
 use Rattle.murm.proofs.past_limit.Statement.{statement}
 use Rattle.murm.proofs.past_limit.Tie as tie
 
@@ -11,8 +11,7 @@ cast-result : tie.Need-cast-result
 cast-result c = rw (toZ-ofZ (c .fits .x)) (sfits-widen tt (c .fits .x))
 
 returns : tie.Need-returns
-returns c = rw (read-wide near far tt (c .fits .x))
-    (record { told = past-is (c .args .x) (c .fits .x); small = not-past (c .args .x) (c .fits .x) })
+returns c = rw (read-wide near far tt (c .fits .x)) (past-is (c .args .x) (c .fits .x))
 
 pub past-limit-spec : {M : Type 1} → statement M
 past-limit-spec = tie.close (tie.spec cast-result (λ c. search needs) returns)

@@ -1,15 +1,19 @@
 -- `write_part` meets its contract: the part's bounds hold, and its chain is told on. Assumes nothing.
 use borrow.Author.Needs.{needs}
+use mathlib.Core.Path.{refl}
 use native.Mathlib.Omega.{arith}
-use Rattle.murm_config.specs.Told.{toldMurm}
-use Rattle.murm.proofs.Parts.{PartBounds, counted-part, room}
+use Rattle.tables.specs.Tables.{countAt}
+use Rattle.murm_config.specs.Told.{toldConfig, toldMurm}
+use Rattle.murm.proofs.Parts.{PartBounds, counted-part, record-counted, room}
 use Rattle.murm.proofs.Asked.{told-as}
 use Prim.Native.Nat.{_-_, _*_}
 use Rattle.murm.proofs.write_part.Statement.{statement}
 use Rattle.murm.proofs.write_part.Tie as tie
 
-sound : (c : tie.Start) → PartBounds (toldMurm (c .args .table)) (c .args .width)
-sound c = counted-part (toldMurm (c .args .table)) (c .args .width) (c .pre .good) (omega (arith, c .pre .node))
+sound : (c : tie.Start) → PartBounds (toldConfig (c .args .table .config)) (c .args .width) (countAt (toldMurm (c .args .table)) (c .args .width))
+sound c =
+    let t = toldMurm (c .args .table) in
+    counted-part (t .limits) (c .args .width) (countAt t (c .args .width)) (record-counted t (c .args .width) (c .pre .good) refl) (omega (arith, c .pre .node))
 
 sub-start : tie.Need-sub-start
 sub-start c = omega (arith, sound (c .before .before .before .before) .some)
@@ -39,8 +43,8 @@ circuit-requires c κs =
     let a = s .args in
     let E = a .table .config .«max_entries_per_qubit» in
     let at = (a .width - 1) * E in (
-      omega (arith, room at E (toldMurm (a .table) .limits .entries) (a .parents .now) (p .inside _ (s .pre .in-parents)) (omega arith), p .count, s .pre .node),
-      omega (arith, room at E (toldMurm (a .table) .limits .entries) (a .codes .now) (p .inside _ (s .pre .in-codes)) (omega arith), p .count, s .pre .node),
+      omega (arith, room at E (toldMurm (a .table) .limits .entries) (a .parents .now) (p .inside _ (s .pre .in-parents)) (omega arith), p .few, s .pre .node),
+      omega (arith, room at E (toldMurm (a .table) .limits .entries) (a .codes .now) (p .inside _ (s .pre .in-codes)) (omega arith), p .few, s .pre .node),
       s .pre .long,
     )
 

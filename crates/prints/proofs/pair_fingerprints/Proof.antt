@@ -46,10 +46,11 @@ eight-requires-2 c κs = rw (c .get2 .ensures) (small-at _ _ _ (c .before .befor
 
 loop-again : tie.Need-loop-again Inv-loop μ-loop
 loop-again c =
-    let l = c .before .before .before .before .before .before .before .before .before .loop in (
-      omega (arith, c .before .before .before .before .before .before .before .before .loop-test .taken),
-      eight-last _ _ (l .e) (c .before .before .before .before .before .before .before .before .before .before .before .before .before .turn-places .ensures) (c .before .before .before .before .before .before .eight .ensures ∙ ap eightOf (c .before .before .before .before .before .before .before .get .ensures)) (l .inv .1) (c .before .before .mix-eight .ensures),
-      eight-last _ _ (l .e) (c .before .before .before .before .before .before .before .before .before .before .before .before .turn-places2 .ensures) (c .before .before .before .before .eight2 .ensures ∙ ap eightOf (c .before .before .before .before .before .get2 .ensures)) (l .inv .2) (c .mix-eight2 .ensures),
+    let l = c .before .before .before .before .before .before .before .before .before .before .loop in
+    let m = c .before .before .mix-eights .ensures in (
+      omega (arith, c .before .before .before .before .before .before .before .before .before .loop-test .taken),
+      eight-last _ _ (l .e) (c .before .before .before .before .before .before .before .before .before .before .before .before .before .before .turn-places .ensures) (c .before .before .before .before .before .before .before .eight .ensures ∙ ap eightOf (c .before .before .before .before .before .before .before .before .get .ensures)) (l .inv .1) (m .0),
+      eight-last _ _ (l .e) (c .before .before .before .before .before .before .before .before .before .before .before .before .before .turn-places2 .ensures) (c .before .before .before .before .before .eight2 .ensures ∙ ap eightOf (c .before .before .before .before .before .before .get2 .ensures)) (l .inv .2) (m .1),
     )
 
 returns : tie.Need-returns Inv-loop μ-loop
@@ -84,9 +85,8 @@ pair-fingerprints-spec =
     get-requires-2
     eight-requires-2
     (λ c κs. search needs)
-    (λ c κs. search needs)
-    (λ c. omega (arith, in-places (c .before .before .before .before .before .before .before .before)))
-    (λ c. omega (arith, c .before .before .before .before .before .before .before .before .loop-test .taken))
+    (λ c. omega (arith, in-places (c .before .before .before .before .before .before .before .before .before)))
+    (λ c. omega (arith, c .before .before .before .before .before .before .before .before .before .loop-test .taken))
     loop-again
     (λ c κs. tt)
     (λ c κs. tt)

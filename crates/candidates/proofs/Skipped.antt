@@ -9,16 +9,11 @@ use lib.ListN.{length}
 use Rattle.ints.specs.Lists.{pick}
 use Rattle.walk.specs.Walk.{Rules, Node, State, any, root, listAt, prod, pruned, knows, candidate, skipped, try, tryAll}
 use Rattle.walk.proofs.Grown.{Prefix}
-use Rattle.walk.proofs.Sequences.{any-true, any-at, prefix-at, prefix-length}
-use Rattle.walk.proofs.Candidates.{try-later}
+use Rattle.walk.proofs.Sequences.{prefix-at, prefix-length}
+use Rattle.walk.proofs.Candidates.{any-prefix, try-later}
 use Rattle.candidates.specs.Tries.{unskipped}
 
 module _ (R : Rules) where
-  any-stays : (f : Node → Bool) {ns ms : List Node} → Prefix ns ms → any f ns ≡ true → any f ms ≡ true
-  any-stays f {ns} {ms} p e =
-      let r = any-true f root ns e in
-      any-at f root ms (r .0) (omega (arith, r .1, prefix-length p)) (ap f (prefix-at p (r .0) root (r .1)) ∙ r .2)
-
   -- a skipped candidate stays skipped
   pub skipped-stays : {ns ms : List Node} (k g : ℕ) → Prefix ns ms → k < length ns → skipped R ns k g ≡ true → skipped R ms k g ≡ true
   unfolding skipped
@@ -32,7 +27,7 @@ module _ (R : Rules) where
       by : (a b : Bool) → (a || (b || any (knows R (candidate R ns k g)) ns)) ≡ true → (a || (b || any (knows R (R .act g (prod R (listAt ns k)))) ms)) ≡ true
       by true b q = refl
       by false true q = refl
-      by false false q = any-stays (knows R (candidate R ns k g)) p q
+      by false false q = any-prefix R (knows R (candidate R ns k g)) p q
 
   try-skipped : (E : ℕ) (s : State) (k g : ℕ) → skipped R (s .nodes) k g ≡ true → try R E s k g ≡ s
   unfolding try

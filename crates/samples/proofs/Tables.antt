@@ -9,16 +9,17 @@ use native.Mathlib.Omega.{arith}
 use borrow.Author.Tests.{lt-ltb, le-ltb, ltb-true, eq-eqb}
 use lib.Dec.{eqb, ltb}
 use lib.IntN.{pos}
-use lib.ListN.{length}
+use lib.ListN.{length, replicate}
 use Rattle.ints.specs.Bits.{bit}
 use Rattle.ints.specs.Lists.{range, each, all, elem, distinct}
 use Rattle.ints.proofs.Bools.{clash}
-use Rattle.cyclotomic.specs.Zomega.{Zω, zeroω, oneω, addω, mulω, isZero, turn, less, leastUpTo, fits, eqZ, eqω}
-use Rattle.words.specs.Words
-use Rattle.words.specs.Words.{rotated, word}
+use Rattle.cyclotomic.specs.Zomega.{Zω, zeroω, oneω, addω, mulω, isZero, turn, less, leastUpTo, fits, eqω}
+use Rattle.coefficients.specs.Coefficients.{eqZ}
+use Rattle.words.specs.Words.{wordProduct, rotated, word}
 use Rattle.circuit.specs.Sets.{subset}
-use Rattle.circuit.specs.Kinds.{kindAt, number, arity, sorted, isKind, dual, ofTables}
-use Rattle.circuit.specs.Codes.{mark, placed, rises, valid, validFor}
+use Rattle.kinds.specs.Kinds.{kindAt, number, arity, sorted, isKind, dual, ofTables}
+use Rattle.circuit.specs.Codes.{mark, valid, validFor}
+use Rattle.operands.specs.Operands.{placed, rises}
 use Rattle.circuit.specs.Pairs.{inverse, qubits, disjoint}
 use Rattle.generators.specs.Generators.{kept, generators}
 use Rattle.exact.specs.Matrix.{Exact, identity, lower, PowerOf}
@@ -31,10 +32,10 @@ use Rattle.exact.specs.Phase.{pivot, phaseOf, upToPhase}
 use Rattle.exact.specs.Fingerprint.{mix, fold, fingerprint}
 use Rattle.exact.specs.Places.{entry}
 use Rattle.walk.specs.Lookup.{lowestFrom}
-use Rattle.walk.specs.Index.{By, scan, probed, probeOf, inserted, freeOf}
+use Rattle.walk.specs.Index.{probed, probeOf, inserted, freeOf}
 use Rattle.walk.specs.Index as index
 use Rattle.walk.specs.Chains.{marked, chainOf}
-use Rattle.walk.specs.Walk.{skipped, try, tryAll, layer, deeper, depths, walk}
+use Rattle.walk.specs.Walk.{Build, skipped, try, tryAll, layer, deeper, depths, walk}
 use Rattle.exact.proofs.Listed.{product-nil}
 use Rattle.walk.proofs.Nodewise.{recheck, answerBy, answered}
 use Rattle.walk.specs.Modes.{Mode, byPrint, keeping}
@@ -44,30 +45,30 @@ use Rattle.walk.proofs.Nodes.{first}
 use Rattle.walk.proofs.Layers.{walk-shape}
 use Rattle.walk.proofs.Known.{present-no-clash}
 use Rattle.walk.proofs.Exactly.{no-clash}
-use Rattle.walk.proofs.NotEmpty.{no-shared}
+use Rattle.samples.proofs.Walks as walks
+use Rattle.samples.proofs.NotEmpty.{no-shared}
 use Rattle.walk.specs.Finds.{rechecked, findFrom, findBy}
 use Rattle.walk.specs.Finds as f
 use Rattle.walk.specs.Answers.{writeOf}
 use Rattle.walk.proofs.Meaning.{kind-of}
-use Rattle.tables.specs.Checks.{firstRow, Limits, limitRows, Arrays, inParts, indexRow, partsRow, anyBelow, queryRows}
+use Rattle.tables.specs.Checks.{firstRow, Limits, limitsOf, limitRows, Arrays, inParts, partsRow, anyBelow, queryRows}
 use Rattle.tables.specs.Tables.{Table, widthAt, walkOf, recordOf, builtTo, refusal, left, buildRows, buildOf, filledIndex, filled, not-filled, fillLeft, fillOf, partsTo, Query, query, matrixOf, listRow, foundIn, writtenIn, synthesized}
 use Rattle.tables.specs.Built.{Built, FilledFrom}
 use Rattle.tables.specs.EitherLookup.{scanned, through}
 use Rattle.tables.specs.Demand3.{Gives, GivesNone, Refuses, NotRefused, NoSmaller, Reaches, Complete}
-use Rattle.tables.specs.Samples.{xLimits, largerLimits, chLimits, Places, askX, askT, askZero, lent, damaged, mistaken, circular, foreign, forgotten, emptied, crowded, misled, one-place, no-places, strange, fewer, clashing, three, alike, Samples}
+use Rattle.samples.specs.Tables.{xLimits, deepLimits, largerLimits, chLimits, Places, askX, askT, askZero, eightPlaces, damaged, mistaken, circular, foreign, noParentMark, noCodeMark, forgotten, emptied, crowded, misled, one-place, no-places, strange, fewer, clashing, three, alike, Samples}
 use Rattle.tables.proofs.Rows.{numbered-query, first-here, first-past, firstRow-append}
-use Rattle.tables.proofs.InWords.{not-both}
 use Rattle.tables.proofs.Accepted.{room-is}
 use Rattle.tables.proofs.FromBuild.{rows-none, build-fills, build-refusal}
 use Rattle.tables.proofs.Asked.{partFound, answer-passed, asked-by}
 use Rattle.tables.proofs.Joined.{toldOption}
 use Rattle.tables.proofs.Replies.{rowOfAnswer, row-refuses}
-use Rattle.tables.proofs.OfBuilt.{has-width, not-refusal, rows-are, told-walk}
-use Rattle.tables.proofs.Demand3.{demand}
+use Rattle.tables.proofs.OfBuilt.{scan-filled, has-width, not-refusal, rows-are, told-walk}
+use Rattle.tables.proofs.Demand3.{demand, beside}
 use Rattle.tables.proofs.FindWrite.{find-write}
 use Rattle.tables.specs.AnswerRule.{firstFoundIn, firstSynthesized}
 use Rattle.walk.specs.Answers as ans
 use Rattle.tables.specs.FindWrite.{Finds, FindsNone, FindRefuses, Writes, WriteRefuses}
 
 -- ---- computed
 
@@ -106,6 +107,7 @@ record Computed : Type 0 where
   -- no row refuses the limits or the queries, and row 3 refuses the basis with Ch
   ch-limits : (a : Arrays) → firstRow (buildRows chLimits a) ≡ 3
   x-limits : firstRow (limitRows xLimits) ≡ 0
+  deep-limits : firstRow (limitRows deepLimits) ≡ 0
   larger-limits : firstRow (limitRows largerLimits) ≡ 0
   x-passes : firstRow (queryRows 1 0 (askX .numbers)) ≡ 0
   t-passes : firstRow (queryRows 1 0 (askT .numbers)) ≡ 0
@@ -114,52 +116,56 @@ record Computed : Type 0 where
   walk-x : (mode : Mode) → answered mode 1 2 8 2 (matrixOf askX) ≡ some (4096 ∷ [])
   walk-t : (mode : Mode) → answered mode 1 2 8 2 (matrixOf askT) ≡ none
   unsaturated : (mode : Mode) → walkOf mode xLimits 1 .saturated ≡ false
+  deep-t : answered keeping 1 2 29 2 (matrixOf askT) ≡ none
+  deep-unsaturated : walkOf keeping deepLimits 1 .saturated ≡ false
   -- what the altered memory answers; node 0's fingerprint is not 7
-  damaged-x : Gives (recordOf byPrint xLimits) damaged askX lent (4096 ∷ [])
-  mistaken-t : GivesNone (recordOf byPrint xLimits) mistaken askT lent
-  circular-x : Refuses (recordOf byPrint xLimits) circular askX lent 13
-  foreign-x : Refuses (recordOf byPrint xLimits) foreign askX lent 13
-  forgotten-x : GivesNone (recordOf byPrint xLimits) forgotten askX lent
+  damaged-x : Gives (recordOf byPrint xLimits) damaged askX eightPlaces (4096 ∷ [])
+  mistaken-t : GivesNone (recordOf byPrint xLimits) mistaken askT eightPlaces
+  circular-x : Refuses (recordOf byPrint xLimits) circular askX eightPlaces 13
+  unmarked-x : Refuses (recordOf byPrint xLimits) noParentMark askX eightPlaces 13 × Refuses (recordOf byPrint xLimits) noCodeMark askX eightPlaces 13
+  foreign-x : Refuses (recordOf byPrint xLimits) foreign askX eightPlaces 13
+  forgotten-x : GivesNone (recordOf byPrint xLimits) forgotten askX eightPlaces
   damaged-find : Finds (recordOf byPrint xLimits) damaged askX 1 1
-  damaged-write : Writes (recordOf byPrint xLimits) damaged 1 1 lent (4096 ∷ [])
+  damaged-write : Writes (recordOf byPrint xLimits) damaged 1 1 eightPlaces (4096 ∷ [])
   mistaken-find : FindsNone (recordOf byPrint xLimits) mistaken askT
-  mistaken-write : Writes (recordOf byPrint xLimits) mistaken 1 1 lent (4096 ∷ [])
+  mistaken-write : Writes (recordOf byPrint xLimits) mistaken 1 1 eightPlaces (4096 ∷ [])
   circular-find : FindRefuses (recordOf byPrint xLimits) circular askX 13
-  circular-write : WriteRefuses (recordOf byPrint xLimits) circular 1 1 lent 13
+  circular-write : WriteRefuses (recordOf byPrint xLimits) circular 1 1 eightPlaces 13
   circular-short : WriteRefuses (recordOf byPrint xLimits) circular 1 1 [] 12 × Refuses (recordOf byPrint xLimits) circular askX [] 12
   no-node : WriteRefuses (recordOf byPrint xLimits) circular 1 2 [] 16
-  past-count : FindsNone fewer damaged askX × WriteRefuses fewer damaged 1 1 lent 16
+  past-count : FindsNone fewer damaged askX × WriteRefuses fewer damaged 1 1 eightPlaces 16
   strange-count : ltb 0 (widthAt strange 2 .count) ≡ true
-  no-width : WriteRefuses strange damaged 2 0 lent 16 × WriteRefuses strange damaged 0 0 lent 16 × WriteRefuses strange damaged 4294967295 0 lent 16
+  no-width : WriteRefuses strange damaged 2 0 eightPlaces 16 × WriteRefuses strange damaged 0 0 eightPlaces 16 × WriteRefuses strange damaged 4294967295 0 eightPlaces 16
   -- how many places an index may have, what the altered index answers, and that an empty one leads nowhere
   four-places : (inParts xLimits 4 ≡ true) × (inParts xLimits 3 ≡ false) × (inParts xLimits 2 ≡ false) × (inParts largerLimits 8 ≡ false) × (inParts largerLimits 16 ≡ true)
   six-places : (inParts xLimits 6 ≡ false) × (inParts largerLimits 12 ≡ false) × (inParts xLimits 8 ≡ true) × (inParts xLimits 0 ≡ false)
   one-build : (buildOf byPrint xLimits one-place ≡ left (refusal 17 0) one-place) × (buildOf byPrint xLimits no-places ≡ left (refusal 5 0) no-places)
   one-fill : (fillOf (recordOf byPrint xLimits) one-place ≡ fillLeft (not-filled 17 0) (0 ∷ [])) × (fillOf (recordOf byPrint xLimits) no-places ≡ fillLeft (not-filled 5 0) [])
-  one-answer : Refuses (recordOf byPrint xLimits) one-place askX lent 17 × Refuses (recordOf byPrint xLimits) one-place (query 6 0 []) [] 17
-      × Refuses (recordOf byPrint xLimits) no-places askX lent 5
+  one-answer : Refuses (recordOf byPrint xLimits) one-place askX eightPlaces 17 × Refuses (recordOf byPrint xLimits) one-place (query 6 0 []) [] 17
+      × Refuses (recordOf byPrint xLimits) no-places askX eightPlaces 5
   damaged-fill : fillOf (recordOf byPrint xLimits) (through damaged (0 ∷ 1 ∷ 2 ∷ mark ∷ [])) ≡ fillLeft filled (mark ∷ 1 ∷ mark ∷ 0 ∷ [])
-  damaged-filled : Gives (recordOf byPrint xLimits) (through damaged (mark ∷ 1 ∷ mark ∷ 0 ∷ [])) askX lent (4096 ∷ [])
-  crowded-x : Gives (recordOf byPrint xLimits) crowded askX lent (4096 ∷ [])
-  misled-t : GivesNone (recordOf byPrint xLimits) misled askT lent
+  damaged-filled : Gives (recordOf byPrint xLimits) (through damaged (mark ∷ 1 ∷ mark ∷ 0 ∷ [])) askX eightPlaces (4096 ∷ [])
+  crowded-x : Gives (recordOf byPrint xLimits) crowded askX eightPlaces (4096 ∷ [])
+  misled-t : GivesNone (recordOf byPrint xLimits) misled askT eightPlaces
   emptied-found : (a : Arrays) → partFound (recordOf byPrint xLimits) (emptied a) askX ≡ f.none
   root-print : eqb 7 (fingerprint 1 identity) ≡ false
   -- memory with one fingerprint several times
-  clashing-x : Gives (recordOf byPrint xLimits) clashing askX lent (4096 ∷ [])
+  clashing-x : Gives (recordOf byPrint xLimits) clashing askX eightPlaces (4096 ∷ [])
   clashing-find : Finds (recordOf byPrint xLimits) clashing askX 1 1
   clashing-fill : fillOf (recordOf byPrint xLimits) (through clashing (0 ∷ 0 ∷ 0 ∷ 0 ∷ [])) ≡ fillLeft filled (mark ∷ 0 ∷ 1 ∷ mark ∷ [])
-  clashing-filled : Gives (recordOf byPrint xLimits) (through clashing (mark ∷ 0 ∷ 1 ∷ mark ∷ [])) askX lent (4096 ∷ [])
-  clashing-first : (firstFoundIn (recordOf byPrint xLimits) clashing askX ≡ f.none) × (firstSynthesized (recordOf byPrint xLimits) clashing askX lent ≡ ans.outcome ans.none lent)
-  bad-before : Refuses three (alike 1 0) askX lent 13 × FindRefuses three (alike 1 0) askX 13
-  bad-behind : Gives three (alike 0 2) askX lent (4096 ∷ []) × Finds three (alike 0 2) askX 1 1
+  clashing-filled : Gives (recordOf byPrint xLimits) (through clashing (mark ∷ 0 ∷ 1 ∷ mark ∷ [])) askX eightPlaces (4096 ∷ [])
+  clashing-first : (firstFoundIn (recordOf byPrint xLimits) clashing askX ≡ f.none) × (firstSynthesized (recordOf byPrint xLimits) clashing askX eightPlaces ≡ ans.outcome ans.none eightPlaces)
+  bad-before : Refuses three (alike 1 0) askX eightPlaces 13 × FindRefuses three (alike 1 0) askX 13
+  bad-behind : Gives three (alike 0 2) askX eightPlaces (4096 ∷ []) × Finds three (alike 0 2) askX 1 1
   -- X is of the basis
   x-of : ListOf 1 2 (4096 ∷ [])
 
 computed : Computed
-unfolding firstFoundIn firstSynthesized ofTables buildOf fillOf filledIndex partsTo index.filled inserted freeOf synthesized foundIn writtenIn recordOf firstRow inParts subset anyBelow findBy findFrom writeOf lowestFrom probed probeOf chainOf marked rechecked steps answerBy recheck upToPhase eqω product walk depths deeper layer tryAll try skipped samePrint fingerprint mix fold Words.product rotated word pivot phaseOf leastUpTo less turn zeroω oneω isZero gateOf column flip lower stepFits fits valid validFor placed rises all elem distinct range each kept generators kindAt arity sorted isKind number dual inverse qubits disjoint bit entry
+unfolding firstFoundIn firstSynthesized ofTables buildOf fillOf filledIndex partsTo index.filled inserted freeOf synthesized foundIn writtenIn recordOf firstRow inParts subset anyBelow findBy findFrom writeOf lowestFrom probed probeOf chainOf marked rechecked steps answerBy recheck upToPhase eqω product walk depths deeper layer tryAll try skipped samePrint fingerprint mix fold wordProduct rotated word pivot phaseOf leastUpTo less turn zeroω oneω isZero gateOf column flip lower stepFits fits valid validFor placed rises all elem distinct range each kept generators kindAt arity sorted isKind number dual inverse qubits disjoint bit entry
 computed = record {
   ch-limits = λ a. refl;
   x-limits = refl;
+  deep-limits = refl;
   larger-limits = refl;
   x-passes = refl;
   t-passes = refl;
@@ -167,9 +173,12 @@ computed = record {
   walk-x = each-mode (λ mode. answered mode 1 2 8 2 (matrixOf askX) ≡ some (4096 ∷ [])) refl refl;
   walk-t = each-mode (λ mode. answered mode 1 2 8 2 (matrixOf askT) ≡ none) refl refl;
   unsaturated = each-mode (λ mode. walkOf mode xLimits 1 .saturated ≡ false) refl refl;
+  deep-t = refl;
+  deep-unsaturated = refl;
   damaged-x = refl;
   mistaken-t = refl;
   circular-x = refl;
+  unmarked-x = (refl, refl);
   foreign-x = refl;
   forgotten-x = refl;
   damaged-find = refl;
@@ -261,15 +270,15 @@ module _ (mode : Mode) (a : Arrays) (p : Places xLimits a) where
 
   finds-none-t : FindsNone (recordOf mode xLimits) (builtTo mode xLimits 1 a) askT
   unfolding recordOf
-  finds-none-t = find-write .none-same (recordOf mode xLimits) (builtTo mode xLimits 1 a) askT lent (omega arith) .1 (none-t lent (omega arith))
+  finds-none-t = find-write .none-same (recordOf mode xLimits) (builtTo mode xLimits 1 a) askT eightPlaces (omega arith) .1 (none-t eightPlaces (omega arith))
 
   -- none is no refusal
-  not-refused : NotRefused (recordOf mode xLimits) (builtTo mode xLimits 1 a) askT lent
-  not-refused r n = absurd (omega (arith, kind-of (sym (none-t lent (omega arith)) ∙ n)))
+  not-refused : NotRefused (recordOf mode xLimits) (builtTo mode xLimits 1 a) askT eightPlaces
+  not-refused r n = absurd (omega (arith, kind-of (sym (none-t eightPlaces (omega arith)) ∙ n)))
 
   no-t : Complete (recordOf mode xLimits) (builtTo mode xLimits 1 a) askT → (m : List ℕ) → Reaches (recordOf mode xLimits) askT m → length m ≤ 8 → ⊥
   unfolding recordOf
-  no-t c m r h = c .none-exactly (omega arith) (omega arith) (computed .unsaturated mode) lent not-refused .0 (none-t lent (omega arith)) m r h
+  no-t c m r h = c .none-exactly (omega arith) (omega arith) (computed .unsaturated mode) eightPlaces not-refused .0 (none-t eightPlaces (omega arith)) m r h
 
   zero-passes : (out : List ℕ) → 8 ≤ length out → NotRefused (recordOf mode xLimits) (builtTo mode xLimits 1 a) askZero out
   zero-passes out h r n =
@@ -294,10 +303,57 @@ skipped-rightly =
     present-no-clash (atWidth byPrint 1 2) (PowerOf 1) 8 (no-clash byPrint 1 2 (omega arith) 8 (no-shared 8)) (built byPrint 1 2 8 2 .nodes) (s .layered .grown) (s .limit)
     (built byPrint 1 2 8 2 .depth) (s .depth)
 
+-- ---- at 29 gates
+
+module _ (mode : Mode) (a : Arrays) (p : Places deepLimits a) where
+  deep-table : Built mode (recordOf mode deepLimits) (builtTo mode deepLimits 1 a)
+  deep-table = left-by mode deepLimits a (computed .deep-limits) p .0
+
+  deep-filled : FilledFrom (recordOf mode deepLimits) (builtTo mode deepLimits 1 a)
+  deep-filled = left-by mode deepLimits a (computed .deep-limits) p .2
+
+deep-complete : (a : Arrays) → Places deepLimits a → (q : Query) → q .width ≡ 1 → Complete (recordOf byPrint deepLimits) (builtTo byPrint deepLimits 1 a) q
+unfolding recordOf
+deep-complete a p q e =
+    demand .complete byPrint (recordOf byPrint deepLimits) (builtTo byPrint deepLimits 1 a) (deep-table byPrint a p) (deep-filled byPrint a p) (omega arith) q
+    (subst (λ (n : ℕ). NoSharedPrint n 2 29) (sym e) (no-shared 29))
+
+deep-rightly : (a : Arrays) → Places deepLimits a → (q : Query) → SkippedRightly byPrint (q .width) 2 29 2
+    → Complete (recordOf byPrint deepLimits) (builtTo byPrint deepLimits 1 a) q
+unfolding recordOf
+deep-rightly a p =
+    beside .complete-rightly byPrint (recordOf byPrint deepLimits) (builtTo byPrint deepLimits 1 a) (deep-table byPrint a p) (deep-filled byPrint a p) (omega arith)
+
+module _ (a : Arrays) (p : Places deepLimits a) where
+  deep-keeping : (q : Query) → Complete (recordOf keeping deepLimits) (builtTo keeping deepLimits 1 a) q
+  unfolding recordOf
+  deep-keeping =
+      demand .complete-keeping (recordOf keeping deepLimits) (builtTo keeping deepLimits 1 a) (deep-table keeping a p) (deep-filled keeping a p) (omega arith)
+
+  deep-none : GivesNone (recordOf keeping deepLimits) (builtTo keeping deepLimits 1 a) askT (replicate 29 0)
+  deep-none =
+      told deepLimits (builtTo keeping deepLimits 1 a) (deep-table keeping a p) (deep-filled keeping a p) askT (replicate 29 0) (computed .t-passes)
+      (omega arith) (omega arith) (omega arith)
+      ∙ ap (λ (o : Option (List ℕ)). toldOption o (replicate 29 0)) (computed .deep-t)
+
+  deep-no-t : (m : List ℕ) → Reaches (recordOf keeping deepLimits) askT m → length m ≤ 29 → ⊥
+  unfolding recordOf
+  deep-no-t m r h =
+      deep-keeping askT .none-exactly (omega arith) (omega arith) (computed .deep-unsaturated) (replicate 29 0)
+      (λ k n. absurd (omega (arith, kind-of (sym deep-none ∙ n)))) .0 deep-none m r h
+
+-- ---- a saturated width
+
+saturated-rightly : (walkOf byPrint (limitsOf 1 8 1 2) 1 .saturated ≡ true) × SkippedRightly byPrint 1 2 8 1
+saturated-rightly = (
+  ap (λ (b : Build). b .saturated) (walks.samples .one-entry),
+  beside .to-the-depth byPrint 1 2 8 1 0 (ap (λ (b : Build). b .depth) (walks.samples .one-entry)) (λ k g p m h. absurd (omega arith)),
+)
+
 -- ---- a larger table
 
 no-smaller : NoSmaller xLimits largerLimits
-no-smaller = record { basis = refl; qubits = omega arith; gates = omega arith; entries = omega arith }
+no-smaller = demand .no-smaller xLimits largerLimits refl (omega arith) (omega arith) (omega arith)
 
 module _ (a : Arrays) (p : Places largerLimits a) where
   larger-table : Built byPrint (recordOf byPrint largerLimits) (builtTo byPrint largerLimits 2 a)
@@ -311,7 +367,7 @@ module _ (a : Arrays) (p : Places largerLimits a) where
   unfolding recordOf
   larger-x out h =
       by (demand .larger byPrint (recordOf byPrint xLimits) (recordOf byPrint largerLimits) (builtTo byPrint xLimits 1 (scanned a)) (builtTo byPrint largerLimits 2 a) (a-table byPrint (scanned a) small) larger-table
-      (a-filled byPrint (scanned a) small) larger-filled no-smaller askX lent out (4096 ∷ []) (gives-x byPrint (scanned a) small lent (omega arith)))
+      larger-filled no-smaller askX eightPlaces out (4096 ∷ []) (gives-x byPrint (scanned a) small eightPlaces (omega arith)))
     where
       small : Places xLimits (scanned a)
       small = record { in-prints = omega (arith, p .in-prints); in-parents = omega (arith, p .in-parents); in-codes = omega (arith, p .in-codes); in-index = refl }
@@ -338,15 +394,15 @@ not-a-table b =
 
 damaged-right : PowerOf 1 (matrixOf askX) (product 1 (4096 ∷ [])) × Unitary 1 (matrixOf askX)
 damaged-right = (
-  demand .right (recordOf byPrint xLimits) damaged askX lent (4096 ∷ []) (computed .damaged-x) .0,
-  demand .unitary (recordOf byPrint xLimits) damaged askX lent (4096 ∷ []) (computed .damaged-x),
+  demand .right (recordOf byPrint xLimits) damaged askX eightPlaces (4096 ∷ []) (computed .damaged-x) .0,
+  demand .unitary (recordOf byPrint xLimits) damaged askX eightPlaces (4096 ∷ []) (computed .damaged-x),
 )
 
 -- where X gets none, what (c) states does not hold
-missed : (a : Arrays) → GivesNone (recordOf byPrint xLimits) a askX lent → Complete (recordOf byPrint xLimits) a askX → ⊥
+missed : (a : Arrays) → GivesNone (recordOf byPrint xLimits) a askX eightPlaces → Complete (recordOf byPrint xLimits) a askX → ⊥
 unfolding recordOf
 missed a n c =
-    c .none-exactly (omega arith) (omega arith) (computed .unsaturated byPrint) lent (λ r m. absurd (omega (arith, kind-of (sym n ∙ m)))) .0
+    c .none-exactly (omega arith) (omega arith) (computed .unsaturated byPrint) eightPlaces (λ r m. absurd (omega (arith, kind-of (sym n ∙ m)))) .0
     n (4096 ∷ []) (record { of-basis = computed .x-of; power = damaged-right .0 }) (omega arith)
 
 -- ---- an empty index
@@ -362,23 +418,17 @@ module _ (a : Arrays) (p : Places xLimits a) where
         nodes = λ w h m j l. let n = b .nodes w h m j l in record { print = n .print; parent = n .parent; code = n .code };
       }
 
-  emptied-x : GivesNone (recordOf byPrint xLimits) (emptied a) askX lent
+  emptied-x : GivesNone (recordOf byPrint xLimits) (emptied a) askX eightPlaces
   unfolding recordOf firstRow
   emptied-x =
-      answer-passed (recordOf byPrint xLimits) (emptied a) askX lent
-      (asked-12 (recordOf byPrint xLimits) (emptied a) emptied-table (ap not (computed .four-places .0)) askX lent (computed .x-passes))
-      ∙ asked-by (recordOf byPrint xLimits) (emptied a) askX lent (computed .emptied-found a)
+      answer-passed (recordOf byPrint xLimits) (emptied a) askX eightPlaces
+      (asked-12 (recordOf byPrint xLimits) (emptied a) emptied-table (ap not (computed .four-places .0)) askX eightPlaces (computed .x-passes))
+      ∙ asked-by (recordOf byPrint xLimits) (emptied a) askX eightPlaces (computed .emptied-found a)
 
   -- so it was not filled from the table
   emptied-not-filled : FilledFrom (recordOf byPrint xLimits) (emptied a) → ⊥
   unfolding recordOf
   emptied-not-filled x = missed (emptied a) emptied-x (demand .complete byPrint (recordOf byPrint xLimits) (emptied a) emptied-table x (omega arith) askX (no-shared 8))
-
-scan-filled : (t : Table) (a : Arrays) → a .by ≡ scan → FilledFrom t a
-scan-filled t a e = record {
-  parts = ap (λ (y : By). indexRow (t .limits) y (length (a .index)) .holds) e;
-  is = λ h. not-both e h;
-}
 
 pub samples : Samples
 samples = record {
@@ -390,11 +440,16 @@ samples = record {
   skipped-rightly = skipped-rightly;
   complete = complete;
   unsaturated = computed .unsaturated byPrint;
+  deep-complete = deep-complete;
+  deep-rightly = deep-rightly;
+  deep-keeping = λ a p. deep-keeping a p;
+  deep-no-t = λ a p. deep-no-t a p;
+  saturated-rightly = saturated-rightly;
   gives-x = λ a p out h. gives-x byPrint a p out h;
   none-t = λ a p out h. none-t byPrint a p out h;
   no-t = λ a p. no-t byPrint a p (complete a p askT refl);
   no-smaller = no-smaller;
-  same-limits = λ l. record { basis = refl; qubits = omega arith; gates = omega arith; entries = omega arith };
+  same-limits = λ l. demand .no-smaller l l refl (omega arith) (omega arith) (omega arith);
   larger-table = λ a p. larger-table a p;
   larger-x = λ a p out h. larger-x a p out h;
   larger-12 = λ a p out h. larger-12 a p out h;
@@ -403,6 +458,7 @@ samples = record {
   damaged-right = damaged-right;
   mistaken-t = computed .mistaken-t;
   circular-x = computed .circular-x;
+  unmarked-x = computed .unmarked-x;
   foreign-x = computed .foreign-x;
   ch-basis = λ a. build-refusal byPrint chLimits a 3 (omega arith) (computed .ch-limits a);
   forgotten-x = computed .forgotten-x;
@@ -410,7 +466,7 @@ samples = record {
   zero-not-unitary = zero-not-unitary;
   zero-passes = λ a p out h. zero-passes byPrint a p out h;
   none-zero = λ a p out h. demand .not-unitary (recordOf byPrint xLimits) (builtTo byPrint xLimits 1 a) askZero out (zero-passes byPrint a p out h) zero-not-unitary;
-  finds-x = λ a p. find-write .given-found (recordOf byPrint xLimits) (builtTo byPrint xLimits 1 a) askX lent (4096 ∷ []) (gives-x byPrint a p lent (omega arith));
+  finds-x = λ a p. find-write .given-found (recordOf byPrint xLimits) (builtTo byPrint xLimits 1 a) askX eightPlaces (4096 ∷ []) (gives-x byPrint a p eightPlaces (omega arith));
   finds-none-t = λ a p. finds-none-t byPrint a p;
   damaged-find = computed .damaged-find;
   damaged-write = computed .damaged-write;

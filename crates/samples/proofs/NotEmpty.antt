@@ -1,5 +1,5 @@
--- Demand 3's conditions can be met: at width 1 with basis 2, which is X alone, gate limit 8 and entry limit 2, each of them is discharged. Lists
--- of X have two products up to a power of omega, with two fingerprints. Assumes nothing.
+-- Demand 3's conditions can be met: at width 1 with basis 2, which is X alone, gate limit 8 and entry limit 2, each of
+-- them is discharged. Lists of X have two products up to a power of omega, with two fingerprints. Assumes nothing.
 use mathlib.Core.Path.{_≡_, sym, ap, _∙_, subst}
 use mathlib.Core.Logic.{_⊎_, inl, inr}
 use mathlib.Core.Bool.{false}
@@ -18,14 +18,14 @@ use Rattle.exact.proofs.Acts.{act-lowest, act-back, power-of, power-refl, power
 use Rattle.exact.proofs.Coded.{proper, inverse-undoes}
 use Rattle.exact.proofs.Listed.{product-lowest}
 use Rattle.exact.proofs.Prints.{fingerprint-power}
 use Rattle.walk.specs.Walk.{Build, prod}
 use Rattle.walk.proofs.Laws.{Over, actBy}
 use Rattle.walk.specs.Modes.{byPrint}
 use Rattle.walk.specs.AtWidth.{atWidth, built, ListOf, NoSharedPrint}
 use Rattle.walk.proofs.WidthDemand.{WidthComplete}
 use Rattle.walk.proofs.Exactly.{product-of, over-reverse, list-over}
 use Rattle.walk.proofs.Demand3.{demand}
-use Rattle.walk.proofs.Samples.{samples}
+use Rattle.samples.proofs.Walks.{samples}
 
 -- X, 4096, of the identity
 abbrev flipped : Exact

@@ -14,10 +14,10 @@ use Rattle.murm_config.specs.Told.{toldMurm}
 use Rattle.murm_config.specs.declared.Murm.{Murm}
 use Rattle.refusal.specs.Told.{numberOf}
 use Rattle.refusal.specs.declared.Refusal.{Refusal}
-use Rattle.murm.specs.Entries.{toldBuilding}
-use Rattle.murm.specs.declared.Building.{Building}
-use Rattle.murm.specs.declared.Building.the-variants as b
-use Rattle.bench.specs.Tables.{limitsIn, tooFew, numbersOf, buildNumber, recorded, builtAs, builtBy, benchBuilt}
+use Rattle.murm_build.specs.Entries.{toldBuilding}
+use Rattle.murm_build.specs.declared.Building.{Building}
+use Rattle.murm_build.specs.declared.Building.the-variants as b
+use Rattle.bench.specs.Tables.{limitsOfNumbers, tooFew, numbersOf, buildNumber, recorded, builtAs, builtBy, benchBuilt}
 
 -- ---- too few numbers
 
@@ -59,7 +59,7 @@ unfolding benchBuilt
 short-built mode l a numbers h = rw h
 
 pub long-built : (mode : Mode) (l : List ℕ) (a : Arrays) (numbers : List ℕ) (t : BuildReply) {l′ : Limits} {a′ : Arrays} {r : ℕ} {new : List ℕ} → tooFew l numbers ≡ false
-    → l′ ≡ limitsIn l → left t a′ ≡ buildOf mode l′ a → r ≡ buildNumber t → new ≡ recorded t numbers → builtAs r a′ new ≡ benchBuilt mode l a numbers
+    → l′ ≡ limitsOfNumbers l → left t a′ ≡ buildOf mode l′ a → r ≡ buildNumber t → new ≡ recorded t numbers → builtAs r a′ new ≡ benchBuilt mode l a numbers
 unfolding benchBuilt
 long-built mode l a numbers t {a′} {new} h hl e hr hn =
     rw h

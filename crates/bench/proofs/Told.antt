@@ -10,17 +10,18 @@ use Rattle.tables.specs.Checks.{Arrays, arraysBy}
 use Rattle.tables.specs.Tables.{Table, FillReply, FillLeft, fillLeft, fillOf, Query, foundIn, writtenIn, synthesized}
 use Rattle.refusal.specs.Told.{numberOf, positionOf}
 use Rattle.refusal.specs.declared.Refusal.{Refusal}
-use Rattle.murm.specs.Entries.{toldFingerprinted, toldFoundNode, toldWritten}
-use Rattle.murm.specs.declared.Fingerprinted.{Fingerprinted}
+use Rattle.murm_query.specs.Entries.{toldFingerprinted}
+use Rattle.murm.specs.Entries.{toldFoundNode, toldWritten}
+use Rattle.murm_query.specs.declared.Fingerprinted.{Fingerprinted}
 use Rattle.murm.specs.declared.FoundNode.{FoundNode}
 use Rattle.murm.specs.declared.FoundNode.the-variants as f
 use Rattle.murm.specs.declared.Written.{Written}
 use Rattle.murm.specs.declared.Written.the-variants as w
 use Rattle.murm_c.specs.Numbers.{refusalNumber, replyNumber}
-use Rattle.bench.specs.Numbers.{orElse, nodeNumber, foundNumber, fillNumber}
+use Rattle.bench.specs.Numbers.{givenOr, nodeNumber, foundNumber, fillNumber}
 
-pub query-told : {o : Answer} {r s : Fingerprinted} → r ≡ s → toldFingerprinted r ≡ o → orElse 0 (toldFingerprinted s) ≡ orElse 0 o
-query-told e w = ap (λ (x : Fingerprinted). orElse 0 (toldFingerprinted x)) (sym e) ∙ ap (orElse 0) w
+pub query-told : {o : Answer} {r s : Fingerprinted} → r ≡ s → toldFingerprinted r ≡ o → givenOr 0 (toldFingerprinted s) ≡ givenOr 0 o
+query-told e w = ap (λ (x : Fingerprinted). givenOr 0 (toldFingerprinted x)) (sym e) ∙ ap (givenOr 0) w
 
 -- ---- a find
 

@@ -12,12 +12,12 @@ use Rattle.tables.specs.Tables.{FillReply, filled, not-filled}
 use Rattle.murm_c.specs.Numbers.{refusalNumber}
 
 -- the number given, or another for every refusal
-abbrev pub orElse : ℕ → Answer → ℕ
-orElse other (given k) = k
-orElse other (refused number position) = other
+abbrev pub givenOr : ℕ → Answer → ℕ
+givenOr other (given k) = k
+givenOr other (refused number position) = other
 
--- a node and its gate count: node × 128 + count, which is below 2^27; 4294967294 where the node is above 1,000,000 or the count above 64, as no
--- table's are (SPECIFICATION 9.1)
+-- a node and its gate count: node × 128 + count, which is below 2^27; 4294967294 where the node is above 1,000,000 or
+-- the count above 64, as no table's are (SPECIFICATION 9.1)
 abbrev pub nodeNumber : ℕ → ℕ → ℕ
 nodeNumber k m = pick (ltb 1000000 k || ltb 64 m) 4294967294 (k * 128 + m)
 

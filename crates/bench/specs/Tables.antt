@@ -12,8 +12,8 @@ use Rattle.circuits_text.specs.Writing.{digitOf}
 
 -- ---- the limits as four numbers
 
-abbrev pub limitsIn : List ℕ → Limits
-limitsIn l = limitsOf (getD l 0 0) (getD l 1 0) (getD l 2 0) (getD l 3 0)
+abbrev pub limitsOfNumbers : List ℕ → Limits
+limitsOfNumbers l = limitsOf (getD l 0 0) (getD l 1 0) (getD l 2 0) (getD l 3 0)
 
 -- ---- a record as 15 numbers: count, depth and saturated (1 or 0) of each width from 1 to 5
 
@@ -57,4 +57,4 @@ tooFew limits numbers = ltb (length limits) 4 || ltb (length numbers) 15
 
 -- are told by 99
 unfoldable pub benchBuilt : Mode → List ℕ → Arrays → List ℕ → BuiltNumbers
-benchBuilt mode limits a numbers = pick (tooFew limits numbers) (builtAs 99 a numbers) (builtBy (buildOf mode (limitsIn limits) a) numbers)
+benchBuilt mode limits a numbers = pick (tooFew limits numbers) (builtAs 99 a numbers) (builtBy (buildOf mode (limitsOfNumbers limits) a) numbers)

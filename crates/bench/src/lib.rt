@@ -1,6 +1,7 @@
-// C functions over the entries for fingerprints, builds, fills, finds and writes, and for answers by either look-up, which murm_c does not export, and
-// nothing else. `oracle/bench`, `oracle/damage` and `oracle/index` link both crates beside the original, in one process; lists and answers by the scan
-// alone they ask by murm_c. Where nodes are looked up, a number says how: 0 by the scan, which leaves the lent index alone, any other through the index.
+// C functions over the entries for fingerprints, builds, fills, finds and writes, and for answers by either look-up,
+// which murm_c does not export, and nothing else. `oracle/bench`, `oracle/damage` and `oracle/index` link both crates
+// beside the original, in one process; lists and answers by the scan alone they ask by murm_c. Where nodes are looked
+// up, a number says how: 0 by the scan, which leaves the lent index alone, any other through the index.
 ghost use mathlib.Core.Path.{_≡_};
 ghost use Prim.Native.Nat.{_+_, _*_, _^_, _≤_};
 ghost use lib.ListN.{length};
@@ -15,10 +16,12 @@ ghost use Rattle.known.specs.Known.{toldMode};
 ghost use Rattle.tables.specs.Checks.{limitsOf, arrays, arraysBy};
 ghost use Rattle.tables.specs.Tables.{query, fillOf, foundIn, writtenIn, synthesized};
 ghost use Rattle.murm_config.specs.Told.{toldConfig, toldWidth, toldMurm};
-ghost use Rattle.murm.specs.Entries.{fingerprinted, toldBuilding, toldFilling, toldFoundNode, toldWritten};
+ghost use Rattle.murm_query.specs.Fingerprints.{fingerprinted};
+ghost use Rattle.murm_build.specs.Entries.{toldBuilding, toldFilling};
+ghost use Rattle.murm.specs.Entries.{toldFoundNode, toldWritten};
 ghost use Rattle.murm_c.specs.Numbers.{replyNumber, countsTable};
-ghost use Rattle.bench.specs.Numbers.{orElse, byNumber, modeNumber, nodeNumber, foundNumber, fillNumber};
-ghost use Rattle.bench.specs.Tables.{limitsIn, widthNumbers, numbersOf, buildNumber, recorded, builtAs, benchBuilt};
+ghost use Rattle.bench.specs.Numbers.{givenOr, byNumber, modeNumber, nodeNumber, foundNumber, fillNumber};
+ghost use Rattle.bench.specs.Tables.{limitsOfNumbers, widthNumbers, numbersOf, buildNumber, recorded, builtAs, benchBuilt};
 use circuit::GateSet;
 use cyclotomic::Coefficient;
 use index::LookupBy;
@@ -30,12 +33,12 @@ use murm::FoundNode;
 use murm::Written;
 use murm_config::Murm;
 use murm_config::MurmConfig;
-use width_table::WidthTable;
+use width_record::WidthTable;
 
 // The entry for fingerprints: the fingerprint, or 0 for every refusal.
 #[no_mangle]
 pub extern "C" fn bench_query(width: u32, exponent: u16, entries: &[Coefficient]) -> u64
-    ensures { λ r. ⌜ r ≡ orElse 0 (fingerprinted width exponent (now (entries .entry))) ⌝ }
+    ensures { λ r. ⌜ r ≡ givenOr 0 (fingerprinted width exponent (now (entries .entry))) ⌝ }
 {
     match murm::library_fingerprint(width, exponent, entries) {
         Fingerprinted::Fingerprint(p) => p,
@@ -57,7 +60,7 @@ pub extern "C" fn bench_fingerprint(m: &[Coefficient], n: usize, k: u16) -> u64
 // Q, G, E and B, in this order.
 fn config_of(limits: &[u32]) -> MurmConfig
     requires { ⌜ 4 ≤ length (now limits) ⌝ }
-    ensures { λ r. ⌜ toldConfig r ≡ limitsIn (now (limits .entry)) ⌝ }
+    ensures { λ r. ⌜ toldConfig r ≡ limitsOfNumbers (now (limits .entry)) ⌝ }
 {
     MurmConfig {
         max_qubits: limits[0],
@@ -67,7 +70,8 @@ fn config_of(limits: &[u32]) -> MurmConfig
     }
 }
 
-// A record as 15 numbers: count, depth and saturated (0 or 1) of each width from 1 to 5. Those of a width stand from a place on.
+// A record as 15 numbers: count, depth and saturated (0 or 1) of each width from 1 to 5. Those of a width stand from a
+// place on.
 fn put_width(numbers: &mut [u64], at: usize, row: WidthTable)
     requires { ⌜ at + 3 ≤ length (now numbers) ⌝ }
     ensures { λ _. ⌜ now (numbers .exit) ≡ sets (now (numbers .entry)) at (widthNumbers (toldWidth row)) ⌝ }

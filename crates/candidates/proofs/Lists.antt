@@ -11,7 +11,7 @@ use Rattle.exact.specs.Places.{held}
 use Rattle.exact.proofs.Listed.{product-lowest}
 use Rattle.exact.proofs.Values.{equal-sym}
 use Rattle.exact.proofs.Keeps.{equal-lowest}
-use Rattle.matrix.specs.Step.{Holds, Ready}
+use Rattle.places.specs.Held.{Holds, Ready}
 use Rattle.walk.specs.Modes.{Mode}
 use Rattle.walk.specs.Index.{By}
 use Rattle.walk.specs.Walk.{listAt, prod}
@@ -22,9 +22,9 @@ use Rattle.walk.proofs.Held.{chain-is}
 use Rattle.walk.proofs.Rechecks.{steps-fit}
 use Rattle.synthesis_arena.specs.declared.WidthLimits.{WidthLimits}
 use Rattle.node_matrix.specs.Matrices.{Readable, Formed}
-use Rattle.next_node.specs.Arrays.{rules, Live}
-use Rattle.next_node.proofs.Tries.{live-count, live-long, live-holds}
-use Rattle.candidates.specs.Tries.{NodeFormed}
+use Rattle.width_arrays.specs.Arrays.{rules, Live}
+use Rattle.width_arrays.proofs.Live.{live-count, live-long, live-holds}
+use Rattle.tried_gates.specs.Tries.{NodeFormed}
 
 module _ {mode : Mode} {by : By} {lim : WidthLimits} (small : lim .width ≤ 5) (limited : lim .gates ≤ 64) where
   module _ {f u c i : List ℕ} {count k top : ℕ} (h : Live mode by lim f u c i count k top) where

@@ -8,10 +8,11 @@ use lib.Dec.{leb}
 use lib.ListN.{length, getD, drop}
 use lib.Seq.{drop-cons}
 use Rattle.ints.specs.Lists.{all, range}
-use Rattle.circuit.specs.Kinds.{Kind, kindAt}
+use Rattle.kinds.specs.Kinds.{Kind, kindAt}
 use Rattle.circuit.specs.Codes.{kindOf}
-use Rattle.circuit.specs.Charge.{kindCharge, charge}
-use Rattle.circuit.proofs.ByNumber.{every-kind}
+use Rattle.kinds.specs.Kinds.{kindCharge}
+use Rattle.circuit.specs.Charge.{charge}
+use Rattle.kinds.proofs.ByNumber.{every-kind}
 
 kind-most : (k : Kind) → kindCharge k ≤ 7
 unfolding all range kindAt kindCharge

@@ -6,7 +6,7 @@ use Prim.Native.Nat.{ℕ, _<_}
 use native.Mathlib.Omega.{arith}
 use Rattle.ints.specs.Lists.{all}
 use Rattle.ints.proofs.Bools.{and-both, and-left, and-right, both-true}
-use Rattle.circuit.specs.Kinds.{ofTables}
+use Rattle.kinds.specs.Kinds.{ofTables}
 use Rattle.circuit.specs.Sets.{member}
 use Rattle.circuit.specs.Codes.{codeOf, kindNumber, kindOf, first, second, third, valid, validFor}
 

@@ -1,4 +1,3 @@
-pub mod ByNumber
 pub mod Coded
 pub mod Sets
 pub mod Charges

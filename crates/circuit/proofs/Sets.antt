@@ -12,10 +12,10 @@ use Rattle.ints.specs.Bits.{bit}
 use Rattle.ints.specs.Lists.{range, all, elem}
 use Rattle.ints.proofs.Bools.{clash, iff, and-left, and-right, and-both, or-right, all-range, range-all}
 use Rattle.ints.proofs.Bits.{and-bit, or-bit, ext-bit, zero-bit, high-bit, pow-bit}
-use Rattle.circuit.specs.Kinds.{kindAt, ofTables}
+use Rattle.kinds.specs.Kinds.{kindAt, ofTables}
 use Rattle.circuit.specs.Sets.{supported, member, subset}
 use Rattle.circuit.specs.Pairs.{maskOf}
-use Rattle.circuit.proofs.ByNumber.{kind-past, told-alike, alike}
+use Rattle.kinds.proofs.ByNumber.{kind-past, told-alike, alike}
 
 implied : (s t : Bool) → s && t ≡ s → not s || t ≡ true
 implied true t h = h

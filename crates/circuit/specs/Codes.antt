@@ -1,11 +1,8 @@
 -- A gate as one number, its code, and when a code is valid at a width (SPECIFICATION 2.3 to 2.5). Assumes nothing.
-use mathlib.Core.Bool.{Bool, true, _&&_}
-use mathlib.Core.List.{List, [], _∷_}
+use mathlib.Core.Bool.{Bool, _&&_}
 use Prim.Native.Nat.{ℕ, _+_, _*_, _/_, _%_}
-use lib.Dec.{eqb, ltb}
-use lib.ListN.{take, drop}
-use Rattle.ints.specs.Lists.{all, distinct}
-use Rattle.circuit.specs.Kinds.{Kind, kindAt, arity, sorted, isKind, ofTables}
+use Rattle.kinds.specs.Kinds.{Kind, kindAt, arity, sorted, isKind, ofTables}
+use Rattle.operands.specs.Operands.{placed, ordered}
 use Rattle.circuit.specs.Sets.{member}
 
 abbrev pub codeOf : ℕ → ℕ → ℕ → ℕ → ℕ
@@ -27,31 +24,15 @@ second g = g / 16 % 16
 abbrev pub third : ℕ → ℕ
 third g = g % 16
 
--- the first m of three operands are used: those are below n and distinct, the others are 0
-unfoldable pub placed : ℕ → ℕ → ℕ → ℕ → ℕ → Bool
-placed n m a b c =
-    all (λ q. ltb q n) (take m (a ∷ b ∷ c ∷ []))
-    && (distinct (take m (a ∷ b ∷ c ∷ [])) && all (λ q. eqb q 0) (drop m (a ∷ b ∷ c ∷ [])))
-
--- each number is below the next
-unfoldable pub rises : List ℕ → Bool
-rises [] = true
-rises (x ∷ []) = true
-rises (x ∷ y ∷ l) = ltb x y && rises (y ∷ l)
-
--- the first m operands rise; how many must, each kind says (SPECIFICATION 2.1)
-abbrev pub ordered : ℕ → ℕ → ℕ → ℕ → Bool
-ordered m a b c = rises (take m (a ∷ b ∷ c ∷ []))
-
--- valid at width n, as lists ask: the kind is one of the seventeen, its operands are below n, pairwise different and in the order that it wants, and those that
--- it does not have are 0 (SPECIFICATION 2.4)
+-- valid at width n, as lists ask: the kind is one of the seventeen, its operands are below n, pairwise different and in
+-- the order that it wants, and those that it does not have are 0 (SPECIFICATION 2.4)
 unfoldable pub valid : ℕ → ℕ → Bool
 valid n g =
     isKind (kindOf g)
     && (placed n (arity (kindOf g)) (first g) (second g) (third g) && ordered (sorted (kindOf g)) (first g) (second g) (third g))
 
--- valid for a basis at width n, as tables ask: valid there, of a kind of tables, and this kind is in the basis (SPECIFICATION 2.5). A basis that
--- is not refused has no bit of another kind, but this is said of any number
+-- valid for a basis at width n, as tables ask: valid there, of a kind of tables, and this kind is in the basis
+-- (SPECIFICATION 2.5). A basis that is not refused has no bit of another kind, but this is said of any number
 unfoldable pub validFor : ℕ → ℕ → ℕ → Bool
 validFor n basis g = member basis (kindNumber g) && (ofTables (kindOf g) && valid n g)
 

@@ -1,4 +1,3 @@
-pub mod Kinds
 pub mod Sets
 pub mod Codes
 pub mod Pairs

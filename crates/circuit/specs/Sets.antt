@@ -1,4 +1,5 @@
--- Sets of kinds, which are 32-bit numbers: bit i stands for the kind of number i. A basis is one (SPECIFICATION 2.2). Assumes nothing.
+-- Sets of kinds, which are 32-bit numbers: bit i stands for the kind of number i. A basis is one (SPECIFICATION 2.2).
+-- Assumes nothing.
 use mathlib.Core.Bool.{Bool, not, _||_}
 use Prim.Native.Nat.{ℕ}
 use Rattle.ints.specs.Bits.{bit}

@@ -1,189 +1,14 @@
-// Gate kinds, gate sets and gate codes. circuit.rs and murm.rs of the original: `GateKind`, `GateSet`, `LibraryGate`. A kind is its number
-// in GateKind::ALL; what a kind has stands in one table each. A gate is its code, kind * 4096 + a * 256 + b * 16 + c, and every 32-bit
-// number is decided: what is no code is not valid.
+// Gate sets and gate codes: `GateSet` and `LibraryGate` of the original (circuit.rs, murm.rs). A gate is its code, kind
+// * 4096 + a * 256 + b * 16 + c, and every 32-bit number is decided: what is no code is not valid. What a kind has
+// stands in `kinds`, the tests of operands in `operands`; here a code is taken apart and the two are asked.
 ghost use mathlib.Core.Path.{_≡_};
-ghost use Prim.Native.Nat.{_^_, _<_, _≤_};
+ghost use Prim.Native.Nat.{_^_, _<_};
 ghost use lib.Dec.{eqb};
-ghost use Rattle.circuit.specs.Kinds.{kindAt, number, arity, sorted, isKind, ofTables, dual};
+ghost use Rattle.kinds.specs.Kinds.{kindAt, kindCharge};
 ghost use Rattle.circuit.specs.Sets.{supported, base, member, subset};
-ghost use Rattle.circuit.specs.Codes.{kindNumber, first, second, third, placed, ordered, valid, validFor};
+ghost use Rattle.circuit.specs.Codes.{kindNumber, first, second, third, valid, validFor};
 ghost use Rattle.circuit.specs.Pairs.{inverse, qubits, disjoint, maskOf};
-ghost use Rattle.circuit.specs.Charge.{kindCharge, charge};
-
-// The places of the constants below: H 0, X 1, Z 2, S 3, Sdg 4, T 5, Tdg 6, (Rz 7, not taken), Cx 8, Cz 9, Ccx 10, Ccz 11. These eleven may be in a
-// table. Lists take also Y 15, Sx 16, Swap 19, Cy 20, Ch 25, Cswap 26: of these only the number of operands is needed, which `more_operands` has.
-const KINDS: u32 = 12;
-
-// The number of operands of each kind.
-const ARITY: [u32; 12] = [1, 1, 1, 1, 1, 1, 1, 0, 2, 2, 3, 3];
-
-// How many of the first operands of each kind are in rising order.
-const SORTED: [u32; 12] = [0, 0, 0, 0, 0, 0, 0, 0, 0, 2, 2, 3];
-
-// The kind that undoes each kind.
-const DUAL: [u32; 12] = [0, 1, 2, 4, 3, 6, 5, 7, 8, 9, 10, 11];
-
-// The T charge of each kind (SPECIFICATION 2.9).
-const CHARGE: [usize; 12] = [0, 0, 0, 0, 0, 1, 1, 0, 0, 0, 7, 7];
-
-// How many operands a kind from 12 on has; 0 for what is no kind.
-fn more_operands(kind: u32) -> u32
-    requires { ⌜ 12 ≤ kind ⌝ }
-    ensures { λ r. ⌜ r ≡ arity (kindAt kind) ⌝ }
-{
-    match kind {
-        15 => 1,
-        16 => 1,
-        19 => 2,
-        20 => 2,
-        25 => 2,
-        26 => 3,
-        _ => 0,
-    }
-}
-
-// How many operands a kind has; 0 for what is no kind.
-fn operand_count(kind: u32) -> u32
-    ensures { λ r. ⌜ r ≡ arity (kindAt kind) ⌝ }
-{
-    if kind >= KINDS {
-        return more_operands(kind);
-    }
-    ARITY[kind as usize]
-}
-
-// How many of a kind's first operands are in rising order.
-fn sorted_count(kind: u32) -> u32
-    ensures { λ r. ⌜ r ≡ sorted (kindAt kind) ⌝ }
-{
-    if kind >= KINDS {
-        return 0;
-    }
-    SORTED[kind as usize]
-}
-
-fn is_kind(kind: u32) -> bool
-    ensures { λ r. ⌜ r ≡ isKind (kindAt kind) ⌝ }
-{
-    operand_count(kind) != 0
-}
-
-// Whether a table may have the kind.
-fn is_table_kind(kind: u32) -> bool
-    ensures { λ r. ⌜ r ≡ ofTables (kindAt kind) ⌝ }
-{
-    if kind >= KINDS {
-        return false;
-    }
-    is_kind(kind)
-}
-
-// The kind that undoes a kind of tables; 7 for the others.
-fn dual_kind(kind: u32) -> u32
-    ensures { λ r. ⌜ r ≡ number (dual (kindAt kind)) ⌝ }
-{
-    if kind >= KINDS {
-        return 7;
-    }
-    DUAL[kind as usize]
-}
-
-fn charge_of(kind: u32) -> usize
-    ensures { λ r. ⌜ r ≡ kindCharge (kindAt kind) ⌝ }
-{
-    if kind >= KINDS {
-        return 0;
-    }
-    CHARGE[kind as usize]
-}
-
-// The operands' test for one used operand, for two, for three.
-fn placed_1(n: u32, a: u32, b: u32, c: u32) -> bool
-    ensures { λ r. ⌜ r ≡ placed n 1 a b c ⌝ }
-{
-    if a >= n {
-        return false;
-    }
-    if b != 0 {
-        return false;
-    }
-    if c != 0 {
-        return false;
-    }
-    true
-}
-
-fn placed_2(n: u32, a: u32, b: u32, c: u32) -> bool
-    ensures { λ r. ⌜ r ≡ placed n 2 a b c ⌝ }
-{
-    if a >= n {
-        return false;
-    }
-    if b >= n {
-        return false;
-    }
-    if a == b {
-        return false;
-    }
-    if c != 0 {
-        return false;
-    }
-    true
-}
-
-fn placed_3(n: u32, a: u32, b: u32, c: u32) -> bool
-    ensures { λ r. ⌜ r ≡ placed n 3 a b c ⌝ }
-{
-    if a >= n {
-        return false;
-    }
-    if b >= n {
-        return false;
-    }
-    if c >= n {
-        return false;
-    }
-    if a == b {
-        return false;
-    }
-    if a == c {
-        return false;
-    }
-    if b == c {
-        return false;
-    }
-    true
-}
-
-fn operands_placed(n: u32, count: u32, a: u32, b: u32, c: u32) -> bool
-    requires { ⌜ (0 < count) × (count ≤ 3) ⌝ }
-    ensures { λ r. ⌜ r ≡ placed n count a b c ⌝ }
-{
-    if count == 1 {
-        return placed_1(n, a, b, c);
-    }
-    if count == 2 {
-        return placed_2(n, a, b, c);
-    }
-    placed_3(n, a, b, c)
-}
-
-// Whether the first operands, as many as the count says, are in rising order.
-fn in_order(count: u32, a: u32, b: u32, c: u32) -> bool
-    requires { ⌜ count ≤ 3 ⌝ }
-    ensures { λ r. ⌜ r ≡ ordered count a b c ⌝ }
-{
-    if count < 2 {
-        return true;
-    }
-    if a >= b {
-        return false;
-    }
-    if count == 2 {
-        return true;
-    }
-    b < c
-}
+ghost use Rattle.circuit.specs.Charge.{charge};
 
 // The set of the one number q.
 fn singleton(q: u32) -> u32
@@ -284,17 +109,17 @@ impl LibraryGate {
         let a = self.first();
         let b = self.second();
         let c = self.third();
-        let count = operand_count(kind);
+        let count = kinds::operand_count(kind);
         if count == 0 {
             return false;
         }
-        if !operands_placed(width, count, a, b, c) {
+        if !operands::operands_placed(width, count, a, b, c) {
             return false;
         }
         if count == 1 {
             return true; // one operand stands in no order
         }
-        in_order(sorted_count(kind), a, b, c)
+        operands::in_order(kinds::sorted_count(kind), a, b, c)
     }
 
     // Whether the code is valid at a width, of a kind of tables, and this kind is in the basis.
@@ -305,7 +130,7 @@ impl LibraryGate {
         if !basis.contains(kind) {
             return false;
         }
-        if !is_table_kind(kind) {
+        if !kinds::is_table_kind(kind) {
             return false;
         }
         self.is_valid(width)
@@ -316,10 +141,10 @@ impl LibraryGate {
         ensures { λ r. ⌜ r ≡ inverse (self .0) (other .0) ⌝ }
     {
         let kind = other.kind();
-        if !is_table_kind(kind) {
+        if !kinds::is_table_kind(kind) {
             return false;
         }
-        if self.kind() != dual_kind(kind) {
+        if self.kind() != kinds::dual_kind(kind) {
             return false;
         }
         self.0 % 4096 == other.0 % 4096
@@ -332,7 +157,7 @@ impl LibraryGate {
         let a = singleton(self.first());
         let b = singleton(self.second());
         let c = singleton(self.third());
-        let count = operand_count(self.kind());
+        let count = kinds::operand_count(self.kind());
         if count == 0 {
             return 0;
         }
@@ -355,7 +180,7 @@ impl LibraryGate {
     pub fn t_charge(self) -> usize
         ensures { λ r. ⌜ r ≡ kindCharge (kindAt (kindNumber (self .0))) ⌝ }
     {
-        charge_of(self.kind())
+        kinds::charge_of(self.kind())
     }
 }
 

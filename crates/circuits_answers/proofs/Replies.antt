@@ -19,9 +19,11 @@ use Rattle.refusal.specs.declared.Refusal.{Refusal}
 use Rattle.murm.specs.declared.FoundNode.{FoundNode}
 use Rattle.murm.specs.declared.FoundNode.the-variants as f
 use Rattle.murm.specs.declared.Written.{Written}
-use Rattle.murm.specs.declared.Synthesized.{Synthesized}
-use Rattle.murm.specs.declared.Listed.{Listed}
-use Rattle.murm.specs.Entries.{toldListed, toldFoundNode, toldWritten, toldSynthesized}
+use Rattle.murm_find.specs.declared.Synthesized.{Synthesized}
+use Rattle.murm_lists.specs.declared.Listed.{Listed}
+use Rattle.murm_lists.specs.Entries.{toldListed}
+use Rattle.murm.specs.Entries.{toldFoundNode, toldWritten}
+use Rattle.murm_find.specs.Entries.{toldSynthesized}
 use Rattle.tables.specs.Lists.{ListOutcome, outcome, listed}
 use Rattle.circuits_input.specs.declared.Question.{Question}
 use Rattle.circuits_input.specs.Input.{InputLine, questionOf}

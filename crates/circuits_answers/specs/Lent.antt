@@ -12,5 +12,5 @@ Slice = Both (RefT (List ℕ)) (RefT (List ℕ))
 abbrev pub lent : Slice → Slice → Slice → Arrays
 lent fingerprints parents codes = arrays (now (fingerprints .entry)) (now (parents .entry)) (now (codes .entry))
 
-abbrev pub left : Slice → Slice → Slice → Arrays
-left fingerprints parents codes = arrays (now (fingerprints .exit)) (now (parents .exit)) (now (codes .exit))
+abbrev pub leftIn : Slice → Slice → Slice → Arrays
+leftIn fingerprints parents codes = arrays (now (fingerprints .exit)) (now (parents .exit)) (now (codes .exit))

@@ -10,8 +10,8 @@ use Rattle.exact.specs.Answers as e
 use Rattle.walk.specs.Answers as a
 use Rattle.tables.specs.Checks.{Arrays, coefficientCount}
 use Rattle.tables.specs.Tables.{Table, query, synthesized}
-use Rattle.murm.specs.declared.Synthesized.{Synthesized}
-use Rattle.murm.specs.Entries.{toldSynthesized}
+use Rattle.murm_find.specs.declared.Synthesized.{Synthesized}
+use Rattle.murm_find.specs.Entries.{toldSynthesized}
 use Rattle.tables.specs.Lists.{listed}
 use Rattle.circuits_input.specs.Input.{Read, gives, refused, InputLine, AskedList, questionOf}
 
@@ -32,7 +32,8 @@ lentCoefficients width = replicate (lentCount width) (pos 0)
 unfoldable pub lentMost : List ℤ
 lentMost = replicate 4096 (pos 0)
 
--- by the answer to the list, and its matrix: the table answers the matrix, and a list that is refused is told by its own refusal
+-- by the answer to the list, and its matrix: the table answers the matrix, and a list that is refused is told by its
+-- own refusal
 abbrev pub formedReply : Table → Arrays → ℕ → List ℕ → Answer → List ℤ → a.Outcome
 formedReply t m width out (e.given k) coefficients = synthesized t m (query width k coefficients) out
 formedReply t m width out (e.refused number position) coefficients = a.outcome (a.refused number position) out

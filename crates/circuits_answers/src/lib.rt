@@ -1,10 +1,13 @@
-// Answers a query of the program `circuits`: reads its line, forms the matrix of its list and asks the table for it (SPECIFICATION 10.6).
+// Answers a query of the program `circuits`: reads its line, forms the matrix of its list and asks the table for it
+// (SPECIFICATION 10.6). The answer is a value and a lent list, and no text: what is asked and what is printed are
+// proved apart.
 ghost use mathlib.Core.Path.{_≡_};
 ghost use Prim.Native.Nat.{_≤_};
 ghost use lib.ListN.{length};
 ghost use Rattle.tables.specs.Tables.{query, synthesized};
 ghost use Rattle.murm_config.specs.Told.{toldMurm};
-ghost use Rattle.murm.specs.Entries.{toldWritten, toldSynthesized};
+ghost use Rattle.murm.specs.Entries.{toldWritten};
+ghost use Rattle.murm_find.specs.Entries.{toldSynthesized};
 ghost use Rattle.circuits_input.specs.Input.{ended};
 ghost use Rattle.circuits_answers.specs.Lent.{lent};
 ghost use Rattle.circuits_answers.specs.Replies.{told, lentCount, lentMost, listReply, lineReply};
@@ -44,7 +47,8 @@ fn answered(written: Written) -> Synthesized
     }
 }
 
-// Asks the table for a matrix: the node is found, then its list is written. The list has room for the longest, so that this is an answer.
+// Asks the table for a matrix: the node is found, then its list is written. The list has room for the longest, so that
+// this is an answer.
 fn answer_matrix(
     table: Murm,
     fingerprints: &[u64],
@@ -110,7 +114,8 @@ fn number_space() -> [u32; 258]
     [0; 258]
 }
 
-// A query's line, given without its newline, is read and answered. A list that is answered stands at the beginning of `list`.
+// A query's line, given without its newline, is read and answered. A list that is answered stands at the beginning of
+// `list`.
 pub fn answer_line(
     table: Murm,
     fingerprints: &[u64],

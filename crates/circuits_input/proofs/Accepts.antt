@@ -1,5 +1,5 @@
--- The program takes exactly the inputs that are allowed: its lines are the input's, its line one is asked for its four numbers, and its queries
--- are the lines of a width, a count up to 256 and that many codes. Assumes nothing.
+-- The program takes exactly the inputs that are allowed: its lines are the input's, its line one is asked for its four
+-- numbers, and its queries are the lines of a width, a count up to 256 and that many codes. Assumes nothing.
 use mathlib.Core.Bool.{Bool, true, false}
 use mathlib.Core.List.{List, [], _∷_, _++_}
 use mathlib.Core.Path.{_≡_, refl, sym, ap, _∙_, subst}

@@ -1,4 +1,5 @@
--- The worked example, computed in part: its first two lines, and the numbers of line one (SPECIFICATION 10.7). Assumes nothing.
+-- The worked example, computed in part: its first two lines, and the numbers of line one (SPECIFICATION 10.7). Assumes
+-- nothing.
 use mathlib.Core.List.{[], _∷_}
 use mathlib.Core.Path.{_≡_, refl}
 use Rattle.ints.specs.Lists.{all}

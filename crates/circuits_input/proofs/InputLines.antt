@@ -1,4 +1,5 @@
--- Laws of the input's lines: the first is what stands before the first newline; a query's line has at least 3 bytes. Assumes nothing.
+-- Laws of the input's lines: the first is what stands before the first newline; a query's line has at least 3 bytes.
+-- Assumes nothing.
 use mathlib.Core.Bool.{Bool, true, false}
 use mathlib.Core.List.{List, [], _∷_}
 use mathlib.Core.Path.{_≡_, refl, ap}

@@ -7,18 +7,18 @@ use borrow.Author.Tests.{lt-ltb, le-ltb}
 use lib.ListN.{length, take, drop}
 use Rattle.circuits_text.specs.Reading.{newline, before}
 use Rattle.circuits_text.proofs.Split.{before-take}
-use Rattle.circuits_input.specs.Input.{refused, broken, ended, linesOf, lineOne, withLater, linesInput, inputOf}
+use Rattle.circuits_input.specs.Input.{refused, broken, ended, linesOf, lineOne, withLater, linesInput, inputMost, inputOf}
 use Rattle.circuits_input.proofs.InputLines.{lines-none, lines-more, lines-last}
 
 -- too long
-pub input-long : (input : List ℕ) → 16384 < length input → refused 15 0 ≡ inputOf input
+pub input-long : (input : List ℕ) → inputMost < length input → refused 15 0 ≡ inputOf input
 unfolding inputOf
-input-long input h = rw (lt-ltb 16384 (length input) h)
+input-long input h = rw (lt-ltb inputMost (length input) h)
 
 -- no newline
-pub input-cut : (input : List ℕ) → length input ≤ 16384 → length input ≤ length (before newline input) → broken ≡ inputOf input
+pub input-cut : (input : List ℕ) → length input ≤ inputMost → length input ≤ length (before newline input) → broken ≡ inputOf input
 unfolding inputOf lineOne
-input-cut input h g = rw (le-ltb 16384 (length input) h) (by input g)
+input-cut input h g = rw (le-ltb inputMost (length input) h) (by input g)
   where
     by : (bs : List ℕ) → length bs ≤ length (before newline bs) → broken ≡ linesInput (linesOf bs)
     by [] k = ap linesInput (sym lines-none)
@@ -26,7 +26,7 @@ input-cut input h g = rw (le-ltb 16384 (length input) h) (by input g)
 
 -- line one, and the lines after it
 pub input-first :
-    (input : List ℕ) (e : ℕ) → length input ≤ 16384 → e ≡ length (before newline input) → e < length input →
+    (input : List ℕ) (e : ℕ) → length input ≤ inputMost → e ≡ length (before newline input) → e < length input →
     withLater (linesOf (drop (e + 1) input)) (lineOne (ended (take e input))) ≡ inputOf input
 unfolding inputOf
 input-first input e h g l =
@@ -37,4 +37,4 @@ input-first input e h g l =
     lines-more input (omega arith)
     ∙ (ap (λ (bs : List ℕ). ended bs ∷ linesOf (drop (suc n) input)) (sym line)
     ∙ ap (λ (j : ℕ). ended (take e input) ∷ linesOf (drop j input)) (sym k)) in
-    rw (le-ltb 16384 (length input) h) (ap linesInput (sym ls))
+    rw (le-ltb inputMost (length input) h) (ap linesInput (sym ls))

@@ -1,5 +1,5 @@
--- The inputs that are allowed, said of the bytes alone: the lines of an input, line one, a query's line (SPECIFICATION 10.1 to 10.4). That the
--- program's definitions agree is proved in proofs/Accepts. Assumes nothing.
+-- The inputs that are allowed, said of the bytes alone: the lines of an input, line one, a query's line (SPECIFICATION
+-- 10.1 to 10.4). That the program's definitions agree is proved in proofs/Accepts. Assumes nothing.
 use mathlib.Core.Bool.{false}
 use mathlib.Core.List.{List, [], _∷_, _++_}
 use mathlib.Core.Path.{_≡_}
@@ -22,7 +22,8 @@ pub record FirstLine (q g e b : ℕ) (rest input : List ℕ) : Type 0 where
   pub says : AllowedLine (q ∷ g ∷ e ∷ b ∷ []) line
   pub place : input ≡ line ++ (10 ∷ rest)
 
--- an input of more than 16,384 bytes is refused by 15; one that has no such line one, the empty one among them, by 14 (SPECIFICATION 10.1, 10.3)
+-- an input of more than 16,384 bytes is refused by 15; one that has no such line one, the empty one among them, by 14
+-- (SPECIFICATION 10.1, 10.3)
 pub data Comes (input : List ℕ) : Read Wanted → Type 0 where
   long : 16384 < length input → Comes input (refused 15 0)
   asked :

@@ -1,4 +1,5 @@
--- What an input asks, by its bytes: its lines, the limits of line one, the list of a later line (SPECIFICATION 10.1 to 10.4). Assumes nothing.
+-- What an input asks, by its bytes: its lines, the limits of line one, the list of a later line (SPECIFICATION 10.1 to
+-- 10.4). Assumes nothing.
 use mathlib.Core.Bool.{Bool, _&&_}
 use mathlib.Core.List.{List, [], _∷_}
 use Prim.Native.Nat.{ℕ, _+_}
@@ -70,9 +71,13 @@ abbrev pub linesInput : List InputLine → Read Wanted
 linesInput [] = broken
 linesInput (l ∷ ls) = withLater ls (lineOne l)
 
--- more than 16,384 bytes are refused by 15, whatever they are (SPECIFICATION 10.1)
+-- how many bytes an input has at most (SPECIFICATION 10.1)
+abbrev pub inputMost : ℕ
+inputMost = 16384
+
+-- more are refused by 15, whatever they are
 unfoldable pub inputOf : List ℕ → Read Wanted
-inputOf bytes = pick (ltb 16384 (length bytes)) (refused 15 0) (linesInput (linesOf bytes))
+inputOf bytes = pick (ltb inputMost (length bytes)) (refused 15 0) (linesInput (linesOf bytes))
 
 -- ---- a later line: width, count, codes
 

@@ -1,4 +1,5 @@
--- The values of each case of what a line and an input are read as, and what the functions that read them promise. Assumes nothing.
+-- The values of each case of what a line and an input are read as, and what the functions that read them promise.
+-- Assumes nothing.
 use mathlib.Core.Bool.{true}
 use mathlib.Core.List.{List}
 use mathlib.Core.Path.{_≡_}
@@ -13,7 +14,7 @@ use Rattle.circuits_input.specs.declared.Request.{Request}
 use Rattle.circuits_input.specs.declared.Request.the-variants as r
 use Rattle.circuits_input.specs.declared.Question.{Question}
 use Rattle.circuits_input.specs.declared.Question.the-variants as q
-use Rattle.circuits_input.specs.Input.{Read, gives, refused, ended, linesOf, Wanted, wanted, inputOf, AskedList, askedList, questionOf}
+use Rattle.circuits_input.specs.Input.{Read, gives, refused, ended, linesOf, Wanted, wanted, inputMost, inputOf, AskedList, askedList, questionOf}
 
 abbrev pub toldLineOne : LineOne → Read Limits
 toldLineOne (o.Limits m) = gives (toldConfig m)
@@ -26,7 +27,7 @@ toldRequest input (r.Refused w) = refused (numberOf w) (positionOf w)
 
 -- that place is within the input, which is not too long
 abbrev pub Placed : List ℕ → Request → Type 0
-Placed input (r.Table m from) = (from ≤ length input) × (length input ≤ 16384)
+Placed input (r.Table m from) = (from ≤ length input) × (length input ≤ inputMost)
 Placed input (r.Refused w) = true ≡ true
 
 pub record Requested (input : List ℕ) (r : Request) : Type 0 where

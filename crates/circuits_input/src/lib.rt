@@ -1,4 +1,6 @@
-// What the program `circuits` reads: the limits on line one, and the list on each later line (SPECIFICATION 10.1 to 10.4).
+// What the program `circuits` reads: the limits on line one, and the list on each later line (SPECIFICATION 10.1 to
+// 10.4). What is read is an enum of numbers, with no table and no output in reach: a function has a way out for each
+// broken form, and each is short to prove. specs/Allowed says the same inputs a second time, of the bytes alone.
 ghost use mathlib.Core.Path.{_≡_};
 ghost use lib.ListN.{length};
 ghost use Rattle.circuits_input.specs.Input.{ended, lineOne, isQuery};
@@ -88,7 +90,8 @@ fn is_query(numbers: &[u32]) -> bool
     true
 }
 
-// A later line, given without its newline. Its numbers are put into the lent places, as many as the longest such line has.
+// A later line, given without its newline. Its numbers are put into the lent places, as many as the longest such line
+// has.
 pub fn read_query(line: &[u8], numbers: &mut [u32]) -> Question
     requires { ⌜ length (now numbers) ≡ 258 ⌝ }
     ensures { λ r. ⌜ Questioned (now (line .entry)) (now (numbers .exit)) r ⌝ }

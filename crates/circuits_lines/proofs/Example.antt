@@ -1,8 +1,9 @@
 -- The worked example, computed: the line of its first answer (SPECIFICATION 10.7). Assumes nothing.
 use mathlib.Core.List.{[], _∷_}
 use mathlib.Core.Path.{_≡_, refl}
-use Rattle.circuit.specs.Charge.{kindCharge, charge}
-use Rattle.circuit.specs.Kinds.{kindAt}
+use Rattle.kinds.specs.Kinds.{kindCharge}
+use Rattle.circuit.specs.Charge.{charge}
+use Rattle.kinds.specs.Kinds.{kindAt}
 use Rattle.ints.specs.Lists.{each}
 use Rattle.circuits_text.specs.Writing.{glyph, decimalIn, decimal}
 use Rattle.circuits_lines.specs.Lines.{spacedCodes, answerLine}

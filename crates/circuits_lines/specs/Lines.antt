@@ -1,4 +1,5 @@
--- The lines that the program `circuits` prints, as bytes. Each ends in a newline (SPECIFICATION 10.5, 10.6). Assumes nothing.
+-- The lines that the program `circuits` prints, as bytes. Each ends in a newline (SPECIFICATION 10.5, 10.6). Assumes
+-- nothing.
 use mathlib.Core.Bool.{Bool}
 use mathlib.Core.List.{List, [], _∷_, _++_}
 use Prim.Native.Nat.{ℕ}
@@ -27,8 +28,8 @@ refusedLine number position = (refusedWord ++ numberThen number space) ++ number
 unfoldable pub noneLine : List ℕ
 noneLine = 110 ∷ 111 ∷ 110 ∷ 101 ∷ newline ∷ []
 
--- the first line of a width: `table`, the width, how many nodes it has, its completed depth, and 1 where it is saturated, otherwise 0
--- (SPECIFICATION 10.5)
+-- the first line of a width: `table`, the width, how many nodes it has, its completed depth, and 1 where it is
+-- saturated, otherwise 0 (SPECIFICATION 10.5)
 unfoldable pub tableLine : ℕ → ℕ → ℕ → Bool → List ℕ
 tableLine width entries depth saturated =
     (((tableWord ++ numberThen width space) ++ numberThen entries space) ++ numberThen depth space) ++ numberThen (digitOf saturated) newline
@@ -48,6 +49,7 @@ spacedCode code = (space ∷ []) ++ decimal code
 unfoldable pub spacedCodes : List ℕ → List ℕ
 spacedCodes codes = each codes spacedCode
 
--- a list that is answered: how many gates it has, its T charge, then its codes, the oldest first (SPECIFICATION 2.9, 10.6)
+-- a list that is answered: how many gates it has, its T charge, then its codes, the oldest first (SPECIFICATION 2.9,
+-- 10.6)
 unfoldable pub answerLine : List ℕ → List ℕ
 answerLine codes = ((numberThen (length codes) space ++ decimal (charge codes)) ++ spacedCodes codes) ++ (newline ∷ [])

@@ -1,5 +1,6 @@
-// The lines that the program `circuits` prints, put into a lent array of bytes (SPECIFICATION 10.5, 10.6). A line's function answers the place
-// after the line, and says how many bytes the line has at most.
+// The lines that the program `circuits` prints, put into a lent array of bytes (SPECIFICATION 10.5, 10.6). A line's
+// function answers the place after the line, and says how many bytes the line has at most: from these bounds it follows
+// above that no output is longer than the lent array.
 ghost use Prim.Native.Nat.{_+_, _*_, _≤_};
 ghost use lib.ListN.{length, drop};
 ghost use Rattle.refusal.specs.Told.{numberOf, positionOf};
@@ -8,7 +9,7 @@ ghost use Rattle.circuits_lines.specs.Lines.{numberThen, refusedLine, ta
 use circuits_text::NEWLINE;
 use circuits_text::SPACE;
 use refusal::Refusal;
-use width_table::WidthTable;
+use width_record::WidthTable;
 
 // A number and a byte after it: at most 21 bytes.
 pub fn put_number(out: &mut [u8], at: usize, n: u64, after: u8) -> usize

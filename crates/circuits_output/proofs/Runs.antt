@@ -17,7 +17,8 @@ use Rattle.circuits_input.specs.Input.{Read, linesOf, Wanted, inputOf}
 use Rattle.circuits_input.specs.Told.{toldRequest, Placed}
 use Rattle.circuits_input.specs.declared.Request.{Request}
 use Rattle.circuits_output.proofs.Builds.{text-is}
-use Rattle.circuits_output.specs.Output.{replyThen, builtText, inputText, inputArrays, outputWith, arraysAfter, roomFor, run, programOf}
+use Rattle.circuits_built.specs.Built.{replyThen, roomFor}
+use Rattle.circuits_output.specs.Output.{builtText, inputText, inputArrays, outputWith, arraysAfter, run, programOf}
 
 -- ---- the later lines
 

@@ -11,8 +11,9 @@ use Rattle.tables.specs.Checks.{Arrays, arrays}
 use Rattle.circuits_text.specs.Writing.{Put}
 use Rattle.circuits_output.specs.declared.Printed.{Printed}
 use Rattle.circuits_output.specs.declared.Printed.the-variants.{Text, NoRoom}
-use Rattle.circuits_output.specs.Output.{arraysAfter, lentPlaces, lentArrays, output, roomFor, toldPrinted}
-use Rattle.circuits_output.specs.Output.{Run, run, textRun, programOf}
+use Rattle.circuits_output.specs.Output.{arraysAfter, lentPlaces, lentArrays, output, toldPrinted}
+use Rattle.circuits_built.specs.Built.{roomFor}
+use Rattle.circuits_output.specs.Output.{ProgramRun, run, textRun, programOf}
 
 pub places-count : {l : List ℕ} → l ≡ lentPlaces → 2048 ≡ length l
 unfolding lentPlaces
@@ -39,17 +40,17 @@ module _ (input old xs : List ℕ) (printed : Printed) {lent after : Arrays} (ze
 
   pub some-text : printed ≡ NoRoom → ⊥
   some-text f =
-      let g : toldPrinted printed ≡ some (length (output input)) = ap (λ (r : Run). r .printed) made in
+      let g : toldPrinted printed ≡ some (length (output input)) = ap (λ (r : ProgramRun). r .printed) made in
       let h : toldPrinted printed ≡ none = ap toldPrinted f in
       let z : _≡_ {A = ℕ} 0 1 = cc in
       absurd (omega (arith, z))
 
   pub text-put : (n : ℕ) → length xs ≡ length old → printed ≡ Text n → Put 0 (output input) n old xs
   text-put n same f =
-      let g : toldPrinted printed ≡ some (length (output input)) = ap (λ (r : Run). r .printed) made in
+      let g : toldPrinted printed ≡ some (length (output input)) = ap (λ (r : ProgramRun). r .printed) made in
       let h : toldPrinted printed ≡ some n = ap toldPrinted f in
       let m : n ≡ length (output input) = cc in
-      let x : xs ≡ over (output input) old = ap (λ (r : Run). r .out) made in
+      let x : xs ≡ over (output input) old = ap (λ (r : ProgramRun). r .out) made in
       let z : length (output input) ≡ 0 + length (output input) = omega arith in
       record {
         is = x ∙ ap (λ (k : ℕ). output input ++ drop k old) z;

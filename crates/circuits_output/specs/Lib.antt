@@ -1,3 +1,1 @@
-pub mod Texts
 pub mod Output
-pub mod ProgramDemand3

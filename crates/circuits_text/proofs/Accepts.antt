@@ -1,4 +1,5 @@
--- The parser takes exactly the lines that specs/Allowed allows, and reads their numbers (SPECIFICATION 10.2). Assumes nothing.
+-- The parser takes exactly the lines that specs/Allowed allows, and reads their numbers (SPECIFICATION 10.2). Assumes
+-- nothing.
 use mathlib.Core.Bool.{Bool, true, false}
 use mathlib.Core.List.{List, [], _∷_, _++_, append-assoc, append-nil}
 use mathlib.Core.Path.{_≡_, refl, sym, ap, _∙_, subst}

@@ -1,4 +1,5 @@
--- Reading and writing agree: the decimal digits of a number, up to 4294967295, are a word that is that number. Assumes nothing.
+-- Reading and writing agree: the decimal digits of a number, up to 4294967295, are a word that is that number. Assumes
+-- nothing.
 use mathlib.Core.Bool.{Bool, true, false}
 use mathlib.Core.List.{List, [], _∷_, _++_}
 use mathlib.Core.Option.{some}

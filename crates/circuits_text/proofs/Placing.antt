@@ -17,15 +17,15 @@ use mir.Syntax.{w32}
 use mir.Val.{SFits}
 use Rattle.ints.specs.Lists.{pick}
 use Rattle.ints.proofs.Bools.{clash}
-use Rattle.circuits_text.specs.Writing.{glyph, decimalIn, decimal, signed, hexIn, putAt, Put}
+use Rattle.circuits_text.specs.Writing.{glyph, decimalIn, decimal, signed, hexIn, bytesAt, Put}
 
 -- ---- bytes in places
-pub put-length : (at : ℕ) (l xs : List ℕ) → at + length l ≤ length xs → length (putAt at l xs) ≡ length xs
+pub put-length : (at : ℕ) (l xs : List ℕ) → at + length l ≤ length xs → length (bytesAt at l xs) ≡ length xs
 put-length at l xs h =
     let a : length (take at xs) ≡ at = length-take-le at xs (omega arith) in
     simp (length-append, length-drop) (omega arith)
 
-put-none : (at : ℕ) (xs : List ℕ) → putAt at [] xs ≡ xs
+put-none : (at : ℕ) (xs : List ℕ) → bytesAt at [] xs ≡ xs
 put-none at xs = rw add-zero (take-append-drop at xs)
 
 -- one byte
@@ -33,25 +33,25 @@ pub put-one : (at b : ℕ) (xs : List ℕ) → at < length xs → Put at (b ∷ 
 put-one at b xs h = record { is = rw add-one (set-split xs at b h); after = refl; room = omega arith }
 
 -- one byte more, in front
-put-front : (p b : ℕ) (l xs : List ℕ) → p < length xs → set (putAt (suc p) l xs) p b ≡ putAt p (b ∷ l) xs
+put-front : (p b : ℕ) (l xs : List ℕ) → p < length xs → set (bytesAt (suc p) l xs) p b ≡ bytesAt p (b ∷ l) xs
 put-front p b l xs h =
     let a : length (take p xs) ≡ p = length-take-le p xs (omega arith) in
     let m : p + suc (length l) ≡ suc p + length l = omega arith in
     rw (take-suc xs p 0, append-assoc, set-at (take p xs) (getD xs p 0) (l ++ drop (suc p + length l) xs) b p a, m)
 
-put-put : (at : ℕ) (l m xs : List ℕ) → at + length l ≤ length xs → putAt (at + length l) m (putAt at l xs) ≡ putAt at (l ++ m) xs
+put-put : (at : ℕ) (l m xs : List ℕ) → at + length l ≤ length xs → bytesAt (at + length l) m (bytesAt at l xs) ≡ bytesAt at (l ++ m) xs
 put-put at l m xs h =
     let a : length (take at xs) ≡ at = length-take-le at xs (omega arith) in
     let e : length (take at xs ++ l) ≡ at + length l = length-append (take at xs) l ∙ ap (λ (n : ℕ). n + length l) a in
     let x = take at xs ++ l in
     let d = drop (at + length l) xs in
-    let g : putAt at l xs ≡ x ++ d = sym (append-assoc (take at xs) l d) in
-    let t : take (at + length l) (putAt at l xs) ≡ x = ap (take (at + length l)) g ∙ take-at x d (at + length l) e in
-    let r : drop (at + length l + length m) (putAt at l xs) ≡ drop (at + length l + length m) xs =
+    let g : bytesAt at l xs ≡ x ++ d = sym (append-assoc (take at xs) l d) in
+    let t : take (at + length l) (bytesAt at l xs) ≡ x = ap (take (at + length l)) g ∙ take-at x d (at + length l) e in
+    let r : drop (at + length l + length m) (bytesAt at l xs) ≡ drop (at + length l + length m) xs =
     ap (drop (at + length l + length m)) g
     ∙ (ap (λ (n : ℕ). drop (n + length m) (x ++ d)) (sym e) ∙ (drop-append-add x d (length m) ∙ drop-drop (length m) (at + length l) xs)) in
     let q : at + length (l ++ m) ≡ at + length l + length m = omega (arith, length-append l m) in
-    ap (λ (u : List ℕ). u ++ (m ++ drop (at + length l + length m) (putAt at l xs))) t
+    ap (λ (u : List ℕ). u ++ (m ++ drop (at + length l + length m) (bytesAt at l xs))) t
     ∙ (ap (λ (u : List ℕ). x ++ (m ++ u)) r
     ∙ (append-assoc (take at xs) l (m ++ drop (at + length l + length m) xs)
     ∙ ap (λ (u : List ℕ). take at xs ++ u)
@@ -63,7 +63,7 @@ then-put {at} {p} {q} {l} {m} {xs} {ys} {zs} a b =
     let h : at + length l ≤ length xs = omega (arith, a .after, a .room) in
     let n : length ys ≡ length xs = ap length (a .is) ∙ put-length at l xs h in
     record {
-      is = b .is ∙ (ap (putAt p m) (a .is) ∙ (ap (λ (k : ℕ). putAt k m (putAt at l xs)) (a .after) ∙ put-put at l m xs h));
+      is = b .is ∙ (ap (bytesAt p m) (a .is) ∙ (ap (λ (k : ℕ). bytesAt k m (bytesAt at l xs)) (a .after) ∙ put-put at l m xs h));
       after = omega (arith, a .after, b .after, length-append l m);
       room = omega (arith, b .room, n);
     }
@@ -165,7 +165,7 @@ pub record Hexing (old : List ℕ) (at n : ℕ) (xs : List ℕ) (rest i : ℕ) :
   pub tail : List ℕ
   pub count : i + length tail ≡ 16
   pub splits : hexIn 16 n ≡ hexIn i rest ++ tail
-  pub holds : xs ≡ putAt (at + i) tail old
+  pub holds : xs ≡ bytesAt (at + i) tail old
   pub size : length xs ≡ length old
 
 pub hex-none : (old : List ℕ) (at n : ℕ) → Hexing old at n old n 16
@@ -187,7 +187,7 @@ module _ {old xs : List ℕ} {at n rest i : ℕ} (h : Hexing old at n xs rest i)
             ∙ (ap (λ (k : ℕ). hexIn k rest ++ h .tail) s
             ∙ (append-assoc (hexIn j (rest / 16)) (glyph (rest % 16) ∷ []) (h .tail) ∙ ap (λ (d : ℕ). hexIn j (rest / 16) ++ (d ∷ h .tail)) (sym e)));
         holds =
-            ap (λ (l : List ℕ). set l (at + j) b) (h .holds ∙ ap (λ (k : ℕ). putAt k (h .tail) old) p)
+            ap (λ (l : List ℕ). set l (at + j) b) (h .holds ∙ ap (λ (k : ℕ). bytesAt k (h .tail) old) p)
             ∙ put-front (at + j) b (h .tail) old (omega arith);
         size = length-set xs (at + j) b ∙ h .size;
       }
@@ -200,7 +200,7 @@ module _ {old xs : List ℕ} {at n rest i : ℕ} (h : Hexing old at n xs rest i)
       let t : hexIn 16 n ≡ h .tail = h .splits ∙ ap (λ (k : ℕ). hexIn k rest ++ h .tail) z in
       let a : at + i ≡ at = omega arith in
       record {
-        is = h .holds ∙ (ap (λ (k : ℕ). putAt k (h .tail) old) a ∙ ap (λ (m : List ℕ). putAt at m old) (sym t));
+        is = h .holds ∙ (ap (λ (k : ℕ). bytesAt k (h .tail) old) a ∙ ap (λ (m : List ℕ). bytesAt at m old) (sym t));
         after = omega (arith, ap length t);
         room = room;
       }

@@ -273,7 +273,8 @@ words-first (b ∷ bs) = by (eqb b space) (words-first bs)
     by false h = (h .0, ap (longer b) (h .1))
 
 -- ---- a line
--- the line's words are those that were read, all of them numbers, and then the rest; the list holds the numbers of those that were read
+-- the line's words are those that were read, all of them numbers, and then the rest; the list holds the numbers of
+-- those that were read
 pub record Reading (bytes old xs : List ℕ) (p k : ℕ) : Type 0 where
   pub passed : List (List ℕ)
   pub splits : words bytes ≡ passed ++ words (drop p bytes)

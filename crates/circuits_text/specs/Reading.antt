@@ -1,5 +1,5 @@
--- Lines of numbers, as bytes, by the tests that the code makes: what a word, a number and a line's numbers are (SPECIFICATION 10.2). Assumes
--- nothing.
+-- Lines of numbers, as bytes, by the tests that the code makes: what a word, a number and a line's numbers are
+-- (SPECIFICATION 10.2). Assumes nothing.
 use mathlib.Core.Bool.{Bool, true, false, _&&_}
 use mathlib.Core.List.{List, [], _∷_}
 use mathlib.Core.Option.{Option, none, some}
@@ -37,8 +37,8 @@ abbrev pub longer : ℕ → List (List ℕ) → List (List ℕ)
 longer b [] = (b ∷ []) ∷ []
 longer b (w ∷ ws) = (b ∷ w) ∷ ws
 
--- the words of a line: what stands before, between and after its spaces. A second space, and one at either end, makes an empty word, which is
--- no number
+-- the words of a line: what stands before, between and after its spaces. A second space, and one at either end, makes
+-- an empty word, which is no number
 unfoldable pub words : List ℕ → List (List ℕ)
 words [] = [] ∷ []
 words (b ∷ bs) = pick (eqb b space) ([] ∷ words bs) (longer b (words bs))
@@ -56,7 +56,8 @@ valueFrom v (b ∷ bs) = valueFrom (v * 10 + (b - 48)) bs
 abbrev pub value : List ℕ → ℕ
 value = valueFrom 0
 
--- a word that is a number: it has one to ten bytes, all of them digits, and its value is below 2^32 (SPECIFICATION 10.2)
+-- a word that is a number: it has one to ten bytes, all of them digits, and its value is below 2^32 (SPECIFICATION
+-- 10.2)
 unfoldable pub isNumber : List ℕ → Bool
 isNumber w = leb 1 (length w) && (leb (length w) 10 && (all isDigit w && leb (value w) 4294967295))
 
@@ -79,7 +80,8 @@ unfoldable pub numbers : List (List ℕ) → List ℕ
 numbers [] = []
 numbers (w ∷ ws) = pick (isNumber w) (value w ∷ numbers ws) []
 
--- how many numbers a line is, for a list with that many places: as many as it has words; none where a word is no number, or a place lacks
+-- how many numbers a line is, for a list with that many places: as many as it has words; none where a word is no
+-- number, or a place lacks
 unfoldable pub lineOf : ℕ → List (List ℕ) → Option ℕ
 lineOf places ws = pick (allNumbers ws && leb (length ws) places) (some (length ws)) none
 

@@ -40,11 +40,11 @@ abbrev pub hex : ℕ → List ℕ
 hex = hexIn 16
 
 -- new in the places from at on; the others keep what they held
-abbrev pub putAt : ℕ → List ℕ → List ℕ → List ℕ
-putAt at new old = take at old ++ (new ++ drop (at + length new) old)
+abbrev pub bytesAt : ℕ → List ℕ → List ℕ → List ℕ
+bytesAt at new old = take at old ++ (new ++ drop (at + length new) old)
 
 -- new was put into the places from at on, and next is the place after it
 pub record Put (at : ℕ) (new : List ℕ) (next : ℕ) (old now : List ℕ) : Type 0 where
-  pub is : now ≡ putAt at new old
+  pub is : now ≡ bytesAt at new old
   pub after : next ≡ at + length new
   pub room : next ≤ length old

@@ -1,5 +1,7 @@
-// Lines of numbers as bytes: numbers are read from a line's words, and written as decimal, signed decimal and hexadecimal digits.
-// What a number and a line are: SPECIFICATION 10.2.
+// Lines of numbers as bytes: numbers are read from a line's words, and written as decimal, signed decimal and
+// hexadecimal digits. What a number and a line are: SPECIFICATION 10.2. It knows nothing of gates and tables, so that
+// the program `circuits` and the test programs read and write by the same functions, and what is written can be read
+// back (proofs/Back).
 ghost use mathlib.Core.List.{[], _∷_};
 ghost use mathlib.Core.Path.{_≡_};
 ghost use Prim.Native.Nat.{_+_, _<_, _≤_};
@@ -87,8 +89,8 @@ pub fn number(word: &[u8]) -> Word
     Word::Number(v as u32)
 }
 
-// Reads the numbers of a line, given without its newline, into the lent list, from its first place on. Of a broken line it has the numbers
-// before the first other word, as far as there are places.
+// Reads the numbers of a line, given without its newline, into the lent list, from its first place on. Of a broken line
+// it has the numbers before the first other word, as far as there are places.
 pub fn numbers(line: &[u8], list: &mut [u32]) -> Line
     ensures { λ r. ⌜ ReadInto (now (line .entry)) (now (list .entry)) (now (list .exit)) (toldLine r) ⌝ }
 {
@@ -168,7 +170,8 @@ fn put_digits(out: &mut [u8], at: usize, n: u64) -> usize
     put_byte(out, next, glyph(n % 10))
 }
 
-// Puts the decimal digits of a number from a place on, where 20 places are left, as many as any number takes, and answers the place after them.
+// Puts the decimal digits of a number from a place on, where 20 places are left, as many as any number takes, and
+// answers the place after them.
 pub fn put_decimal(out: &mut [u8], at: usize, n: u64) -> usize
     requires { ⌜ at + 20 ≤ length (now out) ⌝ }
     ensures written { λ r. ⌜ Put at (decimal n) r (now (out .entry)) (now (out .exit)) ⌝ }

@@ -1,10 +1,12 @@
--- What the tests of the ring say: coefficients within the limit, two coefficients the same, an element zero. Assumes nothing.
+-- What the tests of the ring say: coefficients within the limit, two coefficients the same, an element zero. Assumes
+-- nothing.
 use mathlib.Core.Path.{_≡_, refl, sym, ap, _∙_}
 use mathlib.Core.Bool.{Bool, true, false, _&&_}
 use Prim.Native.Nat.{ℕ, _*_}
 use lib.IntN.{ℤ, pos, negsuc, natAbs}
 use borrow.Author.Tests.{leb-true, le-leb, eqb-true, eq-eqb}
-use Rattle.cyclotomic.specs.Zomega.{Zω, mk, limit, zeroω, turn, eqZ, isZero, within, fits, Small}
+use Rattle.cyclotomic.specs.Zomega.{Zω, mk, zeroω, turn, isZero, fits, Small}
+use Rattle.coefficients.specs.Coefficients.{limit, eqZ, within}
 use Rattle.ints.proofs.Bools.{clash, both-true, iff}
 use Rattle.cyclotomic.proofs.Turns.{turn-back, turn-zero}
 

@@ -8,7 +8,8 @@ use lib.IntN.{ℤ, pos, negsuc, negℤ, _+ℤ_, _-ℤ_}
 use borrow.Author.Tests.{eqb-true, eq-eqb}
 use Rattle.ints.proofs.Int.{Is, up, dn, add-is, neg-is, same-is}
 use Rattle.ints.proofs.Machine.{abs-is}
-use Rattle.cyclotomic.specs.Zomega.{Zω, mk, zeroω, addω, subω, turn1, turn, sqrt2, parity, sameParity, divisible, half, overSqrt2}
+use Rattle.cyclotomic.specs.Zomega.{Zω, mk, zeroω, addω, subω, turn1, turn, sqrt2, divisible, overSqrt2}
+use Rattle.coefficients.specs.Coefficients.{parity, sameParity, half}
 use Rattle.ints.proofs.Bools.{both-true, iff}
 use Rattle.cyclotomic.proofs.Four.{same4, addE, subE, turnE, sqrt2E, X, Y, of1, of2}
 use Rattle.cyclotomic.proofs.Turns.{turn-back}

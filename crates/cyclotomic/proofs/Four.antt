@@ -1,5 +1,5 @@
--- Expressions of an element of Z[omega], one for each coefficient: an identity of the ring is one line, under `unfolding` its operations,
--- `same4 (of2 x y) (addE X Y) (addE Y X) tt`. Assumes nothing.
+-- Expressions of an element of Z[omega], one for each coefficient: an identity of the ring is one line, under
+-- `unfolding` its operations, `same4 (of2 x y) (addE X Y) (addE Y X) tt`. Assumes nothing.
 use mathlib.Core.Path.{_≡_}
 use mathlib.Core.Bool.{Bool, _&&_}
 use mathlib.Core.List.{List, [], _∷_}

@@ -6,6 +6,5 @@ pub mod Squares
 pub mod Product
 pub mod Order
 pub mod Answers
-pub mod Number
+pub mod Each
 pub mod Sizes
-pub mod Eights

@@ -1,5 +1,5 @@
--- The order of the entries, in which the first two coefficients that differ decide, and the phase of an element: the one power that makes a
--- nonzero element least (SPECIFICATION 1.11). Assumes nothing.
+-- The order of the entries, in which the first two coefficients that differ decide, and the phase of an element: the
+-- one power that makes a nonzero element least (SPECIFICATION 1.11). Assumes nothing.
 use mathlib.Core.Path.{_≡_, refl, sym, ap, _∙_}
 use mathlib.Core.Bool.{Bool, true, false}
 use Prim.Native.Nat.{ℕ, zero, suc, _+_, _*_, _%_, _<_, _≤_}
@@ -11,7 +11,8 @@ use lib.Signed.{ltZ}
 use borrow.Author.Tests.{eq-eqb, ne-eqb, lt-ltb, le-ltb}
 use Rattle.ints.specs.Lists.{pick}
 use Rattle.ints.proofs.Int.{up, dn, same-is}
-use Rattle.cyclotomic.specs.Zomega.{Zω, mk, zeroω, turn, eqZ, orElse, less, leastUpTo, phase}
+use Rattle.cyclotomic.specs.Zomega.{Zω, mk, zeroω, turn, orElse, less, leastUpTo, phase}
+use Rattle.coefficients.specs.Coefficients.{eqZ}
 use Rattle.ints.proofs.Bools.{clash}
 use Rattle.cyclotomic.proofs.Turns.{turn-turn, turn-mod, turn-sum, turn-back, turn-inj}
 

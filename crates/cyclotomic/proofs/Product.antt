@@ -1,5 +1,5 @@
--- The product of Z[omega]: a commutative ring with one, in which a turn is the product with a power of omega, and `sqrt2` the one with √2.
--- Assumes nothing.
+-- The product of Z[omega]: a commutative ring with one, in which a turn is the product with a power of omega, and
+-- `sqrt2` the one with √2. Assumes nothing.
 use mathlib.Core.Path.{_≡_, refl, sym, ap, _∙_}
 use Prim.Native.Nat.{ℕ, zero, suc}
 use Rattle.cyclotomic.specs.Zomega.{Zω, zeroω, oneω, addω, subω, mulω, turn1, turn, sqrt2}

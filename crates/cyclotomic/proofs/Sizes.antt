@@ -1,66 +1,17 @@
--- The sizes of two coefficients add up past the limit exactly where their sum or their difference does. Assumes nothing.
-use mathlib.Core.Path.{_≡_, refl, ap}
-use mathlib.Core.Bool.{true, false, not, _&&_}
-use mathlib.Core.Logic.{_↔_}
-use Prim.Native.Nat.{ℕ, suc, _+_, _^_, _≤_}
+-- The sizes of two elements, coefficient by coefficient, and those of √2 times one: they add up within the limit
+-- exactly where the sums and the differences do. Assumes nothing.
+use mathlib.Core.Path.{_≡_}
+use mathlib.Core.Bool.{true, not, _&&_}
+use Prim.Native.Nat.{_+_, _≤_}
 use native.Mathlib.Omega.{arith}
-use borrow.Author.Tests.{ltb-true, ltb-false, le-ltb, not-true}
+use borrow.Author.Tests.{ltb-false, le-ltb, not-true}
 use lib.IntN.{ℤ, pos, negsuc, natAbs, negℤ, _+ℤ_, _-ℤ_}
-use lib.Signed.{ltZ}
-use mir.Syntax.{Width}
-use mir.Val.{SFits, hbits}
-use Rattle.ints.proofs.Bools.{clash, iff, and-both, both-true}
+use Rattle.ints.proofs.Bools.{iff, and-both, both-true}
 use Rattle.ints.proofs.Int.{up, dn, Is, add-is, neg-is}
-use Rattle.ints.proofs.Machine.{range, abs-is, abs-neg}
-use Rattle.cyclotomic.specs.Zomega.{Zω, limit, addω, subω, sqrt2, fits, Small, sizesPass}
+use Rattle.cyclotomic.specs.Zomega.{Zω, addω, subω, sqrt2, fits, Small}
+use Rattle.coefficients.specs.Coefficients.{limit, sizesPass}
+use Rattle.coefficients.proofs.Sizes.{sizes-of, sums-fit-exactly}
 use Rattle.cyclotomic.proofs.Answers.{fits-small, small-fits}
-
--- ---- the size of one number
-
-pub size-below : (z : ℤ) → ltZ z (pos 0) ≡ true → pos 0 -ℤ z ≡ pos (natAbs z)
-size-below (pos n) h = absurd (omega (arith, ltb-true n 0 h))
-size-below (negsuc n) h = let e : 0 + suc n ≡ suc n = omega arith in ap pos e
-
-pub size-above : (z : ℤ) → ltZ z (pos 0) ≡ false → z ≡ pos (natAbs z)
-size-above (pos n) h = refl
-size-above (negsuc n) h = clash refl h
-
-pub size-range : {w : Width} {z : ℤ} → SFits w z → natAbs z ≤ 2 ^ hbits w
-size-range {w} {z} f = by z (range f .below) (range f .above)
-  where
-    by : (z : ℤ) → suc (up z) ≤ 2 ^ hbits w → dn z ≤ 2 ^ hbits w → natAbs z ≤ 2 ^ hbits w
-    by (pos n) h k = omega arith
-    by (negsuc n) h k = k
-
--- ---- sizes, sums and differences
-
-at-most : (z : ℤ) (u d m : ℕ) → Is z u d → u ≤ m → d ≤ m → natAbs z ≤ m
-at-most (pos a) u d m i h k = omega arith
-at-most (negsuc a) u d m i h k = omega arith
-
-pub abs-sum : (x y : ℤ) → natAbs (x +ℤ y) ≤ natAbs x + natAbs y
-abs-sum x y =
-    let p = abs-is x in
-    let q = abs-is y in
-    at-most (x +ℤ y) (up x + up y) (dn x + dn y) (natAbs x + natAbs y) (add-is x y) (omega arith) (omega arith)
-
-pub abs-difference : (x y : ℤ) → natAbs (x -ℤ y) ≤ natAbs x + natAbs y
-abs-difference x y = omega (arith, abs-sum x (negℤ y), abs-neg y)
-
-pub sizes-of : (m : ℕ) (x y : ℤ) → natAbs (x +ℤ y) ≤ m → natAbs (x -ℤ y) ≤ m → natAbs x + natAbs y ≤ m
-sizes-of m x y h k = by x y (x +ℤ y) (x -ℤ y) (negℤ y) (abs-is (x +ℤ y)) (abs-is (x -ℤ y)) (add-is x y) (add-is x (negℤ y)) (neg-is y) h k
-  where
-    by : (x y p q n : ℤ) → natAbs p ≡ up p + dn p → natAbs q ≡ up q + dn q → Is p (up x + up y) (dn x + dn y) → Is q (up x + up n) (dn x + dn n)
-        → Is n (dn y) (up y) → natAbs p ≤ m → natAbs q ≤ m → natAbs x + natAbs y ≤ m
-    by (pos a) (pos b) p q n ep eq ip iq im h k = omega arith
-    by (pos a) (negsuc b) p q n ep eq ip iq im h k = omega arith
-    by (negsuc a) (pos b) p q n ep eq ip iq im h k = omega arith
-    by (negsuc a) (negsuc b) p q n ep eq ip iq im h k = omega arith
-
--- sizes that add up within the limit are a sum and a difference within the limit, and conversely
-pub sums-fit-exactly : (x y : ℤ) → (natAbs x + natAbs y ≤ limit) ↔ ((natAbs (x +ℤ y) ≤ limit) × (natAbs (x -ℤ y) ≤ limit))
-sums-fit-exactly x y =
-    (λ h. (omega (arith, abs-sum x y), omega (arith, abs-difference x y)), λ h. sizes-of limit x y (h .0) (h .1))
 
 -- the sizes of two elements, coefficient by coefficient, add up within the limit
 pub record SizesSmall (x y : Zω) : Type 0 where

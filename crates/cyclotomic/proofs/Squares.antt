@@ -1,5 +1,5 @@
--- The sum of the squares of the coefficients: turns keep it, √2 doubles it, and where it is below a square the coefficients are within
--- the root. Turns and quotients by √2 keep coefficients within the limit. Assumes nothing.
+-- The sum of the squares of the coefficients: turns keep it, √2 doubles it, and where it is below a square the
+-- coefficients are within the root. Turns and quotients by √2 keep coefficients within the limit. Assumes nothing.
 use mathlib.Core.Path.{_≡_, refl, sym, ap, _∙_}
 use mathlib.Core.Bool.{true}
 use mathlib.Core.List.{List}
@@ -12,7 +12,8 @@ use lib.IntN.{ℤ, pos, negsuc, natAbs, negℤ, _+ℤ_, _-ℤ_, _*ℤ_}
 use Rattle.ints.proofs.Int.{Ex, _⊕_, _⊗_, value, int, up, dn, add-is}
 use Rattle.ints.proofs.Machine.{abs-is, abs-neg}
 use Rattle.ints.proofs.Poly.{solve}
-use Rattle.cyclotomic.specs.Zomega.{Zω, limit, zeroω, oneω, addω, subω, turn, sqrt2, divisible, half, overSqrt2, square, squares, WithinBound, Small}
+use Rattle.cyclotomic.specs.Zomega.{Zω, zeroω, oneω, addω, subω, turn, sqrt2, divisible, overSqrt2, square, squares, WithinBound, Small}
+use Rattle.coefficients.specs.Coefficients.{limit, half}
 use Rattle.cyclotomic.proofs.Four.{Four, at, equal, addE, subE, turnE, sqrt2E, X, Y, of1, of2}
 use Rattle.cyclotomic.proofs.Division.{sqrt2-over}
 

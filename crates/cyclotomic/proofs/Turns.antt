@@ -1,5 +1,5 @@
--- Turns of an element of Z[omega], its products with the powers of omega: a turn by 8 is none, turns add up, and the eight turns of a
--- nonzero element differ. Assumes nothing.
+-- Turns of an element of Z[omega], its products with the powers of omega: a turn by 8 is none, turns add up, and the
+-- eight turns of a nonzero element differ. Assumes nothing.
 use mathlib.Core.Path.{_≡_, refl, sym, ap, _∙_}
 use mathlib.Core.Logic.{_↔_}
 use Prim.Native.Nat.{ℕ, zero, suc, _+_, _*_, _/_, _%_, _<_}

@@ -1,3 +1,2 @@
 pub mod Zomega
 pub mod Told
-pub mod Eights

@@ -1,8 +1,6 @@
--- What an answer of the ring says: an entry, or by number that it does not fit (SPECIFICATION 1.3, 9.1). Assumes nothing.
+-- An entry, or by number that it does not fit (SPECIFICATION 1.3, 9.1). Assumes nothing.
 use Prim.Native.Nat.{ℕ}
 use Rattle.ints.specs.Lists.{pick}
-use Rattle.cyclotomic.specs.declared.Checked.{Checked}
-use Rattle.cyclotomic.specs.declared.Checked.the-variants.{Value, TooLarge}
 use Rattle.cyclotomic.specs.Zomega.{Zω, fits}
 
 -- an exact entry, or a refusal by its number
@@ -14,11 +12,7 @@ pub data Told : Type 0 where
 abbrev pub doesNotFit : ℕ
 doesNotFit = 8
 
--- the number and the values of each case
-abbrev pub told : Checked → Told
-told (Value x) = entry x
-told TooLarge = refused doesNotFit
-
--- what is to be said of the exact result x: it does not fit where a coefficient of it is past the limit (SPECIFICATION 1.3)
+-- what is to be said of the exact result x: it does not fit where a coefficient of it is past the limit (SPECIFICATION
+-- 1.3)
 unfoldable pub checked : Zω → Told
 checked x = pick (fits x) (entry x) (refused doesNotFit)

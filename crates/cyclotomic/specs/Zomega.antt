@@ -1,26 +1,16 @@
--- Z[omega], the ring of the matrices' entries: a + b omega + c omega² + d omega³, with omega⁴ = −1 (SPECIFICATION 1.1). The coefficients here
--- are integers of any size. The record is the struct `Cyclotomic`, whose fields a contract reads as integers; what fits in the struct is said
--- apart. The operations are names that do not unfold by themselves: proofs/ has their laws, which the crates above use. Assumes nothing.
+-- Z[omega], the ring of the matrices' entries: a + b omega + c omega² + d omega³, with omega⁴ = −1 (SPECIFICATION 1.1).
+-- The coefficients here are integers of any size. The record is the struct `Cyclotomic`, whose fields a contract reads
+-- as integers; what fits in the struct is said apart. The operations are names that do not unfold by themselves:
+-- proofs/ has their laws, which the crates above use. Assumes nothing.
 use mathlib.Core.Path.{_≡_}
 use mathlib.Core.Bool.{Bool, true, false, _&&_}
+use mathlib.Core.List.{List, [], _∷_}
 use Prim.Native.Nat.{ℕ, zero, suc, _+_, _*_, _%_, _<_, _≤_}
 use lib.IntN.{ℤ, pos, natAbs, negℤ, _+ℤ_, _-ℤ_, _*ℤ_}
-use lib.Signed.{ltZ, quotZ}
-use lib.Dec.{eqb, leb, ltb}
-use mir.Syntax.{Width, w16, w32}
+use lib.Signed.{ltZ}
 use Rattle.ints.specs.Lists.{pick}
+use Rattle.coefficients.specs.Coefficients.{limit, sameParity, half, eqZ, within}
 use Rattle.cyclotomic.specs.declared.Cyclotomic.{Cyclotomic}
-
--- the largest stored coefficient, and the negative of the least one (SPECIFICATION 1.3)
-abbrev pub limit : ℕ
-limit = 32767
-
--- the width of a coefficient, and the width in which sums are formed
-abbrev pub near : Width
-near = w16
-
-abbrev pub far : Width
-far = w32
 
 -- an entry, by its four coefficients; it stands for a + b omega + c omega² + d omega³ (SPECIFICATION 1.1)
 abbrev pub Zω : Type 0
@@ -58,7 +48,8 @@ unfoldable pub turn : ℕ → Zω → Zω
 turn zero x = x
 turn (suc p) x = turn1 (turn p x)
 
--- for powers p and q from 0 to 7, turning any entry by p, then by q, is turning it by the remainder of p + q by 8 (SPECIFICATION 1.2)
+-- for powers p and q from 0 to 7, turning any entry by p, then by q, is turning it by the remainder of p + q by 8
+-- (SPECIFICATION 1.2)
 pub record TurnsAdd : Type 0 where
   pub adds : (p q : ℕ) → p < 8 → q < 8 → (x : Zω) → turn q (turn p x) ≡ turn ((p + q) % 8) x
 
@@ -66,19 +57,9 @@ pub record TurnsAdd : Type 0 where
 unfoldable pub sqrt2 : Zω → Zω
 sqrt2 x = mk (x .b -ℤ x .d) (x .a +ℤ x .c) (x .b +ℤ x .d) (x .c -ℤ x .a)
 
-abbrev pub parity : ℤ → ℕ
-parity z = natAbs z % 2
-
-abbrev pub sameParity : ℤ → ℤ → Bool
-sameParity x y = eqb (parity x) (parity y)
-
 -- a and c are both even or both odd, and so are b and d: x is √2 times an entry (SPECIFICATION 1.4)
 unfoldable pub divisible : Zω → Bool
 divisible x = sameParity (x .a) (x .c) && sameParity (x .b) (x .d)
-
--- half of an even number
-abbrev pub half : ℤ → ℤ
-half z = quotZ z (pos 2)
 
 -- the quotient of a divisible x by √2 (SPECIFICATION 1.4)
 unfoldable pub overSqrt2 : Zω → Zω
@@ -91,12 +72,6 @@ square z = natAbs z * natAbs z
 unfoldable pub squares : Zω → ℕ
 squares x = square (x .a) + square (x .b) + square (x .c) + square (x .d)
 
-abbrev pub eqZ : ℤ → ℤ → Bool
-eqZ (pos a) (pos b) = eqb a b
-eqZ (pos a) (ℤ.negsuc b) = false
-eqZ (ℤ.negsuc a) (pos b) = false
-eqZ (ℤ.negsuc a) (ℤ.negsuc b) = eqb a b
-
 -- two entries are the same
 unfoldable pub eqω : Zω → Zω → Bool
 eqω x y = eqZ (x .a) (y .a) && (eqZ (x .b) (y .b) && (eqZ (x .c) (y .c) && eqZ (x .d) (y .d)))
@@ -104,7 +79,8 @@ eqω x y = eqZ (x .a) (y .a) && (eqZ (x .b) (y .b) && (eqZ (x .c) (y .c) && eqZ 
 unfoldable pub isZero : Zω → Bool
 isZero x = eqZ (x .a) (pos 0) && eqZ (x .b) (pos 0) && eqZ (x .c) (pos 0) && eqZ (x .d) (pos 0)
 
--- the order of entries, by a, then b, then c, then d as signed numbers: the first pair that differs decides (SPECIFICATION 1.11)
+-- the order of entries, by a, then b, then c, then d as signed numbers: the first pair that differs decides
+-- (SPECIFICATION 1.11)
 abbrev pub orElse : Bool → Bool → Bool → Bool
 orElse true less next = next
 orElse false less next = less
@@ -115,7 +91,8 @@ less x y =
     (orElse (eqZ (x .b) (y .b)) (ltZ (x .b) (y .b))
     (orElse (eqZ (x .c) (y .c)) (ltZ (x .c) (y .c)) (ltZ (x .d) (y .d))))
 
--- the phase of an entry: the power from 0 to 7 whose turn of it is least. A nonzero entry has one such power (SPECIFICATION 1.11, proofs/Order)
+-- the phase of an entry: the power from 0 to 7 whose turn of it is least. A nonzero entry has one such power
+-- (SPECIFICATION 1.11, proofs/Order)
 unfoldable pub leastUpTo : ℕ → Zω → ℕ
 leastUpTo zero x = 0
 leastUpTo (suc k) x = pick (less (turn (suc k) x) (turn (leastUpTo k x) x)) (suc k) (leastUpTo k x)
@@ -124,9 +101,6 @@ abbrev pub phase : Zω → ℕ
 phase x = leastUpTo 7 x
 
 -- ---- what fits
-abbrev pub within : ℤ → Bool
-within z = leb (natAbs z) limit
-
 unfoldable pub fits : Zω → Bool
 fits x = within (x .a) && within (x .b) && within (x .c) && within (x .d)
 
@@ -141,6 +115,7 @@ pub record WithinBound (bound : ℕ) (x : Zω) : Type 0 where
 abbrev pub Small : Zω → Type 0
 Small x = WithinBound limit x
 
--- the sizes of two coefficients add up past the limit
-abbrev pub sizesPass : ℤ → ℤ → Bool
-sizesPass x y = ltb limit (natAbs x + natAbs y)
+-- ---- the eight coefficients of an entry's turns
+-- the coefficients at places 0 to 3, their negatives at places 4 to 7
+abbrev pub eightOf : Zω → List ℤ
+eightOf x = x .a ∷ x .b ∷ x .c ∷ x .d ∷ negℤ (x .a) ∷ negℤ (x .b) ∷ negℤ (x .c) ∷ negℤ (x .d) ∷ []

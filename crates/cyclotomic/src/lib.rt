@@ -1,21 +1,12 @@
-// An element of Z[omega], a + b omega + c omega^2 + d omega^3 with omega^4 = -1: an entry of a matrix, before its division by sqrt(2)^k.
-// A stored coefficient is between -32767 and 32767, so every turn is representable. Sums are formed one width wider and narrowed after a
-// test. matrix.rs of the original, `Cyclotomic`.
+// An element of Z[omega], a + b omega + c omega^2 + d omega^3 with omega^4 = -1: an entry of a matrix, before its
+// division by sqrt(2)^k. matrix.rs of the original, `Cyclotomic`. Each function says a ring operation coefficient by
+// coefficient; what the machine's numbers ask of a coefficient is in `coefficients`, below.
 ghost use mathlib.Core.Path.{_≡_};
-ghost use Prim.Native.Nat.{_+_, _<_, _≤_};
-ghost use lib.IntN.{pos, natAbs, negℤ, _+ℤ_, _-ℤ_};
-ghost use lib.Signed.{ltZ};
-ghost use Rattle.cyclotomic.specs.Zomega.{limit, mk, zeroω, oneω, addω, subω, turn, sameParity, half, sqrt2, divisible, overSqrt2, eqZ, eqω, isZero, less, within, fits, Small, sizesPass};
-ghost use Rattle.cyclotomic.specs.Told.{told, checked};
-ghost use Rattle.cyclotomic.specs.Eights.{eightOf, OfEight, Opposite, OneTurn, PlacesOf};
-
-// A coefficient's type, and the type in which sums are formed.
-pub type Coefficient = i16;
-
-pub type Wide = i32;
-
-// The largest coefficient, and the negative of the least one.
-pub const LIMIT: Wide = 32767;
+ghost use Rattle.cyclotomic.specs.Zomega.{mk, zeroω, oneω, addω, subω, turn, sqrt2, divisible, overSqrt2, eqω, isZero, less, fits, Small, eightOf};
+pub use coefficients::Coefficient;
+pub use coefficients::LIMIT;
+pub use coefficients::Wide;
+pub use coefficients::sizes_pass;
 
 pub struct Cyclotomic {
     pub a: Coefficient,
@@ -24,112 +15,17 @@ pub struct Cyclotomic {
     pub d: Coefficient,
 }
 
-// A sum or a difference: its value, or that a coefficient of it passes the limit.
-pub enum Checked {
-    Value(Cyclotomic),
-    TooLarge,
-}
-
-fn narrow_coefficient(x: Wide) -> Coefficient
-    requires { ⌜ natAbs x ≤ limit ⌝ }
-    ensures { λ r. ⌜ r ≡ x ⌝ }
+// The element of four numbers within the limit, which sums and differences of coefficients are formed to.
+fn narrowed(a: Wide, b: Wide, c: Wide, d: Wide) -> Cyclotomic
+    requires { ⌜ Small (mk a b c d) ⌝ }
+    ensures { λ r. ⌜ r ≡ mk a b c d ⌝ }
 {
-    x as Coefficient
-}
-
-fn negated(x: Coefficient) -> Coefficient
-    requires { ⌜ natAbs x ≤ limit ⌝ }
-    ensures { λ r. ⌜ r ≡ negℤ x ⌝ }
-{
-    narrow_coefficient(-(x as Wide))
-}
-
-fn plus(x: Coefficient, y: Coefficient) -> Wide
-    ensures { λ r. ⌜ r ≡ x +ℤ y ⌝ }
-{
-    (x as Wide) + (y as Wide)
-}
-
-fn minus(x: Coefficient, y: Coefficient) -> Wide
-    ensures { λ r. ⌜ r ≡ x -ℤ y ⌝ }
-{
-    (x as Wide) - (y as Wide)
-}
-
-fn in_limit(x: Wide) -> bool
-    ensures { λ r. ⌜ r ≡ within x ⌝ }
-{
-    if x < -LIMIT {
-        return false;
+    Cyclotomic {
+        a: coefficients::narrow_coefficient(a),
+        b: coefficients::narrow_coefficient(b),
+        c: coefficients::narrow_coefficient(c),
+        d: coefficients::narrow_coefficient(d),
     }
-    x <= LIMIT
-}
-
-fn same(x: Coefficient, y: Coefficient) -> bool
-    ensures { λ r. ⌜ r ≡ eqZ x y ⌝ }
-{
-    x == y
-}
-
-fn below(x: Coefficient, y: Coefficient) -> bool
-    ensures { λ r. ⌜ r ≡ ltZ x y ⌝ }
-{
-    x < y
-}
-
-fn same_parity(x: Coefficient, y: Coefficient) -> bool
-    ensures { λ r. ⌜ r ≡ sameParity x y ⌝ }
-{
-    plus(x, y) % 2 == 0
-}
-
-// Half of a sum or a difference of two coefficients.
-fn halved(x: Wide) -> Coefficient
-    requires { ⌜ natAbs x ≤ limit + limit ⌝ }
-    ensures { λ r. ⌜ r ≡ half x ⌝ }
-{
-    narrow_coefficient(x / 2)
-}
-
-fn narrowed(a: Wide, b: Wide, c: Wide, d: Wide) -> Checked
-    ensures { λ r. ⌜ told r ≡ checked (mk a b c d) ⌝ }
-{
-    if !in_limit(a) {
-        return Checked::TooLarge;
-    }
-    if !in_limit(b) {
-        return Checked::TooLarge;
-    }
-    if !in_limit(c) {
-        return Checked::TooLarge;
-    }
-    if !in_limit(d) {
-        return Checked::TooLarge;
-    }
-    Checked::Value(Cyclotomic {
-        a: narrow_coefficient(a),
-        b: narrow_coefficient(b),
-        c: narrow_coefficient(c),
-        d: narrow_coefficient(d),
-    })
-}
-
-// The size of a coefficient: its absolute value.
-fn size(x: Coefficient) -> Wide
-    ensures { λ r. ⌜ r ≡ pos (natAbs x) ⌝ }
-{
-    let wide = x as Wide;
-    if wide < 0 {
-        return -wide;
-    }
-    wide
-}
-
-// Whether the sizes of two coefficients add up past the limit: then their sum or their difference does, and only then.
-pub fn sizes_pass(x: Coefficient, y: Coefficient) -> bool
-    ensures { λ r. ⌜ r ≡ sizesPass x y ⌝ }
-{
-    size(x) + size(y) > LIMIT
 }
 
 impl Cyclotomic {
@@ -147,7 +43,8 @@ impl Cyclotomic {
         d: 0,
     };
 
-    // The two constants, with what they are: a constant has no contract. `is_zero` compares with 0, an identity is made of 1.
+    // The two constants, with what they are: a constant has no contract. `is_zero` compares with 0, an identity is made
+    // of 1.
     pub fn zero() -> Cyclotomic
         ensures { λ r. ⌜ r ≡ zeroω ⌝ }
     {
@@ -170,41 +67,11 @@ impl Cyclotomic {
     pub fn equals(self, rhs: Cyclotomic) -> bool
         ensures { λ r. ⌜ r ≡ eqω self rhs ⌝ }
     {
-        if !same(self.a, rhs.a) {
-            return false;
-        }
-        if !same(self.b, rhs.b) {
-            return false;
-        }
-        if !same(self.c, rhs.c) {
-            return false;
-        }
-        same(self.d, rhs.d)
-    }
-
-    // The sum, unless a coefficient of it passes the limit: the ring's sum of any two elements. H, which has tested all its pairs before it
-    // stores one, takes `add`; a caller that has not takes this.
-    pub fn checked_add(self, rhs: Cyclotomic) -> Checked
-        ensures { λ r. ⌜ told r ≡ checked (addω self rhs) ⌝ }
-    {
-        narrowed(
-            plus(self.a, rhs.a),
-            plus(self.b, rhs.b),
-            plus(self.c, rhs.c),
-            plus(self.d, rhs.d),
-        )
-    }
-
-    // The difference, likewise; H takes `subtract`.
-    pub fn checked_sub(self, rhs: Cyclotomic) -> Checked
-        ensures { λ r. ⌜ told r ≡ checked (subω self rhs) ⌝ }
-    {
-        narrowed(
-            minus(self.a, rhs.a),
-            minus(self.b, rhs.b),
-            minus(self.c, rhs.c),
-            minus(self.d, rhs.d),
-        )
+        let a = coefficients::same(self.a, rhs.a);
+        let b = coefficients::same(self.b, rhs.b);
+        let c = coefficients::same(self.c, rhs.c);
+        let d = coefficients::same(self.d, rhs.d);
+        a & (b & (c & d))
     }
 
     // The sum, where it is within the limit.
@@ -212,12 +79,12 @@ impl Cyclotomic {
         requires { ⌜ Small (addω self rhs) ⌝ }
         ensures { λ r. ⌜ r ≡ addω self rhs ⌝ }
     {
-        Cyclotomic {
-            a: narrow_coefficient(plus(self.a, rhs.a)),
-            b: narrow_coefficient(plus(self.b, rhs.b)),
-            c: narrow_coefficient(plus(self.c, rhs.c)),
-            d: narrow_coefficient(plus(self.d, rhs.d)),
-        }
+        narrowed(
+            coefficients::plus(self.a, rhs.a),
+            coefficients::plus(self.b, rhs.b),
+            coefficients::plus(self.c, rhs.c),
+            coefficients::plus(self.d, rhs.d),
+        )
     }
 
     // The difference, where it is within the limit.
@@ -225,12 +92,12 @@ impl Cyclotomic {
         requires { ⌜ Small (subω self rhs) ⌝ }
         ensures { λ r. ⌜ r ≡ subω self rhs ⌝ }
     {
-        Cyclotomic {
-            a: narrow_coefficient(minus(self.a, rhs.a)),
-            b: narrow_coefficient(minus(self.b, rhs.b)),
-            c: narrow_coefficient(minus(self.c, rhs.c)),
-            d: narrow_coefficient(minus(self.d, rhs.d)),
-        }
+        narrowed(
+            coefficients::minus(self.a, rhs.a),
+            coefficients::minus(self.b, rhs.b),
+            coefficients::minus(self.c, rhs.c),
+            coefficients::minus(self.d, rhs.d),
+        )
     }
 
     // One turn: omega times this. The paper has no other turn, so turns by powers are worked by single turns alone.
@@ -242,7 +109,7 @@ impl Cyclotomic {
         let b = self.b;
         let c = self.c;
         let d = self.d;
-        let minus_d = negated(d);
+        let minus_d = coefficients::negated(d);
         Cyclotomic {
             a: minus_d,
             b: a,
@@ -274,10 +141,10 @@ impl Cyclotomic {
         let b = self.b;
         let c = self.c;
         let d = self.d;
-        let minus_a = negated(a);
-        let minus_b = negated(b);
-        let minus_c = negated(c);
-        let minus_d = negated(d);
+        let minus_a = coefficients::negated(a);
+        let minus_b = coefficients::negated(b);
+        let minus_c = coefficients::negated(c);
+        let minus_d = coefficients::negated(d);
         [a, b, c, d, minus_a, minus_b, minus_c, minus_d]
     }
 
@@ -285,10 +152,10 @@ impl Cyclotomic {
     pub fn divisible_by_sqrt_2(self) -> bool
         ensures { λ r. ⌜ r ≡ divisible self ⌝ }
     {
-        if !same_parity(self.a, self.c) {
+        if !coefficients::same_parity(self.a, self.c) {
             return false;
         }
-        same_parity(self.b, self.d)
+        coefficients::same_parity(self.b, self.d)
     }
 
     // This over sqrt(2), where it is divisible. The halves never pass the limit.
@@ -297,10 +164,10 @@ impl Cyclotomic {
         ensures { λ r. ⌜ r ≡ overSqrt2 self ⌝ }
     {
         Cyclotomic {
-            a: halved(minus(self.b, self.d)),
-            b: halved(plus(self.a, self.c)),
-            c: halved(plus(self.b, self.d)),
-            d: halved(minus(self.c, self.a)),
+            a: coefficients::halved(coefficients::minus(self.b, self.d)),
+            b: coefficients::halved(coefficients::plus(self.a, self.c)),
+            c: coefficients::halved(coefficients::plus(self.b, self.d)),
+            d: coefficients::halved(coefficients::minus(self.c, self.a)),
         }
     }
 
@@ -308,10 +175,10 @@ impl Cyclotomic {
     pub fn sqrt_2_fits(self) -> bool
         ensures { λ r. ⌜ r ≡ fits (sqrt2 self) ⌝ }
     {
-        if sizes_pass(self.a, self.c) {
+        if coefficients::sizes_pass(self.a, self.c) {
             return false;
         }
-        !sizes_pass(self.b, self.d)
+        !coefficients::sizes_pass(self.b, self.d)
     }
 
     // sqrt(2) times this, where it is within the limit.
@@ -319,85 +186,28 @@ impl Cyclotomic {
         requires { ⌜ Small (sqrt2 self) ⌝ }
         ensures { λ r. ⌜ r ≡ sqrt2 self ⌝ }
     {
-        Cyclotomic {
-            a: narrow_coefficient(minus(self.b, self.d)),
-            b: narrow_coefficient(plus(self.a, self.c)),
-            c: narrow_coefficient(plus(self.b, self.d)),
-            d: narrow_coefficient(minus(self.c, self.a)),
-        }
+        narrowed(
+            coefficients::minus(self.b, self.d),
+            coefficients::plus(self.a, self.c),
+            coefficients::plus(self.b, self.d),
+            coefficients::minus(self.c, self.a),
+        )
     }
 
-    // Whether this comes before the other: by a, then b, then c, then d, as signed numbers.
+    // Whether this comes before the other: by a, then b, then c, then d, as signed numbers. It returns at the first pair
+    // that differs: with no branch, builds at width 1 took 4 % longer.
     pub fn less_than(self, rhs: Cyclotomic) -> bool
         ensures { λ r. ⌜ r ≡ less self rhs ⌝ }
     {
-        if !same(self.a, rhs.a) {
-            return below(self.a, rhs.a);
+        if !coefficients::same(self.a, rhs.a) {
+            return coefficients::below(self.a, rhs.a);
         }
-        if !same(self.b, rhs.b) {
-            return below(self.b, rhs.b);
+        if !coefficients::same(self.b, rhs.b) {
+            return coefficients::below(self.b, rhs.b);
         }
-        if !same(self.c, rhs.c) {
-            return below(self.c, rhs.c);
+        if !coefficients::same(self.c, rhs.c) {
+            return coefficients::below(self.c, rhs.c);
         }
-        below(self.d, rhs.d)
+        coefficients::below(self.d, rhs.d)
     }
-}
-
-// Where the coefficients of a turned element stand among the eight of the element itself. One of these serves all entries of a matrix, so that
-// its turns are worked once and not for each entry.
-pub struct TurnPlaces {
-    pub a: usize,
-    pub b: usize,
-    pub c: usize,
-    pub d: usize,
-}
-
-// The place of the negative.
-fn opposite(place: usize) -> usize
-    requires { ⌜ place < 8 ⌝ }
-    ensures { λ r. ⌜ Opposite place r ⌝ }
-{
-    if place < 4 {
-        return place + 4;
-    }
-    place - 4
-}
-
-impl TurnPlaces {
-    // One turn, on places: the rule of `turned` of an element.
-    fn turned(self) -> TurnPlaces
-        requires { ⌜ OfEight self ⌝ }
-        ensures { λ r. ⌜ OneTurn self r ⌝ }
-    {
-        let a = self.a;
-        let b = self.b;
-        let c = self.c;
-        let d = self.d;
-        let opposite_d = opposite(d);
-        TurnPlaces {
-            a: opposite_d,
-            b: a,
-            c: b,
-            d: c,
-        }
-    }
-}
-
-// The places of omega to the power, times an element: that many single turns of the element's own places.
-pub fn turn_places(power: u8) -> TurnPlaces
-    ensures { λ r. ⌜ PlacesOf power r ⌝ }
-{
-    let mut t = TurnPlaces {
-        a: 0,
-        b: 1,
-        c: 2,
-        d: 3,
-    };
-    let mut made: u8 = 0;
-    while made < power {
-        t = t.turned();
-        made += 1;
-    }
-    t
 }

@@ -1,5 +1,5 @@
--- Steps, a row operation and then lowering: what holds of values holds of them exactly, since the lowest form is unique. `PowerOf` is an
--- equivalence that steps and lowering keep. Assumes nothing.
+-- Steps, a row operation and then lowering: what holds of values holds of them exactly, since the lowest form is
+-- unique. `PowerOf` is an equivalence that steps and lowering keep. Assumes nothing.
 use mathlib.Core.Path.{ap, sym}
 use Prim.Native.Nat.{ℕ, _+_, _*_, _%_}
 use native.Mathlib.Omega.{arith}

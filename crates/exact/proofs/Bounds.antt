@@ -1,5 +1,5 @@
--- What unitarity bounds: the squares of the coefficients of each row sum to 2^k, so that lists of few gates fit at every step, and an exponent
--- past 65535 is never met (SPECIFICATION 3.4). Assumes nothing.
+-- What unitarity bounds: the squares of the coefficients of each row sum to 2^k, so that lists of few gates fit at
+-- every step, and an exponent past 65535 is never met (SPECIFICATION 3.4). Assumes nothing.
 use mathlib.Core.Path.{_≡_, refl, sym, ap, _∙_, subst}
 use mathlib.Core.Bool.{Bool, true, false, _&&_}
 use mathlib.Core.List.{List, [], _∷_}
@@ -13,12 +13,13 @@ use borrow.Author.Tests.{le-leb}
 use Rattle.ints.specs.Lists.{pick}
 use Rattle.ints.proofs.Bools.{both-true}
 use Rattle.ints.proofs.Int.{up}
-use Rattle.cyclotomic.specs.Zomega.{Zω, limit, mulω, overSqrt2, squares, Small, WithinBound}
+use Rattle.cyclotomic.specs.Zomega.{Zω, mulω, overSqrt2, squares, Small, WithinBound}
+use Rattle.coefficients.specs.Coefficients.{limit}
 use Rattle.cyclotomic.proofs.Squares.{small-of-squares, small-over}
 use Rattle.exact.specs.Matrix.{Exact, allDivisible, lowered, lower, identity}
 use Rattle.exact.specs.Rows.{Gate, phase, exchange, had, then, raw, act, gateOf}
 use Rattle.exact.specs.Lists.{after, product}
-use Rattle.exact.specs.Fits.{mostK, allFits, within, stepFits, Steps, allFit, unfitAt, next, stepsFrom, steps}
+use Rattle.exact.specs.Fits.{mostK, fittingGates, allFits, rawWithin, stepFits, Steps, allFit, unfitAt, next, stepsFrom, steps}
 use Rattle.exact.proofs.Words.{AllWithin, AllSmall, Proper, Plain}
 use Rattle.exact.specs.Unitary.{conj, inner, Unitary, total, RowLaw}
 use Rattle.exact.proofs.Linear.{raise-most}
@@ -124,13 +125,13 @@ module _ (n : ℕ) where
       record { small = λ r c p q. subst Small (act-then n f g x (pr .1) .entries r c p q) (w .small r c p q) }
 
   -- and so the exponent never decides whether a step fits
-  plain-decide : n ≤ 5 → {x : Exact} → Unitary n x → AllSmall n (x .e) → (g : Gate) → Plain g → stepFits n g x ≡ within n g x
+  plain-decide : n ≤ 5 → {x : Exact} → Unitary n x → AllSmall n (x .e) → (g : Gate) → Plain g → stepFits n g x ≡ rawWithin n g x
   plain-decide h {x} u w g t =
       let k = k-never h u w in
       let r = raise-most g t (x .k) in
       plain-fits n g t x ∙ rw (le-leb (raw g x .k) mostK (omega arith)) (sym (plain-each n (allFits n) g t x))
 
-  pub coefficients-decide : n ≤ 5 → {x : Exact} → Unitary n x → AllSmall n (x .e) → (g : Gate) → Proper n g → stepFits n g x ≡ within n g x
+  pub coefficients-decide : n ≤ 5 → {x : Exact} → Unitary n x → AllSmall n (x .e) → (g : Gate) → Proper n g → stepFits n g x ≡ rawWithin n g x
   unfolding stepFits
   coefficients-decide h u w (phase ks p) pr = plain-decide h u w (phase ks p) tt
   coefficients-decide h u w (exchange ks k) pr = plain-decide h u w (exchange ks k) tt
@@ -138,10 +139,10 @@ module _ (n : ℕ) where
   coefficients-decide h {x} u w (then f g) pr =
       by (stepFits n f x) refl (coefficients-decide h u w f (pr .0)) (λ e. coefficients-decide h (unitary-act n f (pr .0) u) (fits-act f x (pr .0) e) g (pr .1))
     where
-      by : (b : Bool) → stepFits n f x ≡ b → stepFits n f x ≡ within n f x → (stepFits n f x ≡ true → stepFits n g (act n f x) ≡ within n g (act n f x))
-          → (stepFits n f x && stepFits n g (act n f x)) ≡ (within n f x && within n g (act n f x))
+      by : (b : Bool) → stepFits n f x ≡ b → stepFits n f x ≡ rawWithin n f x → (stepFits n f x ≡ true → stepFits n g (act n f x) ≡ rawWithin n g (act n f x))
+          → (stepFits n f x && stepFits n g (act n f x)) ≡ (rawWithin n f x && rawWithin n g (act n f x))
       by true e q v = λ i. q i && v e i
-      by false e q v = ap (λ (b : Bool). b && stepFits n g (act n f x)) e ∙ sym (ap (λ (b : Bool). b && within n g (act n f x)) (sym q ∙ e))
+      by false e q v = ap (λ (b : Bool). b && stepFits n g (act n f x)) e ∙ sym (ap (λ (b : Bool). b && rawWithin n g (act n f x)) (sym q ∙ e))
 
   -- ---- lists that fit at every step
   after-small : (l : List ℕ) (x : Exact) → AllSmall n (x .e) → stepsFrom n x l ≡ allFit → AllSmall n (after n x l .e)
@@ -156,6 +157,10 @@ module _ (n : ℕ) where
 
 -- ---- lists of few gates
 
+-- the most gates for which 2^G is below (limit + 1)²
+pub fitting-gates : (2 ^ fittingGates < suc limit * suc limit) × (suc limit * suc limit ≤ 2 ^ suc fittingGates)
+fitting-gates = (omega arith, omega arith)
+
 module _ (n : ℕ) where
   -- each row's squares sum to 2^k in every product, and before the lowering of a further gate
   pub row-product : (l : List ℕ) → RowLaw n (product n l)
@@ -164,8 +169,9 @@ module _ (n : ℕ) where
   pub row-step : (g : ℕ) (l : List ℕ) → RowLaw n (raw (gateOf n g) (product n l))
   row-step g l = row-law n (unitary-step n g l)
 
-  -- Where 2^G is below (limit + 1)², lists of at most G gates fit, each of the gates one row operation, as those of a basis are (`basis-plain`).
-  -- Sx is several, and raises the exponent twice before its last lowering: of lists with it this is not claimed
+  -- Where 2^G is below (limit + 1)², lists of at most G gates fit, each of the gates one row operation, as those of a
+  -- basis are (`basis-plain`). Sx is several, and raises the exponent twice before its last lowering: of lists with it
+  -- this is not claimed
   module _ (G : ℕ) (s : 2 ^ G < suc limit * suc limit) (m : G ≤ mostK) where
     -- one gate more
     next-fits : (g : ℕ) → Plain (gateOf n g) → (l : List ℕ) → AllPlain n l → length l < G → stepFits n (gateOf n g) (product n l) ≡ true
@@ -187,13 +193,13 @@ module _ (n : ℕ) where
     unfolding steps
     all-steps l a h = steps-from l a (unitary-identity n) (omega arith)
 
-  -- 2^29 is below 32768², and 2^30 is not
-  pub candidate-fits : (g : ℕ) → Plain (gateOf n g) → (l : List ℕ) → AllPlain n l → length l < 29 → stepFits n (gateOf n g) (product n l) ≡ true
-  candidate-fits = next-fits 29 (omega arith) (omega arith)
+  pub candidate-fits : (g : ℕ) → Plain (gateOf n g) → (l : List ℕ) → AllPlain n l → length l < fittingGates → stepFits n (gateOf n g) (product n l) ≡ true
+  candidate-fits = next-fits fittingGates (fitting-gates .0) (omega arith)
 
-  pub list-fits : (l : List ℕ) → AllPlain n l → length l ≤ 29 → steps n l ≡ allFit
-  list-fits = all-steps 29 (omega arith) (omega arith)
+  pub list-fits : (l : List ℕ) → AllPlain n l → length l ≤ fittingGates → steps n l ≡ allFit
+  list-fits = all-steps fittingGates (fitting-gates .0) (omega arith)
 
-  -- after steps that fit, from the identity on, the exponent never decides: a step that fits by its coefficients fits (SPECIFICATION 3.4)
-  pub k-never-met : n ≤ 5 → (l : List ℕ) → steps n l ≡ allFit → (g : ℕ) → stepFits n (gateOf n g) (product n l) ≡ within n (gateOf n g) (product n l)
+  -- after steps that fit, from the identity on, the exponent never decides: a step that fits by its coefficients fits
+  -- (SPECIFICATION 3.4)
+  pub k-never-met : n ≤ 5 → (l : List ℕ) → steps n l ≡ allFit → (g : ℕ) → stepFits n (gateOf n g) (product n l) ≡ rawWithin n (gateOf n g) (product n l)
   k-never-met h l e g = coefficients-decide n h (unitary-product n l) (product-small n l e) (gateOf n g) (proper n g)

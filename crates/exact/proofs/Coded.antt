@@ -1,5 +1,5 @@
--- The gate of a code is one of its width, and the two tests on pairs of codes say of the gates what they should: `inverse` that one undoes
--- the other, `disjoint` that they have no common bit. Assumes nothing.
+-- The gate of a code is one of its width, and the two tests on pairs of codes say of the gates what they should:
+-- `inverse` that one undoes the other, `disjoint` that they have no common bit. Assumes nothing.
 use mathlib.Core.Path.{_≡_, refl, sym, ap, _∙_}
 use mathlib.Core.Bool.{Bool, true, false, not, _&&_, _||_}
 use mathlib.Core.List.{List, [], _∷_, map}
@@ -10,10 +10,11 @@ use lib.Dec.{eqb, ltb}
 use lib.ListN.{take, drop}
 use Rattle.ints.specs.Lists.{pick, all, elem, distinct}
 use Rattle.ints.proofs.Bools.{clash, both-true, and-left, and-right}
-use Rattle.circuit.specs.Kinds.{Kind, H, X, Z, S, Sdg, T, Tdg, Cx, Cz, Ccx, Ccz, Y, Sx, Swap, Cy, Ch, Cswap, Other, kindAt, number, arity, sorted, isKind, ofTables, dual}
-use Rattle.circuit.specs.Codes.{kindNumber, kindOf, first, second, third, placed, ordered, valid, validFor}
+use Rattle.kinds.specs.Kinds.{Kind, H, X, Z, S, Sdg, T, Tdg, Cx, Cz, Ccx, Ccz, Y, Sx, Swap, Cy, Ch, Cswap, Other, kindAt, number, arity, sorted, isKind, ofTables, dual}
+use Rattle.circuit.specs.Codes.{kindNumber, kindOf, first, second, third, valid, validFor}
+use Rattle.operands.specs.Operands.{placed, ordered}
 use Rattle.circuit.specs.Pairs.{inverse, qubits, disjoint}
-use Rattle.circuit.proofs.ByNumber.{kind-number, table-kind}
+use Rattle.kinds.proofs.ByNumber.{kind-number, table-kind}
 use Rattle.circuit.proofs.Coded.{code-table}
 use Rattle.exact.specs.Rows.{Gate, phase, bitOf, gate, gateOf}
 use Rattle.exact.proofs.Words.{Lacks, AllBelow, Proper, Plain, touches, Apart, Undoes, turns, exchanges, hads}

@@ -1,4 +1,5 @@
--- The complex conjugate of Z[omega], and finite sums of elements: what the ring's operations do to them. Assumes nothing.
+-- The complex conjugate of Z[omega], and finite sums of elements: what the ring's operations do to them. Assumes
+-- nothing.
 use mathlib.Core.Path.{_≡_, refl, sym, ap, _∙_}
 use Prim.Native.Nat.{ℕ, zero, suc, _+_, _*_, _%_, _<_}
 use native.Mathlib.Omega.{arith}

@@ -1,5 +1,5 @@
--- The row that differs in one bit: `flip` undoes itself, flips commute, and what each does to the bits. The row that an exchange takes.
--- Assumes nothing.
+-- The row that differs in one bit: `flip` undoes itself, flips commute, and what each does to the bits. The row that an
+-- exchange takes. Assumes nothing.
 use mathlib.Core.Path.{_≡_, refl, sym, ap, _∙_}
 use mathlib.Core.Bool.{Bool, true, false, not, _&&_}
 use mathlib.Core.List.{List, [], _∷_}

@@ -1,5 +1,6 @@
--- What turns and exchanges keep: the lowest denominator and small coefficients, so that of all row operations only H, with controls or without,
--- can fail to fit. Whether a step fits, and what it gives, is one for equal matrices. Assumes nothing.
+-- What turns and exchanges keep: the lowest denominator and small coefficients, so that of all row operations only H,
+-- with controls or without, can fail to fit. Whether a step fits, and what it gives, is one for equal matrices. Assumes
+-- nothing.
 use mathlib.Core.Path.{_≡_, refl, sym, ap, _∙_}
 use mathlib.Core.Bool.{Bool, true, false, _&&_}
 use mathlib.Core.List.{List}

@@ -1,5 +1,5 @@
--- Every gate is linear in a column: what stays of a row and what comes from its partner, each turned or none. The laws of the row
--- operations, for all kinds of gate at once. Assumes nothing.
+-- Every gate is linear in a column: what stays of a row and what comes from its partner, each turned or none. The laws
+-- of the row operations, for all kinds of gate at once. Assumes nothing.
 use mathlib.Core.Path.{_≡_, refl, sym, ap, _∙_}
 use mathlib.Core.Bool.{Bool, true, false, not}
 use mathlib.Core.List.{List, [], _∷_, _++_}

@@ -1,5 +1,5 @@
--- Products of lists of codes, oldest first: a list in parts, the lowest denominator, the exponent, and lists of one product: adjacent
--- disjoint codes exchanged, an inverse pair left out. Assumes nothing.
+-- Products of lists of codes, oldest first: a list in parts, the lowest denominator, the exponent, and lists of one
+-- product: adjacent disjoint codes exchanged, an inverse pair left out. Assumes nothing.
 use mathlib.Core.Path.{_≡_, refl}
 use mathlib.Core.Bool.{true}
 use mathlib.Core.List.{List, [], _∷_, _++_}

@@ -1,4 +1,5 @@
--- Each row operation is the product with the paper's matrix, so a list's product has the value of the paper's. Assumes nothing.
+-- Each row operation is the product with the paper's matrix, so a list's product has the value of the paper's. Assumes
+-- nothing.
 use mathlib.Core.Path.{_≡_, refl, sym, ap, _∙_, subst}
 use mathlib.Core.Bool.{Bool, true, false, not, _&&_}
 use mathlib.Core.List.{List, [], _∷_, _++_, map}
@@ -18,13 +19,13 @@ use Rattle.cyclotomic.proofs.Turns.{sub-is, turn-sum, turn-none}
 use Rattle.cyclotomic.proofs.Product.{one-mul, zero-mul, turn-is-mul, sqrt2-is-mul}
 use Rattle.cyclotomic.proofs.Four.{same4, oneE, addE, subE, mulE, turnE, of2}
 use Rattle.cyclotomic.proofs.Four as four
-use Rattle.circuit.specs.Kinds.{Kind, H, X, Z, S, Sdg, T, Tdg, Cx, Cz, Ccx, Ccz, Y, Sx, Swap, Cy, Ch, Cswap, Other, arity}
+use Rattle.kinds.specs.Kinds.{Kind, H, X, Z, S, Sdg, T, Tdg, Cx, Cz, Ccx, Ccz, Y, Sx, Swap, Cy, Ch, Cswap, Other, arity}
 use Rattle.circuit.specs.Codes.{kindOf, first, second, third, valid}
 use Rattle.exact.specs.Matrix.{Exact, SameValue, sqrt2s, identity}
 use Rattle.exact.proofs.Words.{Equal, Proper, Lacks}
 use Rattle.exact.specs.Rows.{flip, ones, phase, exchange, had, then, column, raw, bitOf, turnedExchange, exchanges3, gate, gateOf}
 use Rattle.exact.specs.Lists.{after, product}
-use Rattle.exact.specs.Paper.{Single, hadamard, pauliX, pauliY, rootX, differs, swapped, permutation, phaseGate, controlled, matrixOf, paperGate, paperOf, sumω, multiply, paperAfter, paperProduct}
+use Rattle.exact.specs.Paper.{Single, hadamard, pauliX, pauliY, rootX, differs, swapped, permutation, phaseGate, controlled, paperMatrix, paperGate, paperOf, sumω, multiply, paperAfter, paperProduct}
 use Rattle.exact.proofs.Flips.{bit-own, bit-other, ones-other, flip-flip, flip-comm, flip-differs, flip-lt, moved, moved-lt}
 use Rattle.exact.proofs.Values.{same-refl, same-trans, equal-same, lower-same}
 use Rattle.exact.proofs.Linear.{raw-same}
@@ -77,7 +78,7 @@ unfolding addω subω mulω oneω turn
 root-two y z = same4 (of2 y z) (addE (mulE (addE oneE (turnE 2 oneE)) four.X) (mulE (addE oneE (turnE 6 oneE)) four.Y)) (addE (addE four.X four.Y) (turnE 2 (subE four.X four.Y))) tt
 
 module _ (n t : ℕ) (x : Exact) (h : t < n) where
-  pub paper-had : (ks : List ℕ) → Equal n (multiply n (matrixOf hadamard ks t) x) (raw (had ks t) x)
+  pub paper-had : (ks : List ℕ) → Equal n (multiply n (paperMatrix hadamard ks t) x) (raw (had ks t) x)
   unfolding column
   paper-had ks = record {
     exponent = one-add (x .k);
@@ -91,7 +92,7 @@ module _ (n t : ℕ) (x : Exact) (h : t < n) where
       by false b y z = (λ i. addω (sym (sqrt2-is-mul y) i) (zero-mul z i)) ∙ add-zero (sqrt2 y)
 
   -- Y and Cy: a turn of the target's one-rows, an exchange, a turn
-  pub paper-y : (ks : List ℕ) → Equal n (multiply n (matrixOf pauliY ks t) x) (raw (turnedExchange ks t) x)
+  pub paper-y : (ks : List ℕ) → Equal n (multiply n (paperMatrix pauliY ks t) x) (raw (turnedExchange ks t) x)
   unfolding column all
   paper-y ks = record {
     exponent = zero-add (x .k);
@@ -111,7 +112,7 @@ module _ (n t : ℕ) (x : Exact) (h : t < n) where
       by false false r c e = rw e (one-zero (x .e r c) (x .e (flip t r) c))
 
   -- Sx: "as H, S, H"
-  pub paper-root : Equal n (multiply n (matrixOf rootX [] t) x) (raw (then (had [] t) (then (phase (t ∷ []) 2) (had [] t))) x)
+  pub paper-root : Equal n (multiply n (paperMatrix rootX [] t) x) (raw (then (had [] t) (then (phase (t ∷ []) 2) (had [] t))) x)
   unfolding column all
   paper-root = record {
     exponent = omega arith;
@@ -124,7 +125,7 @@ module _ (n t : ℕ) (x : Exact) (h : t < n) where
       by true r c e = rw (bit-own t r, flip-flip t r, e) (root-one (x .e r c) (x .e (flip t r) c))
       by false r c e = rw (bit-own t r, flip-flip t r, e) (root-two (x .e r c) (x .e (flip t r) c))
 
-  pub paper-exchange : (ks : List ℕ) → Equal n (multiply n (matrixOf pauliX ks t) x) (raw (exchange ks t) x)
+  pub paper-exchange : (ks : List ℕ) → Equal n (multiply n (paperMatrix pauliX ks t) x) (raw (exchange ks t) x)
   unfolding column
   paper-exchange ks = record {
     exponent = zero-add (x .k);
@@ -138,7 +139,7 @@ module _ (n t : ℕ) (x : Exact) (h : t < n) where
       by true false r c = zero-one (x .e r c) (x .e (flip t r) c)
       by false b r c = one-zero (x .e r c) (x .e (flip t r) c)
 
-  pub paper-phase : (ks : List ℕ) (p : ℕ) → Equal n (multiply n (matrixOf (phaseGate p) ks t) x) (raw (phase (ks ++ (t ∷ [])) p) x)
+  pub paper-phase : (ks : List ℕ) (p : ℕ) → Equal n (multiply n (paperMatrix (phaseGate p) ks t) x) (raw (phase (ks ++ (t ∷ [])) p) x)
   unfolding column
   paper-phase ks p = record {
     exponent = zero-add (x .k);
@@ -205,8 +206,8 @@ paper-nothing n x = multiply-identity n x
 
 -- ---- the gate of a code
 
--- each kind's row operations are the product with the paper's matrix, on any operands that are bits of the width, the target no control; of Cswap
--- the control is none of the pair, of which `Proper` has only one half
+-- each kind's row operations are the product with the paper's matrix, on any operands that are bits of the width, the
+-- target no control; of Cswap the control is none of the pair, of which `Proper` has only one half
 pub paper-kind : (n : ℕ) (k : Kind) (a b c : ℕ) (x : Exact) → Proper n (gate n k a b c) → (k ≡ Cswap → bitOf n b ≡ bitOf n a → ⊥)
     → Equal n (multiply n (paperGate n k a b c) x) (raw (gate n k a b c) x)
 paper-kind n H a b c x w d = paper-had n (bitOf n a) x (w .0) []

@@ -1,5 +1,6 @@
--- The phase of a matrix, and what `upToPhase` decides: exponents are equal and one power of omega takes each entry of the one to the other's; of
--- matrices in lowest denominator, that the one is a power of omega times the other by value. Assumes nothing.
+-- The phase of a matrix, and what `upToPhase` decides: exponents are equal and one power of omega takes each entry of
+-- the one to the other's; of matrices in lowest denominator, that the one is a power of omega times the other by value.
+-- Assumes nothing.
 use mathlib.Core.Path.{_≡_, refl, sym, ap, _∙_}
 use mathlib.Core.Logic.{_↔_}
 use mathlib.Core.Bool.{Bool, true, false, _&&_}
@@ -11,7 +12,8 @@ use lib.Dec.{eqb}
 use lib.Pow.{pow-pos, high, low}
 use Rattle.ints.specs.Lists.{pick}
 use Rattle.ints.proofs.Bools.{iff, both-true, and-both}
-use Rattle.cyclotomic.specs.Zomega.{eqω, Zω, mk, zeroω, turn, eqZ, isZero, less, leastUpTo, phase}
+use Rattle.cyclotomic.specs.Zomega.{eqω, Zω, mk, zeroω, turn, isZero, less, leastUpTo, phase}
+use Rattle.coefficients.specs.Coefficients.{eqZ}
 use Rattle.cyclotomic.proofs.Turns.{turn-sum, turn-back, turn-zero}
 use Rattle.cyclotomic.proofs.Order
 use Rattle.cyclotomic.proofs.Order.{phase-turn}

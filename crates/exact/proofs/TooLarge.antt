@@ -1,5 +1,5 @@
--- A list is too large exactly where a step passes the limit, at the first such step: what `steps` tells, against each step by itself, and the
--- exponent, which never decides. Assumes nothing.
+-- A list is too large exactly where a step passes the limit, at the first such step: what `steps` tells, against each
+-- step by itself, and the exponent, which never decides. Assumes nothing.
 use mathlib.Core.Path.{_≡_, refl, sym, ap, _∙_, subst}
 use mathlib.Core.Bool.{Bool, true, false}
 use mathlib.Core.List.{List, [], _∷_}
@@ -111,7 +111,8 @@ module _ (n : ℕ) where
     within-fit zero q f j p = absurd (omega arith)
     within-fit (suc i) q f j p = fit-more i (omega arith) (f i (omega arith)) (within-fit i (omega arith) (λ k r. f k (omega arith))) j p
 
-    -- gate i is told as the first that does not fit exactly where its step is the first past the limit (SPECIFICATION 8.2)
+    -- gate i is told as the first that does not fit exactly where its step is the first past the limit (SPECIFICATION
+    -- 8.2)
     pub too-large-exactly : (i : ℕ) → (steps n l ≡ unfitAt i) ↔ FirstPast n l i
     unfolding steps product
     too-large-exactly i = (to, from)

@@ -1,5 +1,5 @@
--- `Unitary` is kept by every row operation, by lowering and by powers of omega, and it belongs to the value: so every product of gates is
--- unitary, and every matrix that is a power of omega times a product. Assumes nothing.
+-- `Unitary` is kept by every row operation, by lowering and by powers of omega, and it belongs to the value: so every
+-- product of gates is unitary, and every matrix that is a power of omega times a product. Assumes nothing.
 use mathlib.Core.Path.{_≡_, refl, sym, ap, _∙_}
 use mathlib.Core.Bool.{Bool, true, false, not}
 use mathlib.Core.List.{List, [], _∷_}
@@ -157,7 +157,8 @@ all-zero : (p q s t : ℕ) → addω (addω (turn p zeroω) (turn q zeroω)) (ad
 all-zero p q s t =
     (λ i. addω (addω (turn-zero p i) (turn-zero q i)) (addω (turn-zero s i) (turn-zero t i))) ∙ (λ i. addω (add-zero zeroω i) (add-zero zeroω i))
 
--- each row as two turned rows: itself and its partner where the controls are 1, twice itself where they are not, since √2 = omega + omega⁷
+-- each row as two turned rows: itself and its partner where the controls are 1, twice itself where they are not, since
+-- √2 = omega + omega⁷
 abbrev own-turn : Bool → Bool → ℕ
 own-turn o b = pick o (sign b) 1
 

@@ -1,5 +1,5 @@
--- Values and lowest denominators: `SameValue` and `Equal` are equivalences, `lower` keeps the value and gives a matrix in lowest denominator, of
--- which each value has one, and turns of all entries commute with all of it. Assumes nothing.
+-- Values and lowest denominators: `SameValue` and `Equal` are equivalences, `lower` keeps the value and gives a matrix
+-- in lowest denominator, of which each value has one, and turns of all entries commute with all of it. Assumes nothing.
 use mathlib.Core.Path.{_≡_, refl, sym, ap, _∙_}
 use mathlib.Core.Bool.{Bool, true, false}
 use Prim.Native.Nat.{ℕ, zero, suc, _+_, _-_, _^_, _≤_, _<_}

@@ -1,10 +1,12 @@
--- Words of the laws and of the contracts below the entries, about exact matrices and gates. No demand rests on them. Assumes nothing.
+-- Words of the laws and of the contracts below the entries, about exact matrices and gates. No demand rests on them.
+-- Assumes nothing.
 use mathlib.Core.Path.{_≡_}
 use mathlib.Core.List.{List, [], _∷_, _++_}
 use Prim.Native.Nat.{ℕ, _+_, _%_, _^_, _<_}
 use Rattle.ints.specs.Lists.{pick}
 use Rattle.cyclotomic.specs.Told.{doesNotFit}
-use Rattle.cyclotomic.specs.Zomega.{Zω, limit, WithinBound}
+use Rattle.cyclotomic.specs.Zomega.{Zω, WithinBound}
+use Rattle.coefficients.specs.Coefficients.{limit}
 use Rattle.exact.specs.Matrix.{Exact}
 use Rattle.exact.specs.Rows.{Gate, phase, exchange, had, then, act}
 use Rattle.exact.specs.Fits.{stepFits}
@@ -31,8 +33,8 @@ AllSmall n e = AllWithin n limit e
 unfoldable pub stepAnswer : ℕ → Gate → Exact → Answer
 stepAnswer n g x = pick (stepFits n g x) (given (act n g x .k)) (refused doesNotFit 0)
 
--- where a gate does not fit: what its row operations before the first that does not fit have made. Of Sx it may be its first H and its S; a gate
--- of one operation has made nothing
+-- where a gate does not fit: what its row operations before the first that does not fit have made. Of Sx it may be its
+-- first H and its S; a gate of one operation has made nothing
 abbrev pub made : ℕ → Gate → Exact → Exact
 made n (phase ks p) x = x
 made n (exchange ks k) x = x

@@ -1,10 +1,10 @@
--- The fingerprint of an exact matrix, on naturals modulo 2^64: defined of any product, whether it fits or not, since the demands speak of all
--- lists of a basis. SPECIFICATION, chapter 5. Assumes nothing.
+-- The fingerprint of an exact matrix, on naturals modulo 2^64: defined of any product, whether it fits or not, since
+-- the demands speak of all lists of a basis. SPECIFICATION, chapter 5. Assumes nothing.
 use mathlib.Core.List.{List, [], _∷_, _++_}
 use Prim.Native.Nat.{ℕ, zero, suc, _+_, _*_, _^_, _/_, _%_}
 use lib.Bits.{bitXor}
 use Rattle.cyclotomic.specs.Zomega.{Zω}
-use Rattle.words.specs.Words.{words, product, rotated, word}
+use Rattle.words.specs.Words.{words, wordProduct, rotated, word}
 use Rattle.exact.specs.Matrix.{Exact}
 use Rattle.exact.specs.Phase.{flat, phased}
 
@@ -20,8 +20,8 @@ start = record { first = 14695981039346656037; second = 11400714819323198485 }
 -- both after one word; the constants are hex 100000001b3, 517cc1b727220a95 and 94d049bb133111eb (SPECIFICATION 5.2)
 unfoldable pub mix : Streams → ℕ → Streams
 mix s w = record {
-  first = product (bitXor (s .first) w) 1099511628211;
-  second = product (rotated 27 (bitXor (s .second) ((w + 5871781006564002453) % words))) 10723151780598845931;
+  first = wordProduct (bitXor (s .first) w) 1099511628211;
+  second = wordProduct (rotated 27 (bitXor (s .second) ((w + 5871781006564002453) % words))) 10723151780598845931;
 }
 
 -- both after all words, in order
@@ -36,7 +36,7 @@ xorShift k a = bitXor a (a / 2 ^ k)
 -- one number of the two streams; the factors are hex bf58476d1ce4e5b9 and 94d049bb133111eb (SPECIFICATION 5.3)
 unfoldable pub fold : Streams → ℕ
 fold s =
-    xorShift 31 (product (xorShift 27 (product (xorShift 30 (bitXor (s .first) (rotated 32 (s .second)))) 13787848793156543929)) 10723151780598845931)
+    xorShift 31 (wordProduct (xorShift 27 (wordProduct (xorShift 30 (bitXor (s .first) (rotated 32 (s .second)))) 13787848793156543929)) 10723151780598845931)
 
 -- the words of an entry's coefficients
 abbrev pub fourWords : Zω → List ℕ

@@ -1,5 +1,6 @@
--- Exact matrices of width n, with no bound on coefficients or exponent: their values, the lowest denominator, and powers of omega. Entries are a
--- function of row and column, so that no law speaks of places; how places hold a matrix is Places.antt. Assumes nothing.
+-- Exact matrices of width n, with no bound on coefficients or exponent: their values, the lowest denominator, and
+-- powers of omega. Entries are a function of row and column, so that no law speaks of places; how places hold a matrix
+-- is Places.antt. Assumes nothing.
 use mathlib.Core.Path.{_≡_}
 use mathlib.Core.Bool.{Bool, false}
 use Prim.Native.Nat.{ℕ, zero, suc, _^_, _<_}
@@ -7,8 +8,8 @@ use lib.Dec.{eqb}
 use Rattle.ints.specs.Lists.{pick, range, all}
 use Rattle.cyclotomic.specs.Zomega.{Zω, zeroω, oneω, turn, sqrt2, divisible, overSqrt2}
 
--- a matrix: its value at row r and column c is the entry e r c over √2 to the k (SPECIFICATION 1.5). The width n stands beside it; rows and
--- columns from 2^n on are no part of it
+-- a matrix: its value at row r and column c is the entry e r c over √2 to the k (SPECIFICATION 1.5). The width n stands
+-- beside it; rows and columns from 2^n on are no part of it
 pub record Exact : Type 0 where
   pub k : ℕ
   pub e : ℕ → ℕ → Zω
@@ -51,7 +52,8 @@ identity = record { k = 0; e = λ r c. pick (eqb r c) oneω zeroω }
 abbrev pub turned : ℕ → Exact → Exact
 turned p x = record { k = x .k; e = λ r c. turn p (x .e r c) }
 
--- y is a power of omega times x: one turn of all entries of x, by 0 to 7, gives y's values. Exponents may differ (SPECIFICATION 1.10)
+-- y is a power of omega times x: one turn of all entries of x, by 0 to 7, gives y's values. Exponents may differ
+-- (SPECIFICATION 1.10)
 pub record PowerOf (n : ℕ) (x y : Exact) : Type 0 where
   pub power : ℕ
   pub small : power < 8

@@ -1,5 +1,6 @@
--- The gates as Giles and Selinger have them: matrices by their entries, and the product of matrices as a finite sum. The row operations of
--- Rows.antt are shown to be products with these, so that their meaning is the paper's and not the code's (SPECIFICATION 3.1). Assumes nothing.
+-- The gates as Giles and Selinger have them: matrices by their entries, and the product of matrices as a finite sum.
+-- The row operations of Rows.antt are shown to be products with these, so that their meaning is the paper's and not the
+-- code's (SPECIFICATION 3.1). Assumes nothing.
 use mathlib.Core.Bool.{Bool, true, false, not, _&&_, _||_}
 use mathlib.Core.List.{List, [], _∷_}
 use Prim.Native.Nat.{ℕ, zero, suc, _+_, _^_}
@@ -7,7 +8,7 @@ use lib.Dec.{eqb}
 use Rattle.ints.specs.Bits.{bit}
 use Rattle.ints.specs.Lists.{pick}
 use Rattle.cyclotomic.specs.Zomega.{Zω, zeroω, oneω, addω, mulω, turn}
-use Rattle.circuit.specs.Kinds.{Kind, H, X, Z, S, Sdg, T, Tdg, Cx, Cz, Ccx, Ccz, Y, Sx, Swap, Cy, Ch, Cswap, Other}
+use Rattle.kinds.specs.Kinds.{Kind, H, X, Z, S, Sdg, T, Tdg, Cx, Cz, Ccx, Ccz, Y, Sx, Swap, Cy, Ch, Cswap, Other}
 use Rattle.circuit.specs.Codes.{kindOf, first, second, third, valid}
 use Rattle.exact.specs.Matrix.{Exact, sqrt2s, identity}
 use Rattle.exact.specs.Rows.{flip, ones, bitOf}
@@ -70,14 +71,14 @@ differs false b = b
 abbrev pub agree : ℕ → ℕ → ℕ → Bool
 agree t r s = eqb s r || eqb s (flip t r)
 
--- a gate on bit t, controlled by the bits ks: where row and column agree on all other bits, the gate's entry if the controls are 1, and
--- the identity's, at the gate's denominator, if not
+-- a gate on bit t, controlled by the bits ks: where row and column agree on all other bits, the gate's entry if the
+-- controls are 1, and the identity's, at the gate's denominator, if not
 unfoldable pub controlled : Single → List ℕ → ℕ → ℕ → ℕ → Zω
 controlled g ks t r s =
     pick (agree t r s) (pick (ones ks r) (g .u (bit r t) (bit s t)) (pick (eqb s r) (sqrt2s (g .k) oneω) zeroω)) zeroω
 
-abbrev pub matrixOf : Single → List ℕ → ℕ → Exact
-matrixOf g ks t = record { k = g .k; e = controlled g ks t }
+abbrev pub paperMatrix : Single → List ℕ → ℕ → Exact
+paperMatrix g ks t = record { k = g .k; e = controlled g ks t }
 
 -- the row with its bits j and k exchanged, where the bits ks are 1; otherwise the row itself
 unfoldable pub swapped : List ℕ → ℕ → ℕ → ℕ → ℕ
@@ -87,24 +88,25 @@ swapped ks j k r = pick (ones ks r && differs (bit r j) (bit r k)) (flip j (flip
 abbrev pub permutation : (ℕ → ℕ) → Exact
 permutation f = record { k = 0; e = λ r s. pick (eqb s (f r)) oneω zeroω }
 
--- the matrix of each kind: the last operand is the target, of Swap and Cswap the last two are the pair, and the others are controls
+-- the matrix of each kind: the last operand is the target, of Swap and Cswap the last two are the pair, and the others
+-- are controls
 abbrev pub paperGate : ℕ → Kind → ℕ → ℕ → ℕ → Exact
-paperGate n H a b c = matrixOf hadamard [] (bitOf n a)
-paperGate n X a b c = matrixOf pauliX [] (bitOf n a)
-paperGate n Z a b c = matrixOf (phaseGate 4) [] (bitOf n a)
-paperGate n S a b c = matrixOf (phaseGate 2) [] (bitOf n a)
-paperGate n Sdg a b c = matrixOf (phaseGate 6) [] (bitOf n a)
-paperGate n T a b c = matrixOf (phaseGate 1) [] (bitOf n a)
-paperGate n Tdg a b c = matrixOf (phaseGate 7) [] (bitOf n a)
-paperGate n Cx a b c = matrixOf pauliX (bitOf n a ∷ []) (bitOf n b)
-paperGate n Cz a b c = matrixOf (phaseGate 4) (bitOf n a ∷ []) (bitOf n b)
-paperGate n Ccx a b c = matrixOf pauliX (bitOf n a ∷ bitOf n b ∷ []) (bitOf n c)
-paperGate n Ccz a b c = matrixOf (phaseGate 4) (bitOf n a ∷ bitOf n b ∷ []) (bitOf n c)
-paperGate n Y a b c = matrixOf pauliY [] (bitOf n a)
-paperGate n Sx a b c = matrixOf rootX [] (bitOf n a)
+paperGate n H a b c = paperMatrix hadamard [] (bitOf n a)
+paperGate n X a b c = paperMatrix pauliX [] (bitOf n a)
+paperGate n Z a b c = paperMatrix (phaseGate 4) [] (bitOf n a)
+paperGate n S a b c = paperMatrix (phaseGate 2) [] (bitOf n a)
+paperGate n Sdg a b c = paperMatrix (phaseGate 6) [] (bitOf n a)
+paperGate n T a b c = paperMatrix (phaseGate 1) [] (bitOf n a)
+paperGate n Tdg a b c = paperMatrix (phaseGate 7) [] (bitOf n a)
+paperGate n Cx a b c = paperMatrix pauliX (bitOf n a ∷ []) (bitOf n b)
+paperGate n Cz a b c = paperMatrix (phaseGate 4) (bitOf n a ∷ []) (bitOf n b)
+paperGate n Ccx a b c = paperMatrix pauliX (bitOf n a ∷ bitOf n b ∷ []) (bitOf n c)
+paperGate n Ccz a b c = paperMatrix (phaseGate 4) (bitOf n a ∷ bitOf n b ∷ []) (bitOf n c)
+paperGate n Y a b c = paperMatrix pauliY [] (bitOf n a)
+paperGate n Sx a b c = paperMatrix rootX [] (bitOf n a)
 paperGate n Swap a b c = permutation (swapped [] (bitOf n a) (bitOf n b))
-paperGate n Cy a b c = matrixOf pauliY (bitOf n a ∷ []) (bitOf n b)
-paperGate n Ch a b c = matrixOf hadamard (bitOf n a ∷ []) (bitOf n b)
+paperGate n Cy a b c = paperMatrix pauliY (bitOf n a ∷ []) (bitOf n b)
+paperGate n Ch a b c = paperMatrix hadamard (bitOf n a ∷ []) (bitOf n b)
 paperGate n Cswap a b c = permutation (swapped (bitOf n a ∷ []) (bitOf n b) (bitOf n c))
 paperGate n Other a b c = identity
 
@@ -121,7 +123,8 @@ sumω (suc m) f = addω (sumω m f) (f m)
 abbrev pub multiply : ℕ → Exact → Exact → Exact
 multiply n x y = record { k = x .k + y .k; e = λ r c. sumω (2 ^ n) (λ s. mulω (x .e r s) (y .e s c)) }
 
--- the paper's product of a list: the oldest gate is first in the list, the newest leftmost in the product (SPECIFICATION 3.5)
+-- the paper's product of a list: the oldest gate is first in the list, the newest leftmost in the product
+-- (SPECIFICATION 3.5)
 abbrev pub paperAfter : ℕ → Exact → List ℕ → Exact
 paperAfter n x [] = x
 paperAfter n x (g ∷ l) = paperAfter n (multiply n (paperOf n g) x) l

@@ -1,5 +1,5 @@
--- The phase of a matrix, and whether two are equal up to phase: a test that ends, by which the recheck decides. That it decides `PowerOf` for
--- matrices in lowest denominator is shown in proofs/Phases. Assumes nothing.
+-- The phase of a matrix, and whether two are equal up to phase: a test that ends, by which the recheck decides. That it
+-- decides `PowerOf` for matrices in lowest denominator is shown in proofs/Phases. Assumes nothing.
 use mathlib.Core.Bool.{Bool, _&&_}
 use Prim.Native.Nat.{ℕ, zero, suc, _*_, _^_, _/_, _%_}
 use lib.Dec.{eqb}
@@ -20,7 +20,8 @@ firstNonzero (suc m) f = pick (isZero (f 0)) (firstNonzero m (λ i. f (suc i))) 
 unfoldable pub pivot : ℕ → Exact → Zω
 pivot n x = firstNonzero (2 ^ n * 2 ^ n) (flat n (x .e))
 
--- the phase of a matrix is its pivot's: the turn, 0 to 7, by which the pivot is least; 0 where all entries are zero (SPECIFICATION 1.11)
+-- the phase of a matrix is its pivot's: the turn, 0 to 7, by which the pivot is least; 0 where all entries are zero
+-- (SPECIFICATION 1.11)
 unfoldable pub phaseOf : ℕ → Exact → ℕ
 phaseOf n x = phase (pivot n x)
 
@@ -28,6 +29,7 @@ phaseOf n x = phase (pivot n x)
 abbrev pub phased : ℕ → Exact → Exact
 phased n x = turned (phaseOf n x) x
 
--- equal up to phase: one exponent, and the phased matrices have the same entries. Both have width n (SPECIFICATION 1.12)
+-- equal up to phase: one exponent, and the phased matrices have the same entries. Both have width n (SPECIFICATION
+-- 1.12)
 unfoldable pub upToPhase : ℕ → Exact → Exact → Bool
 upToPhase n x y = eqb (x .k) (y .k) && allEntries n (λ r c. eqω (phased n x .e r c) (phased n y .e r c))

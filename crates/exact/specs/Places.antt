@@ -1,5 +1,5 @@
--- How signed places hold a matrix: four coefficients for each entry, entries row after row (SPECIFICATION 1.7). Contracts read the
--- code's arrays by it as exact matrices. Assumes nothing.
+-- How signed places hold a matrix: four coefficients for each entry, entries row after row (SPECIFICATION 1.7).
+-- Contracts read the code's arrays by it as exact matrices. Assumes nothing.
 use mathlib.Core.List.{List}
 use Prim.Native.Nat.{ℕ, _+_, _*_, _^_}
 use lib.IntN.{ℤ, pos}

@@ -1,5 +1,6 @@
--- What gates do to rows: multiplying by a gate on the left, said without a product of matrices, as the code does it (SPECIFICATION 3.2). The
--- kinds come to three operations and to several of them one after the other, so that a law has four cases and not seventeen. Assumes nothing.
+-- What gates do to rows: multiplying by a gate on the left, said without a product of matrices, as the code does it
+-- (SPECIFICATION 3.2). The kinds come to three operations and to several of them one after the other, so that a law has
+-- four cases and not seventeen. Assumes nothing.
 use mathlib.Core.Bool.{Bool}
 use mathlib.Core.List.{List, [], _∷_}
 use Prim.Native.Nat.{ℕ, suc, _-_, _^_}
@@ -7,7 +8,7 @@ use lib.Bits.{bitXor}
 use Rattle.ints.specs.Bits.{bit}
 use Rattle.ints.specs.Lists.{pick, all}
 use Rattle.cyclotomic.specs.Zomega.{Zω, addω, subω, turn, sqrt2}
-use Rattle.circuit.specs.Kinds.{Kind, H, X, Z, S, Sdg, T, Tdg, Cx, Cz, Ccx, Ccz, Y, Sx, Swap, Cy, Ch, Cswap, Other}
+use Rattle.kinds.specs.Kinds.{Kind, H, X, Z, S, Sdg, T, Tdg, Cx, Cz, Ccx, Ccz, Y, Sx, Swap, Cy, Ch, Cswap, Other}
 use Rattle.circuit.specs.Codes.{kindOf, first, second, third, valid}
 use Rattle.exact.specs.Matrix.{Exact, lower}
 
@@ -19,17 +20,19 @@ flip k r = bitXor r (2 ^ k)
 abbrev pub ones : List ℕ → ℕ → Bool
 ones ks r = all (bit r) ks
 
--- what a gate does to rows, by their bits: a turn by omega^p of the rows that have all the bits ks; an exchange of the rows that differ in
--- bit k, where all the bits ks are 1; H of each pair of rows that differ in bit k, where all the bits ks are 1; one gate after the other
+-- what a gate does to rows, by their bits: a turn by omega^p of the rows that have all the bits ks; an exchange of the
+-- rows that differ in bit k, where all the bits ks are 1; H of each pair of rows that differ in bit k, where all the
+-- bits ks are 1; one gate after the other
 pub data Gate : Type 0 where
   phase : List ℕ → ℕ → Gate
   exchange : List ℕ → ℕ → Gate
   had : List ℕ → ℕ → Gate
   then : Gate → Gate → Gate
 
--- what comes to row r of a column v: itself, turned where the bits are 1; the row that it is exchanged with; of H the sum of the two rows where
--- the bit is 0, and where it is 1 the row with 0 less the row with 1; but where one of H's controls is 0 the row itself times sqrt(2), since the
--- exponent is the whole matrix's; of two gates what the second makes of the first's result (SPECIFICATION 3.2)
+-- what comes to row r of a column v: itself, turned where the bits are 1; the row that it is exchanged with; of H the
+-- sum of the two rows where the bit is 0, and where it is 1 the row with 0 less the row with 1; but where one of H's
+-- controls is 0 the row itself times sqrt(2), since the exponent is the whole matrix's; of two gates what the second
+-- makes of the first's result (SPECIFICATION 3.2)
 unfoldable pub column : Gate → (ℕ → Zω) → ℕ → Zω
 column (phase ks p) v r = pick (ones ks r) (turn p (v r)) (v r)
 column (exchange ks k) v r = v (pick (ones ks r) (flip k r) r)
@@ -43,8 +46,8 @@ raise (exchange ks j) k = k
 raise (had ks j) k = suc k
 raise (then g h) k = raise h (raise g k)
 
--- the row operations, without lowering (SPECIFICATION 3.2); of one operation it is the raw result. What fits is said of each operation by itself,
--- in Fits.antt
+-- the row operations, without lowering (SPECIFICATION 3.2); of one operation it is the raw result. What fits is said of
+-- each operation by itself, in Fits.antt
 abbrev pub raw : Gate → Exact → Exact
 raw g x = record { k = raise g (x .k); e = λ r c. column g (λ s. x .e s c) r }
 
@@ -56,7 +59,8 @@ act n g x = lower n (raw g x)
 abbrev pub bitOf : ℕ → ℕ → ℕ
 bitOf n q = n - suc q
 
--- Y and Cy: the target's one-rows are turned by 6, the rows exchanged where the controls are 1, the one-rows turned by 2
+-- Y and Cy: the target's one-rows are turned by 6, the rows exchanged where the controls are 1, the one-rows turned by
+-- 2
 abbrev pub turnedExchange : List ℕ → ℕ → Gate
 turnedExchange ks k = then (phase (k ∷ []) 6) (then (exchange ks k) (phase (k ∷ []) 2))
 

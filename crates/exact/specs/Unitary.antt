@@ -1,6 +1,6 @@
--- Unitary by rows: the product of row i with the conjugate of row j, summed over the columns, is 2^k for i = j and 0 otherwise. Every product
--- of a list is unitary, and so is every query that gets a list (SPECIFICATION 1.13, 7.8). What it says of each row's coefficients alone is the row
--- law. Assumes nothing.
+-- Unitary by rows: the product of row i with the conjugate of row j, summed over the columns, is 2^k for i = j and 0
+-- otherwise. Every product of a list is unitary, and so is every query that gets a list (SPECIFICATION 1.13, 7.8). What
+-- it says of each row's coefficients alone is the row law. Assumes nothing.
 use mathlib.Core.Path.{_≡_}
 use Prim.Native.Nat.{ℕ, zero, suc, _+_, _^_, _<_}
 use lib.IntN.{pos, negℤ}

@@ -1,4 +1,5 @@
--- What each of the loops keeps: the places from a start on hold what a function gives for each number passed. Assumes nothing.
+-- What each of the loops keeps: the places from a start on hold what a function gives for each number passed. Assumes
+-- nothing.
 use mathlib.Core.Path.{_≡_}
 use mathlib.Core.List.{List}
 use Prim.Native.Nat.{ℕ, _+_, _≤_, _<_}

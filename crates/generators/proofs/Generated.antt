@@ -1,5 +1,5 @@
--- The generators are exactly the codes that are valid at the width and of a kind in the basis, in rising order, at every width up to 16.
--- Assumes nothing.
+-- The generators are exactly the codes that are valid at the width and of a kind in the basis, in rising order, at
+-- every width up to 16. Assumes nothing.
 use mathlib.Core.Path.{_≡_, refl, sym, ap, _∙_}
 use mathlib.Core.Logic.{⊎-elim}
 use mathlib.Core.Bool.{Bool, true, false, _&&_}
@@ -13,9 +13,10 @@ use lib.ListN.{take, drop}
 use Rattle.ints.specs.Lists.{pick, range, all, distinct, Run}
 use Rattle.ints.proofs.Bools.{and-left, and-right}
 use Rattle.ints.proofs.Runs.{run-to, run-each, range-in, each-in, each-mem}
-use Rattle.circuit.specs.Kinds.{kindAt, arity, sorted, isKind, ofTables}
-use Rattle.circuit.specs.Codes.{codeOf, kindNumber, kindOf, first, second, third, placed, ordered, valid, validFor}
-use Rattle.circuit.proofs.ByNumber.{kind-used, table-kind}
+use Rattle.kinds.specs.Kinds.{kindAt, arity, sorted, isKind, ofTables}
+use Rattle.circuit.specs.Codes.{codeOf, kindNumber, kindOf, first, second, third, valid, validFor}
+use Rattle.operands.specs.Operands.{placed, ordered}
+use Rattle.kinds.proofs.ByNumber.{kind-used, table-kind}
 use Rattle.circuit.proofs.Coded.{code-whole, code-valid, code-table}
 use Rattle.generators.specs.Generators.{kept, thirds, seconds, firsts, generators, Lists}
 

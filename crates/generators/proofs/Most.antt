@@ -1,5 +1,5 @@
--- No basis has more generators than there are places for, at any width up to 5: a basis only leaves codes out, and one test counts the
--- codes of all kinds at each of the widths. Assumes nothing.
+-- No basis has more generators than there are places for, at any width up to 5: a basis only leaves codes out, and one
+-- test counts the codes of all kinds at each of the widths. Assumes nothing.
 use mathlib.Core.Path.{_≡_, refl}
 use mathlib.Core.Bool.{Bool, true, false, _&&_}
 use mathlib.Core.List.{List, [], _∷_}
@@ -12,9 +12,10 @@ use lib.ListN.{length}
 use Rattle.ints.specs.Lists.{pick, range, each, all, elem, distinct}
 use Rattle.ints.proofs.Bools.{all-range}
 use Rattle.ints.proofs.Runs.{each-length-le}
-use Rattle.circuit.specs.Kinds.{kindAt, arity, sorted, isKind, ofTables}
+use Rattle.kinds.specs.Kinds.{kindAt, arity, sorted, isKind, ofTables}
 use Rattle.circuit.specs.Sets.{member}
-use Rattle.circuit.specs.Codes.{codeOf, kindNumber, kindOf, placed, rises, valid, validFor}
+use Rattle.circuit.specs.Codes.{codeOf, kindNumber, kindOf, valid, validFor}
+use Rattle.operands.specs.Operands.{placed, rises}
 use Rattle.generators.specs.Generators.{most, kept, thirds, seconds, firsts, generators}
 
 -- the code, if it is valid at the width

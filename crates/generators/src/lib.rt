@@ -1,5 +1,6 @@
-// The generators of a basis at a width, in order. murm.rs of the original, `library_gates`. Its nested loops run over kinds and operands;
-// here each loop is a function, and a code is kept where it is valid.
+// The generators of a basis at a width, in order. murm.rs of the original, `library_gates`. Its nested loops run over
+// kinds and operands; here each loop is a function, so that each has one invariant (`Filled`), and a code is kept where
+// it is valid.
 ghost use mathlib.Core.Path.{_≡_};
 ghost use Prim.Native.Nat.{_+_, _<_, _≤_};
 ghost use lib.ListN.{length};

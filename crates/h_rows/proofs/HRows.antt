@@ -1,13 +1,13 @@
--- H and Ch by rows: the tests, a pair of rows that becomes its sums and differences or is multiplied by √2, and the sweep over all pairs, each
--- worked at its lower row. Assumes nothing.
+-- H and Ch by rows: the test of a pair of rows, what comes of the pair, and the sweep over all pairs, each worked at
+-- its lower row. Assumes nothing.
 use mathlib.Core.Path.{_≡_, refl, sym, ap, _∙_, subst}
-use mathlib.Core.Bool.{Bool, true, false, not, _||_}
+use mathlib.Core.Bool.{Bool, true, false}
 use mathlib.Core.List.{List}
 use Prim.Native.Nat.{ℕ, zero, suc, _+_, _*_, _-_, _^_, _/_, _%_, _≤_, _<_, min, max}
 use native.Mathlib.Omega.{arith}
 use native.Mathlib.Nat.{div-add-mod', mod-lt}
 use borrow.Author.Count.{below-more}
-use borrow.Author.Tests.{eq-eqb, ne-eqb, eqb-true, eqb-false, ltb-true, ltb-false}
+use borrow.Author.Tests.{eq-eqb, ne-eqb, eqb-true, eqb-false}
 use lib.Bits.{bitAnd, bitOr, and-zero-r, and-le-l, and-le-r, or-lt, or-add-and}
 use lib.IntN.{ℤ, natAbs}
 use lib.ListN.{length}
@@ -16,40 +16,21 @@ use Rattle.ints.specs.Bits.{digit}
 use Rattle.ints.specs.Lists.{pick}
 use Rattle.ints.proofs.Bits.{digit-lt, ext, and-digit, or-digit}
 use Rattle.ints.proofs.Bools.{clash}
-use Rattle.cyclotomic.specs.Zomega.{Zω, limit, subω, sqrt2, Small, sizesPass}
+use Rattle.cyclotomic.specs.Zomega.{Zω, subω, sqrt2, Small}
+use Rattle.coefficients.specs.Coefficients.{limit}
 use Rattle.cyclotomic.proofs.Sizes.{SizesSmall, sizes-sum, sizes-difference, both-sizes}
 use Rattle.exact.proofs.Words.{AllSmall}
 use Rattle.exact.specs.Places.{entry, read}
-use Rattle.places.specs.Places.{places, put, Same, Kept}
+use Rattle.places.specs.Places.{places, Same, Kept}
 use Rattle.rows.specs.Rows.{has, hRows}
-use Rattle.h_rows.specs.Work.{lowOf, highOf, Summed, SizesFit, SumsFit, PairFits, PairSummed, Tells}
-use Rattle.places.proofs.Placed.{length-put, entry-put-same, entry-put-other, row-inside, row-le, row-before, rows-apart, kept-refl, kept-trans, kept-same, kept-entries}
+use Rattle.h_entries.specs.Sums.{lowOf, highOf, Summed, SizesFit, SumsFit, Tells}
+use Rattle.h_rows.specs.Work.{PairFits, PairSummed}
+use Rattle.places.proofs.Placed.{row-inside, row-le, row-before, rows-apart, kept-refl, kept-trans, kept-same, kept-entries}
 use Rattle.rows.specs.Work.{at}
 use Rattle.rows.proofs.ByMask.{and-one}
 use Rattle.rows.proofs.Pairs.{same-control}
 
--- ---- the test of the sizes, place by place
-
-module _ (l : List ℤ) (p q : ℕ) where
-  pub sizes-none : Tells (SizesFit l p q 0) true
-  sizes-none = record { holds = λ h. record { fit = λ i b. absurd (omega arith) }; fails = λ h. clash refl h }
-
-  pub sizes-more : (over t : Bool) (c : ℕ) → Tells (SizesFit l p q c) (not over) → t ≡ sizesPass (at l (p + c)) (at l (q + c))
-      → Tells (SizesFit l p q (c + 1)) (not (over || t))
-  sizes-more true t c w e = record {
-    holds = λ h. clash h refl;
-    fails = λ h f. w .fails refl (record { fit = λ i b. f .fit i (omega arith) });
-  }
-  sizes-more false true c w e = record { holds = λ h. clash h refl; fails = λ h f. omega (arith, ltb-true limit (natAbs (at l (p + c)) + natAbs (at l (q + c))) (sym e), f .fit c (omega arith)) }
-  sizes-more false false c w e = record {
-    holds = λ h. record { fit = below-more _ c (w .holds refl .fit) (ltb-false _ _ (sym e)) };
-    fails = λ h. clash refl h;
-  }
-
-pub sizes-to : {l : List ℤ} {p q c d : ℕ} {b : Bool} → Tells (SizesFit l p q c) b → c ≤ d → d ≤ c → Tells (SizesFit l p q d) b
-sizes-to {c = c} {d = d} w a b = let e : c ≡ d = omega arith in rw e at w
-
--- sizes of places, and sums and differences of entries: each follows from the other
+-- ---- sizes of places, and sums and differences of entries: each follows from the other
 pub sizes-sums : {l : List ℤ} {e f c : ℕ} → SizesFit l (4 * e) (4 * f) (4 * c) → SumsFit true l e f c
 unfolding entry
 sizes-sums {l} {e} {f} {c} w =
@@ -83,58 +64,6 @@ sums-sizes {l} {e} {f} {c} w = record { fit = λ i h. by i (i / 4) (i % 4) (omeg
     by i k (suc (suc zero)) p b s = one _ _ (4 * k + 2) i (omega arith) (omega arith) (omega arith) (s .c-sizes)
     by i k (suc (suc (suc zero))) p b s = one _ _ (4 * k + 3) i (omega arith) (omega arith) (omega arith) (s .d-sizes)
     by i k (suc (suc (suc (suc j)))) p b s = absurd (omega arith)
-
--- ---- the test, entry by entry
-
-module _ (active : Bool) (l : List ℤ) (e f : ℕ) where
-  pub sums-none : SumsFit active l e f 0
-  sums-none = record { sum-fits = λ k b. absurd (omega arith); difference-fits = λ k b. absurd (omega arith) }
-
-  pub sums-more : (c : ℕ) → SumsFit active l e f c → Small (lowOf active (entry l (e + c)) (entry l (f + c))) → Small (highOf active (entry l (e + c)) (entry l (f + c)))
-      → SumsFit active l e f (c + 1)
-  sums-more c w x y = record { sum-fits = below-more _ c (w .sum-fits) x; difference-fits = below-more _ c (w .difference-fits) y }
-
-  pub sums-to : {c d : ℕ} → SumsFit active l e f c → c ≤ d → d ≤ c → SumsFit active l e f d
-  sums-to {c} {d} w a b = let q : c ≡ d = omega arith in rw q at w
-
--- ---- a run of entries and a later one that become what comes of them
-
-pub summed-none : (active : Bool) (l : List ℤ) (e f : ℕ) → Summed active l l e f 0
-summed-none active l e f =
-    record { long = refl; sums = λ k b. absurd (omega arith); differences = λ k b. absurd (omega arith); other = λ k a b. refl }
-
-module _ {active : Bool} {l l1 : List ℤ} {e f c len : ℕ} (w : Summed active l l1 e f c) (s : e + len ≤ f) (b : c < len) where
-  -- the entries that come next are still as they were
-  pub summed-low : entry l1 (e + c) ≡ entry l (e + c)
-  summed-low = w .other (e + c) (λ i k q. omega arith) (λ i k q. omega arith)
-
-  pub summed-high : entry l1 (f + c) ≡ entry l (f + c)
-  summed-high = w .other (f + c) (λ i k q. omega arith) (λ i k q. omega arith)
-
-  pub summed-more : {l2 l3 : List ℤ} {x y : Zω} → length l ≡ places → f + len ≤ 1024 → x ≡ lowOf active (entry l (e + c)) (entry l (f + c))
-      → y ≡ highOf active (entry l (e + c)) (entry l (f + c)) → l2 ≡ put l1 (e + c) x → l3 ≡ put l2 (f + c) y → Summed active l l3 e f (c + 1)
-  summed-more {l2} {l3} {x} {y} n g ex ey p q = record {
-    long = ap length q ∙ length-put l2 (f + c) y ∙ first ∙ w .long;
-    sums =
-        below-more _ c (λ k h. keep (e + k) (λ t. omega arith) (λ t. omega arith) ∙ w .sums k h)
-        (second (e + c) (λ t. omega arith) ∙ ap (λ (m : List ℤ). entry m (e + c)) p ∙ entry-put-same l1 (e + c) x (omega (arith, w .long)) ∙ ex);
-    differences =
-        below-more _ c (λ k h. keep (f + k) (λ t. omega arith) (λ t. omega arith) ∙ w .differences k h)
-        (ap (λ (m : List ℤ). entry m (f + c)) q ∙ entry-put-same l2 (f + c) y (omega (arith, w .long, first)) ∙ ey);
-    other = λ k a o. keep k (a c (omega arith)) (o c (omega arith)) ∙ w .other k (λ i h. a i (omega arith)) (λ i h. o i (omega arith));
-  }
-    where
-      first : length l2 ≡ length l1
-      first = ap length p ∙ length-put l1 (e + c) x
-
-      second : (k : ℕ) → (k ≡ f + c → ⊥) → entry l3 k ≡ entry l2 k
-      second k h = ap (λ (m : List ℤ). entry m k) q ∙ entry-put-other l2 (f + c) y k h
-
-      keep : (k : ℕ) → (k ≡ e + c → ⊥) → (k ≡ f + c → ⊥) → entry l3 k ≡ entry l1 k
-      keep k a o = second k o ∙ ap (λ (m : List ℤ). entry m k) p ∙ entry-put-other l1 (e + c) x k a
-
-pub summed-to : {active : Bool} {l l′ : List ℤ} {e f c d : ℕ} → Summed active l l′ e f c → c ≤ d → d ≤ c → Summed active l l′ e f d
-summed-to {c = c} {d = d} w a b = let q : c ≡ d = omega arith in rw q at w
 
 -- ---- a row and the row that has a bit besides
 
@@ -290,7 +219,7 @@ half-start n control bit l =
 
 module _ (control t : ℕ) {n : ℕ} {l l1 : List ℤ} {r : ℕ} (w : Halfway n control (2 ^ t) l l1 r) where
   -- the pair that comes next fits as it did at the start
-  pub half-fits : PairFits n control (2 ^ t) l r → PairFits n control (2 ^ t) l1 r
+  half-fits : PairFits n control (2 ^ t) l r → PairFits n control (2 ^ t) l1 r
   half-fits p = record { pair = λ h. by (p .pair h) (w .rest r (omega arith) h) }
     where
       by : SumsFit (has r control) l (r * 2 ^ n) (bitOr r (2 ^ t) * 2 ^ n) (2 ^ n) → Still n (2 ^ t) l l1 r → SumsFit (has r control) l1 (r * 2 ^ n) (bitOr r (2 ^ t) * 2 ^ n) (2 ^ n)
@@ -315,7 +244,7 @@ module _ (control t : ℕ) {n : ℕ} {l l1 : List ℤ} {r : ℕ} (w : Halfway n 
           p .other (s * 2 ^ n + c) (λ i k q. a (rows-apart n r s c i hc k q)) (λ i k q. b (rows-apart n (bitOr r (2 ^ t)) s c i hc k q))
 
   -- the next row: its pair is worked, or it has the bit and nothing changes
-  pub half-more : {l2 : List ℤ} → t < n → r < 2 ^ n → PairSummed n control (2 ^ t) l1 l2 r → Halfway n control (2 ^ t) l l2 (r + 1)
+  half-more : {l2 : List ℤ} → t < n → r < 2 ^ n → PairSummed n control (2 ^ t) l1 l2 r → Halfway n control (2 ^ t) l l2 (r + 1)
   half-more {l2} ht lt p = by (has r (2 ^ t)) refl
     where
       by : (q : Bool) → has r (2 ^ t) ≡ q → Halfway n control (2 ^ t) l l2 (r + 1)
@@ -349,7 +278,7 @@ module _ (control t : ℕ) {n : ℕ} {l l1 : List ℤ} {r : ℕ} (w : Halfway n 
             high = λ c hc. s .differences c hc ∙ (λ i. highOf (has r control) (k .low c hc i) (k .high c hc i));
           }
 
-  pub half-end : bitAnd control (2 ^ t) ≡ 0 → 2 ^ n ≤ r → Same n (read n l1) (hRows control (2 ^ t) (read n l))
+  half-end : bitAnd control (2 ^ t) ≡ 0 → 2 ^ n ≤ r → Same n (read n l1) (hRows control (2 ^ t) (read n l))
   half-end z g =
       record { at = λ s c hs hc. by-pairs n t (λ s. read n l1 s c ≡ hRows control (2 ^ t) (read n l) s c) (λ s b h. one s c b hc h) s hs }
     where
@@ -358,3 +287,19 @@ module _ (control t : ℕ) {n : ℕ} {l l1 : List ℤ} {r : ℕ} (w : Halfway n 
       one s c hs hc h =
           let d = w .done s (omega arith) h in
           (d .low c hc ∙ sym (h-low control t (read n l) s c h), d .high c hc ∙ sym (h-high control t (read n l) s c h z))
+
+-- ---- the same for a number of rows and a mask that are known by equations
+
+module _ (control t : ℕ) (z : bitAnd control (2 ^ t) ≡ 0) {n d bit r : ℕ} {l l1 : List ℤ} (ht : t < n) (ed : d ≡ 2 ^ n) (eb : bit ≡ 2 ^ t)
+    (w : Halfway n control (2 ^ t) l l1 r) where
+  -- the next row's pair lies in the matrix, and what comes of it fits
+  pub row-next : AllSmall n (hRows control (2 ^ t) (read n l)) → r < d → (r < 2 ^ n) × (bit < 2 ^ n) × PairFits n control bit l1 r
+  row-next a h =
+      let b : r < 2 ^ n = omega arith in
+      rw eb (b, pow-lt ht, half-fits control t w (all-pair control t z a ht b))
+
+  pub row-worked : {l2 : List ℤ} → r < d → PairSummed n control bit l1 l2 r → Halfway n control (2 ^ t) l l2 (r + 1)
+  row-worked h p = half-more control t w ht (omega arith) (rw eb at p)
+
+  pub rows-worked : length l ≡ places → d ≤ r → (length l1 ≡ places) × (Same n (read n l1) (hRows control (2 ^ t) (read n l)) × Kept n l l1)
+  rows-worked e h = (w .long ∙ e, (half-end control t w z (omega arith), w .kept))

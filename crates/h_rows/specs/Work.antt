@@ -1,41 +1,17 @@
--- What the loops over places do to them. Assumes nothing.
+-- A pair of rows that fits, a pair that is worked, and what H or Ch leaves. Assumes nothing.
 use mathlib.Core.Path.{_≡_}
 use mathlib.Core.Bool.{Bool, true, false}
 use mathlib.Core.List.{List}
-use Prim.Native.Nat.{ℕ, _+_, _*_, _^_, _≤_, _<_}
-use lib.IntN.{ℤ, natAbs}
+use Prim.Native.Nat.{ℕ, _*_, _^_}
+use lib.IntN.{ℤ}
 use lib.ListN.{length}
 use lib.Bits.{bitOr}
-use Rattle.ints.specs.Lists.{pick}
-use Rattle.cyclotomic.specs.Zomega.{Zω, limit, addω, subω, sqrt2, Small}
+use Rattle.cyclotomic.specs.Zomega.{Zω}
 use Rattle.exact.proofs.Words.{AllSmall}
-use Rattle.exact.specs.Places.{entry, read}
+use Rattle.exact.specs.Places.{read}
 use Rattle.places.specs.Places.{places, Same, Kept}
 use Rattle.rows.specs.Rows.{has}
-use Rattle.rows.specs.Work.{at}
-
--- what comes of two entries: their sum and their difference, where the rows are active, or else each times √2
-abbrev pub lowOf : Bool → Zω → Zω → Zω
-lowOf active x y = pick active (addω x y) (sqrt2 x)
-
-abbrev pub highOf : Bool → Zω → Zω → Zω
-highOf active x y = pick active (subω x y) (sqrt2 y)
-
--- c entries from e on and c entries from f on became what comes of them; no other entry changed
-pub record Summed (active : Bool) (l l′ : List ℤ) (e f c : ℕ) : Type 0 where
-  pub long : length l′ ≡ length l
-  pub sums : (k : ℕ) → k < c → entry l′ (e + k) ≡ lowOf active (entry l (e + k)) (entry l (f + k))
-  pub differences : (k : ℕ) → k < c → entry l′ (f + k) ≡ highOf active (entry l (e + k)) (entry l (f + k))
-  pub other : (k : ℕ) → ((i : ℕ) → i < c → k ≡ e + i → ⊥) → ((i : ℕ) → i < c → k ≡ f + i → ⊥) → entry l′ k ≡ entry l k
-
--- the sizes of c places from p on and of c places from q on, added one by one, are within the limit
-pub record SizesFit (l : List ℤ) (p q c : ℕ) : Type 0 where
-  pub fit : (i : ℕ) → i < c → natAbs (at l (p + i)) + natAbs (at l (q + i)) ≤ limit
-
--- what comes of c entries from e on and c entries from f on is within the limit
-pub record SumsFit (active : Bool) (l : List ℤ) (e f c : ℕ) : Type 0 where
-  pub sum-fits : (k : ℕ) → k < c → Small (lowOf active (entry l (e + k)) (entry l (f + k)))
-  pub difference-fits : (k : ℕ) → k < c → Small (highOf active (entry l (e + k)) (entry l (f + k)))
+use Rattle.h_entries.specs.Sums.{Summed, SumsFit}
 
 -- where row r lacks the bit: what comes of it and of the row that has it besides is within the limit
 pub record PairFits (n control bit : ℕ) (l : List ℤ) (r : ℕ) : Type 0 where
@@ -46,13 +22,8 @@ pub record PairSummed (n control bit : ℕ) (l l′ : List ℤ) (r : ℕ) : Type
   pub pair : has r bit ≡ false → Summed (has r control) l l′ (r * 2 ^ n) (bitOr r bit * 2 ^ n) (2 ^ n)
   pub alone : has r bit ≡ true → l′ ≡ l
 
--- a test that says whether P holds
-pub record Tells (P : Type 0) (ok : Bool) : Type 0 where
-  pub holds : ok ≡ true → P
-  pub fails : ok ≡ false → P → ⊥
-
--- what H or Ch leaves, where its exact result is x: all of x, which fits, or, where x does not fit, all places as they were; the places past the
--- matrix in both cases
+-- what H or Ch leaves, where its exact result is x: all of x, which fits, or, where x does not fit, all places as they
+-- were; the places past the matrix in both cases
 pub record HDone (n : ℕ) (x : ℕ → ℕ → Zω) (l l′ : List ℤ) (ok : Bool) : Type 0 where
   pub long : length l′ ≡ places
   pub done : ok ≡ true → Same n (read n l′) x × AllSmall n x

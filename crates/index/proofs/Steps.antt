@@ -1,5 +1,5 @@
--- The loops of a probe and of an insertion, step by step: what is left from step j on is the whole; and the loop of a fill, node by node. Assumes
--- nothing.
+-- The loops of a probe and of an insertion, step by step: what is left from step j on is the whole; and the loop of a
+-- fill, node by node. Assumes nothing.
 use mathlib.Core.Path.{_≡_, refl, sym, ap, _∙_}
 use mathlib.Core.Bool.{true, false}
 use mathlib.Core.List.{List}

@@ -1,6 +1,6 @@
-// One width's part of an index, in lent 32-bit places: a node with a fingerprint is found in a few steps, where the original has a hash map
-// (synthesis_arena.rs, `WidthTable`). Whatever the places hold is decided: a probe takes no more steps than the part has places, and what it
-// leads to has the fingerprint (SPECIFICATION 7.13 to 7.15).
+// One width's part of an index, in lent 32-bit places: a node with a fingerprint is found in a few steps, where the
+// original has a hash map (synthesis_arena.rs, `WidthTable`). Whatever the places hold is decided: a probe takes no
+// more steps than the part has places, and what it leads to has the fingerprint (SPECIFICATION 7.13 to 7.15).
 ghost use mathlib.Core.Path.{_≡_};
 ghost use Prim.Native.Nat.{_+_, _%_, _<_, _≤_};
 ghost use lib.ListN.{length, replicate};
@@ -50,7 +50,8 @@ fn leads_to(fingerprints: &[u64], count: usize, from: usize, fingerprint: u64, n
     fingerprints[node] == fingerprint
 }
 
-// The first node that the probe of a fingerprint leads to, of those from a place on and below the count (SPECIFICATION 7.15).
+// The first node that the probe of a fingerprint leads to, of those from a place on and below the count (SPECIFICATION
+// 7.15).
 pub fn probe(
     index: &[u32],
     fingerprints: &[u64],

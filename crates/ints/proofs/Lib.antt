@@ -3,6 +3,5 @@ pub mod Poly
 pub mod Machine
 pub mod Bools
 pub mod Bits
-pub mod Tables
 pub mod Runs
 pub mod Powers

@@ -1,5 +1,5 @@
--- A signed integer's range, in the terms of `Int`: what a cast, a sum, a difference or a negation of signed numbers asks.
--- Assumes nothing.
+-- A signed integer's range, in the terms of `Int`: what a cast, a sum, a difference or a negation of signed numbers
+-- asks. Assumes nothing.
 use mathlib.Core.Path.{_≡_, refl, ap, _∙_}
 use mathlib.Core.Bool.{true}
 use mathlib.Core.List.{List}

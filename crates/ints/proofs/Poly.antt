@@ -1,5 +1,5 @@
--- A decision procedure for the identities of commutative rings, at the integers: `solve ρ e f tt`. The two expressions' difference is
--- multiplied out to a list of terms, a number and a sorted list of variables each, and every number is 0.
+-- A decision procedure for the identities of commutative rings, at the integers: `solve ρ e f tt`. The two expressions'
+-- difference is multiplied out to a list of terms, a number and a sorted list of variables each, and every number is 0.
 -- Assumes nothing.
 use mathlib.Core.Path.{_≡_, refl, sym, ap, _∙_}
 use mathlib.Core.Bool.{Bool, true, false, _&&_}

@@ -1,5 +1,5 @@
--- A number above 0 that has no bit in common with the number before it is a power of two; the remainder by a power of two is the low bits. Assumes
--- nothing.
+-- A number above 0 that has no bit in common with the number before it is a power of two; the remainder by a power of
+-- two is the low bits. Assumes nothing.
 use mathlib.Core.Path.{_≡_, sym, ap, _∙_}
 use Prim.Native.Nat.{ℕ, zero, suc, _-_, _/_, _%_, _^_, _≤_, _<_}
 use native.Mathlib.Nat.{le-refl, pow-suc}

@@ -1,5 +1,5 @@
--- Laws of lists as loops make them: numbers that rise one by one, what a function gives for each of them, stores of a list from a
--- place on, and runs of rising numbers. Assumes nothing.
+-- Laws of lists as loops make them: numbers that rise one by one, what a function gives for each of them, stores of a
+-- list from a place on, and runs of rising numbers. Assumes nothing.
 use mathlib.Core.Path.{_≡_, refl, ap, _∙_}
 use mathlib.Core.Logic.{⊎-elim}
 use mathlib.Core.List.{List, [], _∷_, _++_, append-nil, append-assoc, List·Memᴰ, List·Memᴰ·head, List·Memᴰ·tail, List·Memᴰ·not-nil, List·Memᴰ·cases-cons, List·Memᴰ·append-cases, Memᴰ·append-left, Memᴰ·append-right}

@@ -16,7 +16,6 @@ use Rattle.walk.specs.Lookup.{Lookup, found}
 use Rattle.walk.specs.Lookup as lookup
 use Rattle.walk.specs.Walk.{Node, any, root, listAt, prod, knows}
 use Rattle.walk.specs.Modes.{Mode, byPrint, keeping}
-use Rattle.walk.specs.Index.{By, scan, indexed}
 use Rattle.walk.specs.AtWidth.{atWidth}
 use Rattle.walk.specs.Chains.{Chain, good, bad}
 use Rattle.walk.specs.Finds.{WidthLimits, Part, Finding, fitsAll, rechecked, chainAt, byChain, byLookup, lookedIn, findFrom, findBy, isNode}
@@ -26,7 +25,7 @@ use Rattle.walk.proofs.Lookups.{looks-up}
 use Rattle.walk.proofs.Sequences.{any-true, any-at}
 use Rattle.walk.proofs.Exactly.{print-same, same-print, print-is}
 use Rattle.walk.proofs.Holding.{Holding, found-any}
-use Rattle.known.specs.Known.{isFound, isKnown, aheadBy, Hint}
+use Rattle.known.specs.Known.{isFound, isKnown}
 
 -- ---- equal matrices are known alike
 
@@ -109,15 +108,3 @@ module _ (limits : WidthLimits) (small : limits .width ≤ 5) (part : Part) (x :
       → isKnown mode limits part (fingerprint w x) x ≡ any (knows (atWidth mode w (limits .basis)) x) ns
   known-any byPrint grown short all h = print-any all h
   known-any keeping grown short all h = found-any keeping limits small grown short part all h x same
-
--- ---- nodes that were looked up ahead
-
--- what is looked up ahead is a hint
-pub ahead-leads : (by : By) (l : Lookup) → Hint l (aheadBy by l)
-ahead-leads scan l = record { leads = λ h. absurd (h refl) }
-ahead-leads indexed (found k) = record { leads = λ h. refl }
-ahead-leads indexed lookup.none = record { leads = λ h. absurd (h refl) }
-
--- and stays one where a node that the look-up gave is the one that it gives later
-pub hint-stays : {l l′ : Lookup} {a : ℕ} → (l ≡ found a → l′ ≡ found a) → Hint l a → Hint l′ a
-hint-stays f h = record { leads = λ e. f (h .leads e) }

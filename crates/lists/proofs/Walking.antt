@@ -1,5 +1,5 @@
--- A list in place, gate by gate: the places hold the product of the gates so far, and what is left of the list, from there on, says whether
--- the whole list fits. Assumes nothing.
+-- A list in place, gate by gate: the places hold the product of the gates so far, and what is left of the list, from
+-- there on, says whether the whole list fits. Assumes nothing.
 use mathlib.Core.Path.{_≡_, refl, ap, _∙_, subst}
 use mathlib.Core.List.{List, [], _∷_}
 use Prim.Native.Nat.{ℕ, zero, suc, _+_, _≤_, _<_}
@@ -19,9 +19,10 @@ use Rattle.exact.proofs.Coded.{proper}
 use Rattle.exact.proofs.Answered.{step-given, step-refused, given-list, refused-list}
 use Rattle.exact.proofs.Keeps.{step-equal, act-equal', made-equal}
 use Rattle.exact.specs.Places.{held}
-use Rattle.matrix.specs.Step.{Holds, Ready, Stepped}
-use Rattle.matrix.specs.declared.Applied.the-variants.{Done, DoesNotFit}
-use Rattle.matrix.proofs.Steps.{ready-next}
+use Rattle.places.specs.Held.{Holds, Ready}
+use Rattle.steps.specs.Step.{Stepped}
+use Rattle.steps.specs.declared.Applied.the-variants.{Done, DoesNotFit}
+use Rattle.steps.proofs.Steps.{ready-next}
 use Rattle.lists.specs.Walk.{HoldsProduct, Ended}
 use Rattle.lists.specs.declared.Walked.{Walked}
 use Rattle.lists.specs.declared.Walked.the-variants.{Fits, UnfitAt}

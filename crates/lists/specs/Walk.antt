@@ -10,7 +10,7 @@ use Rattle.exact.specs.Rows.{gateOf}
 use Rattle.exact.specs.Lists.{product}
 use Rattle.exact.proofs.Words.{made}
 use Rattle.exact.specs.Answers.{Answer, given, refused, listAnswer}
-use Rattle.matrix.specs.Step.{Holds}
+use Rattle.places.specs.Held.{Holds}
 use Rattle.lists.specs.declared.Walked.{Walked}
 use Rattle.lists.specs.declared.Walked.the-variants.{Fits, UnfitAt}
 
@@ -27,8 +27,8 @@ abbrev pub toldWalked : Walked → Answer
 toldWalked (Fits k) = given k
 toldWalked (UnfitAt i) = refused doesNotFit i
 
--- what is left in the places: the list's exact product where every step fits; otherwise the product of the gates before the first that does not
--- fit, with the row operations of that gate that were made
+-- what is left in the places: the list's exact product where every step fits; otherwise the product of the gates before
+-- the first that does not fit, with the row operations of that gate that were made
 abbrev pub End : ℕ → List ℕ → List ℤ → Walked → Type 0
 End n codes l (Fits k) = HoldsProduct n codes l
 End n codes l (UnfitAt i) = HoldsExact n (made n (gateOf n (getD codes i 0)) (product n (take i codes))) l

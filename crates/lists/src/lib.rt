@@ -1,5 +1,6 @@
-// A list of gates applied in place to the identity, which the caller hands over. murm.rs of the original, `library_circuit_matrix`, below
-// the entry: the codes are valid.
+// A list of gates applied in place, oldest first, up to the first step that does not fit (SPECIFICATION 3.6).
+// `library_circuit_matrix` in murm.rs of the original, below the entry: the codes are valid. The caller hands over the
+// identity in its own places, so that one array serves many lists.
 ghost use mathlib.Core.Path.{_≡_};
 ghost use mathlib.Core.Bool.{true};
 ghost use Prim.Native.Nat.{_≤_};
@@ -7,13 +8,14 @@ ghost use Rattle.ints.specs.Lists.{all};
 ghost use Rattle.circuit.specs.Codes.{valid};
 ghost use Rattle.exact.specs.Matrix.{identity};
 ghost use Rattle.places.specs.Places.{Kept};
-ghost use Rattle.matrix.specs.Step.{Holds};
+ghost use Rattle.places.specs.Held.{Holds};
 ghost use Rattle.lists.specs.Walk.{Ended};
 use circuit::LibraryGate;
 use cyclotomic::Coefficient;
-use matrix::Applied;
+use steps::Applied;
 
-// How a list ended: all its steps fit, and the exponent; or the position of the first that does not fit (SPECIFICATION 3.6).
+// How a list ended: all its steps fit, and the exponent; or the position of the first that does not fit (SPECIFICATION
+// 3.6).
 pub enum Walked {
     Fits(u16),
     UnfitAt(usize),

@@ -3,24 +3,21 @@ use mathlib.Core.Path.{_≡_, refl, sym, ap, _∙_}
 use mathlib.Core.List.{List, []}
 use Prim.Native.Nat.{ℕ, _-_, _+_, _≤_, _<_}
 use native.Mathlib.Omega.{arith}
-use borrow.Author.Tests.{lt-ltb, le-ltb, ltb-true, ltb-false, not-false}
+use borrow.Author.Tests.{ltb-true, ltb-false, not-false}
 use lib.ListN.{length, take, drop}
 use Rattle.walk.specs.Chains.{chainOf}
 use Rattle.walk.specs.Finds as finds
-use Rattle.walk.specs.Answers.{refused, Outcome, outcome, written, writeOf}
+use Rattle.walk.specs.Answers.{refused, outcome, written, writeOf}
 use Rattle.synthesis_arena.specs.Chains.{toldCircuit}
 use Rattle.synthesis_arena.specs.declared.NodeCircuit.{NodeCircuit}
 use Rattle.refusal.specs.Told.{Reason, numberOf, positionOf}
 use Rattle.refusal.specs.declared.Refusal.{Refusal}
-use Rattle.refusal.specs.declared.Check.the-variants as check
 use Rattle.refusal.proofs.Numbers.{Refuses}
-use Rattle.refusal.proofs.Numbers as n
 use Rattle.tables.specs.Checks.{firstRow, Arrays}
 use Rattle.tables.specs.Tables.{Table, Query, countAt, nodeRow, findRows, foundIn, writeRows, writtenIn, synthesized}
 use Rattle.tables.proofs.Rows.{first-none, first-some}
 use Rattle.tables.proofs.Accepted.{roomy}
-use Rattle.tables.proofs.Asked.{partAsked, good-table, find-refused, write-passed, write-refused, answer-refused}
-use Rattle.murm.specs.Entries.{askedOf}
+use Rattle.tables.proofs.Asked.{good-table, find-refused, write-passed, write-refused, answer-refused}
 use Rattle.murm.specs.Work.{Writable, nodeWritten}
 
 -- ---- a find
@@ -65,12 +62,6 @@ module _ (n basis limit start entries k : ℕ) (parents codes out : List ℕ) {n
 -- ---- an answer
 
 module _ (t : Table) (a : Arrays) (q : Query) (out : List ℕ) where
-  pub short-list : length out < t .limits .gates → outcome (refused 12 0) out ≡ askedOf t a q out
-  short-list h = rw (lt-ltb (length out) (t .limits .gates) h)
-
-  pub long-list : t .limits .gates ≤ length out → {o : Outcome} → o ≡ partAsked t a q out → o ≡ askedOf t a q out
-  long-list h e = e ∙ rw (le-ltb (length out) (t .limits .gates) h)
-
   pub refused-answer : {r : Refusal} → Refuses r (firstRow (findRows t a q)) → outcome (refused (numberOf r) (positionOf r)) out ≡ synthesized t a q out
   refused-answer x =
       ap (λ (z : Reason). outcome (refused (z .number) (z .position)) out) (x .told)

@@ -1,20 +1,18 @@
 -- The laws of the numbers that the C functions return, and of the record given as numbers. Assumes nothing.
 use mathlib.Core.Path.{_≡_, refl, sym, ap, _∙_}
 use mathlib.Core.Logic.{_⊎_, inl, inr}
-use mathlib.Core.Bool.{Bool, true, false}
+use mathlib.Core.Bool.{true, false}
 use mathlib.Core.List.{List, [], _∷_, _++_}
 use Prim.Native.Nat.{ℕ, zero, suc, _+_, _*_, _/_, _%_, _≤_, _<_}
 use native.Mathlib.Omega.{arith}
 use native.Mathlib.Nat.{mod-eq-of-lt, div-eq-of-lt, mul-add-div-right, mul-add-mod-self-right}
-use borrow.Author.Tests.{ltb-true, ltb-false, lt-ltb, le-ltb, ne-eqb}
-use lib.Dec.{ltb}
+use borrow.Author.Tests.{lt-ltb, le-ltb, ne-eqb}
 use lib.IntN.{ℤ}
 use lib.ListN.{length}
 use Rattle.ints.proofs.Bools.{clash}
 use Rattle.exact.specs.Lists.{product}
-use Rattle.exact.specs.Fits.{mostK, Steps, allFit, unfitAt, steps}
-use Rattle.exact.specs.Answers.{Answer, given, refused, bySteps, listAnswer}
-use Rattle.exact.proofs.Answered.{isGiven, number}
+use Rattle.exact.specs.Fits.{mostK}
+use Rattle.exact.specs.Answers.{Answer, given, refused}
 use Rattle.exact.proofs.Unitaries.{unitary-product}
 use Rattle.exact.proofs.Bounds.{k-never, product-small}
 use Rattle.walk.specs.Index.{scan}
@@ -23,7 +21,7 @@ use Rattle.walk.specs.Answers as answers
 use Rattle.walk.proofs.Meaning.{kind, size}
 use Rattle.walk.proofs.Sequences.{lt-or}
 use Rattle.tables.specs.Checks.{firstRow, limitRows, Arrays}
-use Rattle.tables.specs.Lists.{ListOutcome, outcome, formed, listed}
+use Rattle.tables.specs.Lists.{outcome, listed}
 use Rattle.tables.specs.Tables.{Table, widthAt, Query, synthesized}
 use Rattle.tables.proofs.Asked.{partAsked}
 use Rattle.tables.specs.Demand3.{Decided, a-list, no-list, a-refusal}
@@ -31,8 +29,8 @@ use Rattle.tables.specs.Exactly.{Cause, cause, First, listCauses, queryCauses, 
 use Rattle.tables.proofs.Causes.{first-to, none-to}
 use Rattle.tables.proofs.InWords.{not-both, limits-in-words, answer-in-words}
 use Rattle.tables.proofs.Accepted.{accepted}
-use Rattle.tables.proofs.Lists.{list-6}
-use Rattle.tables.proofs.Demand2.{accepted-formed}
+use Rattle.tables.proofs.ListExactly.{accepted as accepted-list}
+use Rattle.tables.proofs.Demand2.{accepted-narrow, accepted-fits}
 use Rattle.tables.proofs.Replies.{ReplyCase, not-a-width, part-asked, by-row, rowOfAnswer, row-refuses, width-none, width-asked, cases, gives-asked, decided, gives-right}
 use Rattle.tables.proofs.Exactly.{exactly}
 use Rattle.murm_c.specs.Numbers.{capped, listNumber, replyNumber, countsTable}
@@ -93,24 +91,11 @@ module _ (n : ℕ) (codes : List ℕ) (numbers : List ℤ) where
   told : (x : Answer) → listed n codes numbers .answer ≡ x → listed n codes numbers ≡ outcome x (listed n codes numbers .numbers)
   told x e = ap (λ (z : Answer). outcome z (listed n codes numbers .numbers)) e
 
-  -- an accepted list has a width up to 5
-  narrow : (k : ℕ) → listed n codes numbers .answer ≡ given k → n ≤ 5
-  narrow k e = by (ltb 5 n) refl
-    where
-      by : (b : Bool) → ltb 5 n ≡ b → n ≤ 5
-      by true x = clash (ap isGiven (ap (λ (o : ListOutcome). o .answer) (list-6 n codes numbers (ltb-true 5 n x)) ∙ e)) refl
-      by false x = ltb-false 5 n x
-
   exponent-most : (k : ℕ) → listed n codes numbers .answer ≡ given k → k < 65535
-  unfolding listAnswer
-  exponent-most k e = by (steps n codes) refl (accepted-formed n codes numbers k (listed n codes numbers .numbers) (told (given k) e))
-    where
-      by : (s : Steps) → steps n codes ≡ s → formed n codes numbers (bySteps (product n codes .k) s) ≡ outcome (given k) (listed n codes numbers .numbers) → k < 65535
-      by allFit f z =
-          let j : product n codes .k < mostK = k-never n (narrow k e) (unitary-product n codes) (product-small n codes f) in
-          let y : product n codes .k ≡ k = ap (λ (o : ListOutcome). number (o .answer)) z in
-          omega (arith, j, y)
-      by (unfitAt i) f z = clash (ap (λ (o : ListOutcome). isGiven (o .answer)) z) refl
+  exponent-most k e =
+      let (c, y, z) = accepted-list n codes numbers k (listed n codes numbers .numbers) (told (given k) e) in
+      let j : product n codes .k < mostK = k-never n (accepted-narrow n codes numbers c) (unitary-product n codes) (product-small n codes (accepted-fits n codes numbers c)) in
+      omega (arith, j, y)
 
   -- the row that refuses it
   first-row : (r p : ℕ) → listed n codes numbers .answer ≡ refused r p → First r p (listCauses n codes numbers)
@@ -170,7 +155,7 @@ module _ (t : Table) (a : Arrays) (q : Query) (out : List ℕ) where
       by : (r : ℕ) → firstRow (limitRows (t .limits)) ≡ r → t .limits .gates ≤ 64
       by zero f = accepted (t .limits) f .gates
       by (suc r) f =
-          absurd (none-to (answer-in-words t a q out) e .0 0 (bad-limits (suc r) 0 (first-to (limits-in-words (t .limits)) (suc r) (omega arith) f), refl))
+          absurd (none-to (answer-in-words t a q out) e .0 0 (bad-limits (suc r) _ (first-to (limits-in-words (t .limits)) (suc r) (omega arith) f), refl))
 
   count-most : (m : ℕ) → synthesized t a q out .reply ≡ answers.given m → (m ≤ t .limits .gates) × (t .limits .gates ≤ 64)
   count-most m e = by (decided t a q out)

@@ -11,11 +11,12 @@ use Rattle.tables.specs.Lists.{ListOutcome, outcome}
 use Rattle.tables.specs.Tables.{Width, Table, Query, synthesized}
 use Rattle.refusal.specs.Told.{numberOf, positionOf}
 use Rattle.refusal.specs.declared.Refusal.{Refusal}
-use Rattle.murm.specs.Entries.{toldListed, toldSynthesized}
-use Rattle.murm.specs.declared.Listed.{Listed}
-use Rattle.murm.specs.declared.Listed.the-variants as l
-use Rattle.murm.specs.declared.Synthesized.{Synthesized}
-use Rattle.murm.specs.declared.Synthesized.the-variants as s
+use Rattle.murm_lists.specs.Entries.{toldListed}
+use Rattle.murm_find.specs.Entries.{toldSynthesized}
+use Rattle.murm_lists.specs.declared.Listed.{Listed}
+use Rattle.murm_lists.specs.declared.Listed.the-variants as l
+use Rattle.murm_find.specs.declared.Synthesized.{Synthesized}
+use Rattle.murm_find.specs.declared.Synthesized.the-variants as s
 use Rattle.murm_c.specs.Numbers.{capped, refusalNumber, listNumber, replyNumber, counted, countsTable}
 
 pub refusal-is : {n p x r i : ℕ} → n ≡ r → p ≡ i → x ≡ capped p → n * 4294967296 + x ≡ refusalNumber r i

@@ -1,5 +1,6 @@
--- What a caller reads off the number that a C function returns, and what the record given as numbers loses: nothing (SPECIFICATION, chapter
--- 14). The statements are of `listed` and `synthesized`, which the entries answer for every input. Assumes nothing.
+-- What a caller reads off the number that a C function returns, and what the record given as numbers loses: nothing
+-- (SPECIFICATION, chapter 14). The statements are of `listed` and `synthesized`, which the entries answer for every
+-- input. Assumes nothing.
 use mathlib.Core.Path.{_≡_}
 use mathlib.Core.Bool.{Bool, true, false}
 use mathlib.Core.List.{List, [], _∷_}
@@ -19,14 +20,15 @@ use Rattle.murm_c.specs.Numbers.{capped, listNumber, replyNumber, counts
 
 -- ---- reading
 
--- what a caller reads off the number: a value (an exponent or a gate count); none; or a refusal: first its number, then its position
+-- what a caller reads off the number: a value (an exponent or a gate count); none; or a refusal: first its number, then
+-- its position
 pub data Reading : Type 0 where
   value : ℕ → Reading
   nothing : Reading
   refusal : ℕ → ℕ → Reading
 
--- 4294967295 is none, a lower number is a value, and a higher one is a refusal: its number and its position are quotient and remainder by 2^32
--- (SPECIFICATION 14.2)
+-- 4294967295 is none, a lower number is a value, and a higher one is a refusal: its number and its position are
+-- quotient and remainder by 2^32 (SPECIFICATION 14.2)
 abbrev pub reading : ℕ → Reading
 reading x = pick (ltb x 4294967295) (value x) (pick (eqb x 4294967295) nothing (refusal (x / 4294967296) (x % 4294967296)))
 
@@ -48,7 +50,8 @@ pub record SameCounts (t u : Table) : Type 0 where
   pub limits : t .limits ≡ u .limits
   pub counts : (w : ℕ) → widthAt t w .count ≡ widthAt u w .count
 
--- a record that keeps of another its limits and the counts of widths 1 to 5: the one that `murm_synthesize` makes of numbers
+-- a record that keeps of another its limits and the counts of widths 1 to 5: the one that `murm_synthesize` makes of
+-- numbers
 abbrev pub countsOf : Table → Table
 countsOf t =
     countsTable (t .limits) (widthAt t 1 .count) (widthAt t 2 .count) (widthAt t 3 .count) (widthAt t 4 .count) (widthAt t 5 .count)
@@ -67,7 +70,8 @@ pub record Laws : Type 0 where
   pub list-read : (n : ℕ) (codes : List ℕ) (numbers : List ℤ) → reading (listNumber (listed n codes numbers .answer)) ≡ listSays (listed n codes numbers .answer)
   pub reply-read : (t : Table) (a : Arrays) (q : Query) (out : List ℕ) → a .by ≡ scan
       → reading (replyNumber (synthesized t a q out .reply)) ≡ replySays (synthesized t a q out .reply)
-  -- a position up to 4294967295 is told as it is, a larger one as 4294967295; so of a list of up to 2^32 codes every position is told as it is
+  -- a position up to 4294967295 is told as it is, a larger one as 4294967295; so of a list of up to 2^32 codes every
+  -- position is told as it is
   pub position-kept : (p : ℕ) → p ≤ 4294967295 → capped p ≡ p
   pub position-capped : (p : ℕ) → 4294967295 < p → capped p ≡ 4294967295
   pub position-told : (n : ℕ) (codes : List ℕ) (numbers : List ℤ) (r p : ℕ) → length codes ≤ 4294967296 → listed n codes numbers .answer ≡ refused r p
@@ -83,7 +87,8 @@ pub record Laws : Type 0 where
   -- so that every number returned is below 14 × 2^32, far below 2^64
   pub list-fits : (n : ℕ) (codes : List ℕ) (numbers : List ℤ) → listNumber (listed n codes numbers .answer) < 14 * 4294967296
   pub reply-fits : (t : Table) (a : Arrays) (q : Query) (out : List ℕ) → a .by ≡ scan → replyNumber (synthesized t a q out .reply) < 14 * 4294967296
-  -- the record as numbers loses nothing: what is answered, and what the lent list then holds, depend on the limits and the counts alone
+  -- the record as numbers loses nothing: what is answered, and what the lent list then holds, depend on the limits and
+  -- the counts alone
   pub record-kept : (t : Table) (a : Arrays) (q : Query) (out : List ℕ) → synthesized t a q out ≡ synthesized (countsOf t) a q out
   pub counts-alone : (t u : Table) → SameCounts t u → (a : Arrays) (q : Query) (out : List ℕ) → synthesized t a q out ≡ synthesized u a q out
   -- that is more than that equal records are answered alike: these two have the same counts and are not equal

@@ -1,4 +1,5 @@
--- What the C functions return, one 64-bit number, and the record that they are given as numbers (SPECIFICATION, chapter 14). Assumes nothing.
+-- What the C functions return, one 64-bit number, and the record that they are given as numbers (SPECIFICATION, chapter
+-- 14). Assumes nothing.
 use mathlib.Core.Bool.{false}
 use mathlib.Core.List.{[], _∷_}
 use Prim.Native.Nat.{ℕ, _+_, _*_}

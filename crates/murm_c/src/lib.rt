@@ -1,5 +1,5 @@
-// The entries for lists and for answers as C functions on numbers and slices (SPECIFICATION, chapter 14). A slice passes as a pointer and then its
-// length; include/murm.h declares both.
+// The entries for lists and for answers as C functions on numbers and slices (SPECIFICATION, chapter 14). A slice
+// passes as a pointer and then its length; include/murm.h declares both.
 ghost use mathlib.Core.Path.{_≡_};
 ghost use Prim.Native.Nat.{_≤_};
 ghost use Rattle.refusal.specs.Told.{numberOf, positionOf};
@@ -7,7 +7,8 @@ ghost use Rattle.tables.specs.Checks.{limitsOf, arrays};
 ghost use Rattle.tables.specs.Lists.{listed};
 ghost use Rattle.tables.specs.Tables.{query, synthesized};
 ghost use Rattle.murm_config.specs.Told.{toldWidth, toldMurm};
-ghost use Rattle.murm.specs.Entries.{toldListed, toldSynthesized};
+ghost use Rattle.murm_lists.specs.Entries.{toldListed};
+ghost use Rattle.murm_find.specs.Entries.{toldSynthesized};
 ghost use Rattle.murm_c.specs.Numbers.{capped, refusalNumber, listNumber, replyNumber, counted, countsTable};
 use circuit::GateSet;
 use cyclotomic::Coefficient;
@@ -16,7 +17,7 @@ use murm::Synthesized;
 use murm_config::Murm;
 use murm_config::MurmConfig;
 use refusal::Refusal;
-use width_table::WidthTable;
+use width_record::WidthTable;
 
 // 2^32: refusals are counted in these.
 const STEP: u64 = 4294967296;

@@ -1,17 +1,13 @@
--- The structs of the code as the records of the definitions, so that contracts speak of these alone (SPECIFICATION 12.8); and what the functions
--- that form a record give. Assumes nothing.
+-- The record of the code as that of the definitions, so that contracts speak of these alone (SPECIFICATION 12.8); and
+-- what the functions that form a record give. Assumes nothing.
 use mathlib.Core.List.{[], _∷_}
 use Prim.Native.Nat.{ℕ, _-_}
 use lib.ListN.{set, replicate}
 use Rattle.tables.specs.Checks.{Limits}
+pub use Rattle.murm_limits.specs.Told.{toldConfig}
 use Rattle.tables.specs.Tables.{Width, Table, notBuilt}
-use Rattle.width_table.specs.declared.WidthTable.{WidthTable}
-use Rattle.murm_config.specs.declared.MurmConfig.{MurmConfig}
+use Rattle.width_record.specs.declared.WidthTable.{WidthTable}
 use Rattle.murm_config.specs.declared.Murm.{Murm}
-
--- the limits (SPECIFICATION 6.1)
-abbrev pub toldConfig : MurmConfig → Limits
-toldConfig m = record { qubits = m .«max_qubits»; gates = m .«max_gates»; entries = m .«max_entries_per_qubit»; basis = m .basis .0 }
 
 -- a width's row (SPECIFICATION 6.10)
 abbrev pub toldWidth : WidthTable → Width

@@ -1,29 +1,24 @@
-// The limits of a table, config.rs of the original, `MurmConfig`; and its record, murm.rs, `Murm`, whose nodes are in three lent arrays.
+// The record of a table, murm.rs of the original, `Murm`, whose nodes are in three lent arrays: its rows by width, and
+// the rows 13, 5, 17, 16, 12 that stand before whatever is asked of it. Its limits, and what these alone decide, are in
+// murm_limits.
 ghost use mathlib.Core.Path.{_≡_};
-ghost use mathlib.Core.List.{[], _∷_, _++_};
+ghost use mathlib.Core.List.{_++_};
 ghost use Prim.Native.Nat.{_<_, _≤_};
-ghost use Rattle.tables.specs.Checks.{firstRow, limitRows, tooShort, shortRow, inParts, indexRow};
-ghost use Rattle.tables.specs.Tables.{allWidths, widthAt, badCountOf, badCount, recordRow, tableRows, lookRows, countAt, nodeRows};
+ghost use Rattle.tables.specs.Checks.{firstRow};
+ghost use Rattle.tables.specs.Tables.{allWidths, widthAt, badCount, recordRow, tableRows, lookRows, countAt, nodeRows};
 ghost use Rattle.walk.specs.Walk.{any};
 ghost use Rattle.refusal.specs.Told.{byRow, toldCheck};
 ghost use Rattle.index.specs.Told.{toldBy};
 ghost use Rattle.murm_config.specs.Told.{toldConfig, toldWidth, toldMurm, withWidth, emptyOf};
-use circuit::GateSet;
 use index::LookupBy;
+pub use murm_limits::MurmConfig;
+pub use murm_limits::check_build;
 use refusal::Check;
 use refusal::Refusal;
-use width_table::WidthTable;
+use width_record::WidthTable;
 
-// The width limit Q, the gate limit G, the entry limit E and the basis B (SPECIFICATION 6.1).
-pub struct MurmConfig {
-    pub max_qubits: u32,
-    pub max_gates: u32,
-    pub max_entries_per_qubit: u32,
-    pub basis: GateSet,
-}
-
-// What a build returns, the record: its limits, and for each width how many nodes, the completed depth, whether it is saturated
-// (SPECIFICATION 6.10).
+// What a build returns, the record: its limits, and for each width how many nodes, the completed depth, whether it is
+// saturated (SPECIFICATION 6.10).
 pub struct Murm {
     pub config: MurmConfig,
     pub width1: WidthTable,
@@ -31,111 +26,6 @@ pub struct Murm {
     pub width3: WidthTable,
     pub width4: WidthTable,
     pub width5: WidthTable,
-}
-
-// Whether the limits may be built with; else which of the rows 1 to 4 is the first to refuse them (SPECIFICATION 9.1).
-pub fn limits(config: MurmConfig) -> Check
-    ensures { λ r. ⌜ toldCheck r ≡ byRow (firstRow (limitRows (toldConfig config))) ⌝ }
-{
-    if config.max_qubits == 0 {
-        return Check::Refused(Refusal::WidthLimit);
-    }
-    if config.max_qubits > 5 {
-        return Check::Refused(Refusal::WidthLimit);
-    }
-    if config.max_entries_per_qubit == 0 {
-        return Check::Refused(Refusal::NoEntries);
-    }
-    let basis = config.basis;
-    if basis.is_empty() {
-        return Check::Refused(Refusal::Basis);
-    }
-    if !basis.is_supported() {
-        return Check::Refused(Refusal::Basis);
-    }
-    if config.max_gates > 64 {
-        return Check::Refused(Refusal::TooLarge);
-    }
-    if config.max_entries_per_qubit > 1000000 {
-        return Check::Refused(Refusal::TooLarge);
-    }
-    Check::Passed
-}
-
-// Row 5: whether one of three arrays of these lengths has fewer than Q × E places (SPECIFICATION 9.1).
-pub fn too_short(config: MurmConfig, prints: usize, parents: usize, codes: usize) -> bool
-    requires { ⌜ (config .«max_qubits» ≤ 5) × (config .«max_entries_per_qubit» ≤ 1000000) ⌝ }
-    ensures { λ r. ⌜ r ≡ tooShort (toldConfig config) prints parents codes ⌝ }
-{
-    let size = config.max_qubits as usize * config.max_entries_per_qubit as usize;
-    if prints < size {
-        return true;
-    }
-    if parents < size {
-        return true;
-    }
-    codes < size
-}
-
-// Whether an index of so many places is one part for each width up to Q, all of one size, a power of two and at least twice E (SPECIFICATION
-// 7.16). A power of two has no bit in common with the number before it, and any other number above 0 has one. The bound is that of any slice of 32-bit places.
-fn in_parts(config: MurmConfig, places: usize) -> bool
-    requires { ⌜ (0 < config .«max_qubits») × (config .«max_qubits» ≤ 5) × (config .«max_entries_per_qubit» ≤ 1000000) × (places < 2305843009213693952) ⌝ }
-    ensures { λ r. ⌜ r ≡ inParts (toldConfig config) places ⌝ }
-{
-    let q = config.max_qubits as usize;
-    let e = config.max_entries_per_qubit as usize;
-    let size = places / q;
-    if q * size != places {
-        return false;
-    }
-    if size == 0 {
-        return false;
-    }
-    let last = size as u64 - 1;
-    if size as u64 & last != 0 {
-        return false;
-    }
-    size >= 2 * e
-}
-
-// Row 17: whether the look-up is by an index of so many places that is not such parts; the scan asks for none (SPECIFICATION 9.1).
-pub fn bad_index(by: LookupBy, config: MurmConfig, places: usize) -> bool
-    requires { ⌜ (0 < config .«max_qubits») × (config .«max_qubits» ≤ 5) × (config .«max_entries_per_qubit» ≤ 1000000) × (places < 2305843009213693952) ⌝ }
-    ensures { λ r. ⌜ r ≡ indexRow (toldConfig config) (toldBy by) places .holds ⌝ }
-{
-    match by {
-        LookupBy::Scan => false,
-        LookupBy::Index => !in_parts(config, places),
-    }
-}
-
-// Whether a table may be built in arrays and an index of these lengths; else which of the rows 1 to 5 and 17 is the first to refuse
-// (SPECIFICATION 9.2).
-pub fn check_build(
-    by: LookupBy,
-    config: MurmConfig,
-    prints: usize,
-    parents: usize,
-    codes: usize,
-    places: usize,
-) -> Check
-    requires { ⌜ places < 2305843009213693952 ⌝ }
-    ensures { λ r. ⌜ toldCheck r ≡ byRow (firstRow (limitRows (toldConfig config)
-        ++ (shortRow (toldConfig config) prints parents codes ∷ indexRow (toldConfig config) (toldBy by) places ∷ []))) ⌝ }
-{
-    match limits(config) {
-        Check::Passed => {
-            if too_short(config, prints, parents, codes) {
-                return Check::Refused(Refusal::ArrayTooShort);
-            }
-            if bad_index(by, config, places) {
-                return Check::Refused(Refusal::BadIndex);
-            }
-            Check::Passed
-        }
-        Check::Refused(r) => Check::Refused(r),
-    }
 }
 
 // A width's row of the record; for another number that of a width that was not built.
@@ -156,45 +46,32 @@ pub fn width_table(table: Murm, width: u32) -> WidthTable
     }
 }
 
-// Whether a width up to Q has a count that is 0 or above E (SPECIFICATION 9.3).
-fn bad_count(width: u32, qubits: u32, entries: u32, count: usize) -> bool
-    ensures { λ r. ⌜ r ≡ badCountOf qubits entries width count ⌝ }
-{
-    if width > qubits {
-        return false;
-    }
-    if count == 0 {
-        return true;
-    }
-    count > entries as usize
-}
-
 // The same of any width.
 fn bad_counts(table: Murm) -> bool
     ensures { λ r. ⌜ r ≡ any (badCount (toldMurm table)) allWidths ⌝ }
 {
     let q = table.config.max_qubits;
     let e = table.config.max_entries_per_qubit;
-    if bad_count(1, q, e, table.width1.count) {
+    if murm_limits::bad_count(1, q, e, table.width1.count) {
         return true;
     }
-    if bad_count(2, q, e, table.width2.count) {
+    if murm_limits::bad_count(2, q, e, table.width2.count) {
         return true;
     }
-    if bad_count(3, q, e, table.width3.count) {
+    if murm_limits::bad_count(3, q, e, table.width3.count) {
         return true;
     }
-    if bad_count(4, q, e, table.width4.count) {
+    if murm_limits::bad_count(4, q, e, table.width4.count) {
         return true;
     }
-    bad_count(5, q, e, table.width5.count)
+    murm_limits::bad_count(5, q, e, table.width5.count)
 }
 
 // Row 13 of the record: whether one of the rows 1 to 4 refuses its limits, or a count is bad (SPECIFICATION 9.3).
 pub fn bad_record(table: Murm) -> bool
     ensures { λ r. ⌜ r ≡ recordRow (toldMurm table) .holds ⌝ }
 {
-    match limits(table.config) {
+    match murm_limits::limits(table.config) {
         Check::Passed => bad_counts(table),
         Check::Refused(_) => true,
     }
@@ -207,13 +84,14 @@ pub fn check_table(table: Murm, prints: usize, parents: usize, codes: usize) -> 
     if bad_record(table) {
         return Check::Refused(Refusal::BadTable);
     }
-    if too_short(table.config, prints, parents, codes) {
+    if murm_limits::too_short(table.config, prints, parents, codes) {
         return Check::Refused(Refusal::ArrayTooShort);
     }
     Check::Passed
 }
 
-// Whether nodes of a table with arrays and an index of these lengths may be looked up; else 13 of the record, 5 or 17 (SPECIFICATION 9.2).
+// Whether nodes of a table with arrays and an index of these lengths may be looked up; else 13 of the record, 5 or 17
+// (SPECIFICATION 9.2).
 pub fn check_look(
     by: LookupBy,
     table: Murm,
@@ -227,7 +105,7 @@ pub fn check_look(
 {
     match check_table(table, prints, parents, codes) {
         Check::Passed => {
-            if bad_index(by, table.config, places) {
+            if murm_limits::bad_index(by, table.config, places) {
                 return Check::Refused(Refusal::BadIndex);
             }
             Check::Passed
@@ -236,7 +114,8 @@ pub fn check_look(
     }
 }
 
-// How many entries a width has: none where the table does not have the width, whatever the record says (SPECIFICATION 7.3).
+// How many entries a width has: none where the table does not have the width, whatever the record says (SPECIFICATION
+// 7.3).
 pub fn count_at(table: Murm, width: u32) -> usize
     ensures { λ r. ⌜ r ≡ countAt (toldMurm table) width ⌝ }
 {

@@ -8,8 +8,8 @@ use lib.Dec.{ltb}
 use lib.ListN.{length}
 use Rattle.ints.specs.Lists.{pick}
 use Rattle.walk.specs.Modes.{Mode}
-use Rattle.tables.specs.Checks.{Limits, limitsOf}
-use Rattle.tables.specs.Tables.{Width, Table, notBuilt, allWidths, walkOf, widthOf, recordOf, printsOf, parentsOf, codesOf, within, partsTo}
+use Rattle.tables.specs.Checks.{Limits}
+use Rattle.tables.specs.Tables.{Width, Table, notBuilt, allWidths, walkOf, widthOf, recordOf, within, partsTo}
 use Rattle.murm_config.specs.Told.{emptyOf, withWidth}
 
 -- ---- the record
@@ -37,9 +37,9 @@ pub record-more : (mode : Mode) (l : Limits) (v : ℕ) (t : Table) (x : Width) �
 record-more mode l v t x h e f =
     ap (λ (z : Table). withWidth z (v + 1) x) e ∙ (ap (withWidth (recordTo mode l v) (v + 1)) f ∙ one-more mode l v h)
 
-pub record-all : (mode : Mode) (l m : Limits) (v : ℕ) (t : Table) → l ≡ m → v ≡ m .qubits → t ≡ recordTo mode l v → t ≡ recordOf mode m
+pub record-all : (mode : Mode) (l : Limits) (v : ℕ) (t : Table) → v ≡ l .qubits → t ≡ recordTo mode l v → t ≡ recordOf mode l
 unfolding recordTo recordOf
-record-all mode l m v t e f h = h ∙ (ap (λ (z : Limits). recordTo mode z v) e ∙ ap (recordTo mode m) f)
+record-all mode l v t f h = h ∙ ap (recordTo mode l) f
 
 -- ---- an array, or the index, whose parts of n places are worked by the g of their width
 
@@ -58,22 +58,6 @@ unfolding partsTo
 done-more g n v old xs ys s l e p =
     (l ∙ p .0, e ∙ (ap (λ (f : List ℕ → List ℕ). within (v * n) n f xs) s ∙ (ap (within (v * n) n (g (v + 1))) (p .1) ∙ rw add-one)))
 
--- all widths, by equal limits
-pub done-all : (g g′ : ℕ → List ℕ → List ℕ) (n v q : ℕ) (old xs : List ℕ) → g ≡ g′ → v ≡ q → Done g n v old xs → xs ≡ partsTo g′ n q old
-done-all g g′ n v q old xs e f p =
-    p .1 ∙ (ap (λ (z : ℕ → List ℕ → List ℕ). partsTo z n v old) e ∙ ap (λ (k : ℕ). partsTo g′ n k old) f)
-
--- ---- the width limit plays no part in a width's column
-
-module _ (mode : Mode) (l : Limits) (w : ℕ) where
-  pub prints-same : printsOf mode (limitsOf 0 (l .gates) (l .entries) (l .basis)) w ≡ printsOf mode l w
-  unfolding printsOf
-  prints-same = refl
-
-  pub parents-same : parentsOf mode (limitsOf 0 (l .gates) (l .entries) (l .basis)) w ≡ parentsOf mode l w
-  unfolding parentsOf
-  parents-same = refl
-
-  pub codes-same : codesOf mode (limitsOf 0 (l .gates) (l .entries) (l .basis)) w ≡ codesOf mode l w
-  unfolding codesOf
-  codes-same = refl
+-- all widths
+pub done-all : (g : ℕ → List ℕ → List ℕ) (n v q : ℕ) (old xs : List ℕ) → v ≡ q → Done g n v old xs → xs ≡ partsTo g n q old
+done-all g n v q old xs f p = p .1 ∙ ap (λ (k : ℕ). partsTo g n k old) f

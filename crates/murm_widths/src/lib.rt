@@ -1,5 +1,6 @@
-// All widths of a table, murm.rs of the original, `Murm::build`, below the entry: its checks are passed. Width w has the E places from (w-1) × E on
-// (SPECIFICATION 6.2), and the w-th part of the index (7.16): these are lent to the build, or to the fill, of one width.
+// All widths of a table, one after the other, murm.rs of the original, `Murm::build`, below the entry: its checks are
+// passed. Each width has its own part of the arrays and of the index (SPECIFICATION 6.2, 7.16), so that the order of
+// the widths changes nothing.
 ghost use mathlib.Core.Path.{_≡_};
 ghost use Prim.Native.Nat.{_+_, _*_, _≤_, _<_};
 ghost use lib.ListN.{length};
@@ -12,56 +13,10 @@ ghost use Rattle.tables.specs.Checks.{placesOf, arraysBy, indexRow};
 ghost use Rattle.index.specs.Told.{toldBy};
 ghost use Rattle.known.specs.Known.{toldMode};
 ghost use Rattle.murm_config.specs.Told.{toldConfig, toldMurm};
-ghost use Rattle.murm_widths.specs.Parts.{PartBuilt};
 use index::LookupBy;
 use known::BuildMode;
 use murm_config::Murm;
 use murm_config::MurmConfig;
-use synthesis_arena::WidthLimits;
-use width_table::WidthTable;
-
-// The part of width v + 1, with its `size` places of the index.
-fn build_part(
-    mode: BuildMode,
-    by: LookupBy,
-    v: u32,
-    gates: u32,
-    entries: u32,
-    basis: u32,
-    size: usize,
-    fingerprints: &mut [u64],
-    parents: &mut [u32],
-    codes: &mut [u32],
-    index: &mut [u32],
-) -> WidthTable
-    requires bounds { ⌜ (v < 5) × (gates ≤ 64) × (0 < entries) × (entries ≤ 1000000) ⌝ }
-    requires room { ⌜ (v * entries + entries ≤ length (now fingerprints)) × (v * entries + entries ≤ length (now parents))
-        × (v * entries + entries ≤ length (now codes)) ⌝ }
-    requires index { ⌜ (v * size + size ≤ length (now index)) × (toldBy by ≡ indexed → entries ≤ size) ⌝ }
-    ensures built { λ r. ⌜ PartBuilt (toldMode mode) (toldBy by) v gates entries basis size
-        (now (fingerprints .entry)) (now (parents .entry)) (now (codes .entry)) (now (index .entry))
-        (now (fingerprints .exit)) (now (parents .exit)) (now (codes .exit)) (now (index .exit)) r ⌝ }
-{
-    let e = entries as usize;
-    let a = v as usize * e;
-    let end = a + e;
-    let start = v as usize * size;
-    let limits = WidthLimits {
-        width: v + 1,
-        basis,
-        gates: gates as usize,
-        entries: e,
-    };
-    width_table::build_width(
-        mode,
-        by,
-        limits,
-        &mut fingerprints[a..end],
-        &mut parents[a..end],
-        &mut codes[a..end],
-        &mut index[start..start + size],
-    )
-}
 
 // The widths 1 to Q, one after the other.
 pub fn build_widths(
@@ -89,21 +44,17 @@ pub fn build_widths(
 {
     let how = mode;
     let lookup = by;
+    let limits = config;
     let q = config.max_qubits;
-    let g = config.max_gates;
-    let e = config.max_entries_per_qubit;
-    let b = config.basis.bits();
     let size = index.len() / q as usize;
     let mut table = murm_config::empty(config);
     let mut v = 0;
     while v < q {
-        let row = build_part(
+        let row = width_part::build_part(
             how,
             lookup,
+            limits,
             v,
-            g,
-            e,
-            b,
             size,
             fingerprints,
             parents,

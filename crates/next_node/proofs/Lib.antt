@@ -1,3 +1,1 @@
-pub mod Columns
-pub mod Pruned
 pub mod Tries

@@ -8,7 +8,7 @@ use lib.IntN.{ℤ, pos}
 use lib.ListN.{length, getD, set, length-set}
 use lib.Seq.{getD-set-same, getD-set-other}
 use Rattle.cyclotomic.specs.Zomega.{Small}
-use Rattle.cyclotomic.proofs.Number.{each}
+use Rattle.cyclotomic.proofs.Each.{each}
 use Rattle.exact.proofs.Words.{Equal, AllSmall}
 use Rattle.exact.specs.Matrix.{Exact}
 use Rattle.exact.specs.Rows.{gateOf}
@@ -19,9 +19,10 @@ use Rattle.exact.proofs.Values.{equal-sym, equal-trans}
 use Rattle.exact.proofs.Coded.{proper}
 use Rattle.exact.specs.Places.{entry, read, held}
 use Rattle.places.specs.Places.{places}
-use Rattle.matrix.specs.Step.{Holds, Ready, Stepped}
-use Rattle.matrix.specs.declared.Applied.{Applied}
-use Rattle.matrix.specs.declared.Applied.the-variants.{Done, DoesNotFit}
+use Rattle.places.specs.Held.{Holds, Ready}
+use Rattle.steps.specs.Step.{Stepped}
+use Rattle.steps.specs.declared.Applied.{Applied}
+use Rattle.steps.specs.declared.Applied.the-variants.{Done, DoesNotFit}
 use Rattle.walk.proofs.Sequences.{lt-or}
 use Rattle.node_matrix.specs.Matrices.{Copied, CopiedOn, OnCopy}
 use Rattle.node_matrix.proofs.Prints.{fits-alike}

@@ -14,7 +14,7 @@ use Rattle.exact.specs.Lists.{product}
 use Rattle.exact.specs.Fits.{Steps, allFit, unfitAt, steps}
 use Rattle.exact.specs.Answers.{given, bySteps, listAnswer}
 use Rattle.exact.proofs.Answered.{isGiven, number, list-refused}
-use Rattle.matrix.specs.Step.{Holds}
+use Rattle.places.specs.Held.{Holds}
 use Rattle.lists.specs.Walk.{Ended}
 use Rattle.lists.specs.declared.Walked.the-variants.{Fits, UnfitAt}
 use Rattle.walk.specs.Chains.{Chain, good, bad, chainOf}

@@ -18,10 +18,10 @@ use Rattle.exact.proofs.Coded.{proper}
 use Rattle.exact.proofs.Keeps.{step-equal, act-equal'}
 use Rattle.exact.proofs.Prints.{fingerprint-equal}
 use Rattle.exact.specs.Places.{held}
-use Rattle.matrix.specs.Step.{Holds}
-use Rattle.matrix.specs.declared.Applied.{Applied}
-use Rattle.matrix.specs.declared.Applied.the-variants as a
-use Rattle.matrix.specs.declared.Applied.the-variants.{Done}
+use Rattle.places.specs.Held.{Holds}
+use Rattle.steps.specs.declared.Applied.{Applied}
+use Rattle.steps.specs.declared.Applied.the-variants as a
+use Rattle.steps.specs.declared.Applied.the-variants.{Done}
 use Rattle.node_matrix.specs.declared.Candidate.the-variants.{Print, DoesNotFit}
 use Rattle.node_matrix.specs.Matrices.{printAfter, OnCopy, FormedAs}
 

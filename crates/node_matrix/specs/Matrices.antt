@@ -13,10 +13,10 @@ use Rattle.exact.specs.Lists.{product}
 use Rattle.exact.specs.Fits.{stepFits, allFit, steps}
 use Rattle.exact.specs.Fingerprint.{fingerprint}
 use Rattle.exact.specs.Answers.{Answer, given, refused}
-use Rattle.matrix.specs.Step.{Holds}
-use Rattle.matrix.specs.declared.Applied.{Applied}
-use Rattle.matrix.specs.declared.Applied.the-variants as d
-use Rattle.matrix.specs.declared.Applied.the-variants.{Done}
+use Rattle.places.specs.Held.{Holds}
+use Rattle.steps.specs.declared.Applied.{Applied}
+use Rattle.steps.specs.declared.Applied.the-variants as d
+use Rattle.steps.specs.declared.Applied.the-variants.{Done}
 use Rattle.walk.specs.Chains.{good, chainOf}
 use Rattle.synthesis_arena.specs.declared.WidthLimits.{WidthLimits}
 use Rattle.node_matrix.specs.declared.Candidate.{Candidate}
@@ -65,8 +65,8 @@ abbrev pub LeftIn : ℕ → ℕ → Exact → List ℤ → Candidate → Type 0
 LeftIn n g x l (Print f k) = Holds n k l (act n (gateOf n g) x)
 LeftIn n g x l DoesNotFit = Unit {0}
 
--- what the gate g after a node with the matrix x comes to before any look-up: the fingerprint, or that it does not fit; and the candidate's matrix is
--- in the places
+-- what the gate g after a node with the matrix x comes to before any look-up: the fingerprint, or that it does not fit;
+-- and the candidate's matrix is in the places
 pub record FormedAs (n g : ℕ) (x : Exact) (l : List ℤ) (r : Candidate) : Type 0 where
   pub print : toldCandidate r ≡ printAfter n g x
   pub left : LeftIn n g x l r

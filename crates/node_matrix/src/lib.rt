@@ -1,6 +1,7 @@
-// The matrix of a node and the fingerprints of its candidates. A node keeps no matrix: its matrix is formed once from its list of gates, and
-// each generator is applied to a copy of its places. What a candidate comes to here depends on the node's matrix and the gate alone. So two can be
-// formed before either is looked up, and their fingerprints are worked together.
+// The matrix of a node and the fingerprints of its candidates. A node keeps no matrix: its matrix is formed once from
+// its list of gates, and each generator is applied to a copy of its places. What a candidate comes to here depends on
+// the node's matrix and the gate alone. So two can be formed before either is looked up, and their fingerprints are
+// worked together.
 ghost use mathlib.Core.Path.{_≡_};
 ghost use mathlib.Core.Bool.{true};
 ghost use Prim.Native.Nat.{_*_, _^_, _≤_, _<_};
@@ -9,13 +10,13 @@ ghost use Rattle.circuit.specs.Codes.{valid};
 ghost use Rattle.exact.specs.Matrix.{identity};
 ghost use Rattle.exact.specs.Places.{held};
 ghost use Rattle.places.specs.Places.{places};
-ghost use Rattle.matrix.specs.Step.{Holds, Ready};
+ghost use Rattle.places.specs.Held.{Holds, Ready};
 ghost use Rattle.node_matrix.specs.Matrices.{Readable, Formed, Copied, CopiedOn, OnCopy, FormedAs};
 use circuit::GateSet;
 use circuit::LibraryGate;
 use cyclotomic::Coefficient;
 use lists::Walked;
-use matrix::Applied;
+use steps::Applied;
 use synthesis_arena::NodeCircuit;
 use synthesis_arena::WidthLimits;
 
@@ -31,7 +32,8 @@ pub struct TwoCandidates {
     pub second: Candidate,
 }
 
-// The matrix of a node, formed from its list in `m`, from a copy of the identity on. Returns the exponent. The two other arms are never taken.
+// The matrix of a node, formed from its list in `m`, from a copy of the identity on. Returns the exponent. The two
+// other arms are never taken.
 pub fn form_node(
     limits: WidthLimits,
     node: usize,
@@ -78,8 +80,9 @@ fn copy_block(from: &[Coefficient], to: &mut [Coefficient], start: usize, end: u
     }
 }
 
-// Where the block from a place on ends. A block has at most 1,024 places: longer copies take many times as long where the two arrays lie so that
-// a place to be read is a little below one just written, by their addresses' low 12 bits (docs/SPEED.md).
+// Where the block from a place on ends. A block has at most 1,024 places: longer copies take many times as long where
+// the two arrays lie so that a place to be read is a little below one just written, by their addresses' low 12 bits
+// (docs/SPEED.md).
 fn block_end(start: usize, size: usize) -> usize
     requires { ⌜ start < size ⌝ }
     ensures { λ r. ⌜ (start < r) × (r ≤ size) ⌝ }
@@ -105,7 +108,8 @@ fn copy_matrix(n: usize, from: &[Coefficient], to: &mut [Coefficient])
     }
 }
 
-// A gate applied to a copy of a matrix: the exponent of the result, which is then in `copy`, or that the step does not fit.
+// A gate applied to a copy of a matrix: the exponent of the result, which is then in `copy`, or that the step does not
+// fit.
 pub fn apply_to_copy(
     n: usize,
     gate: u32,
@@ -124,8 +128,8 @@ pub fn apply_to_copy(
     matrix::apply_gate_left(copy, n, LibraryGate(gate), exponent)
 }
 
-// One candidate: the fingerprint of a matrix after a gate, or that the step does not fit. The gate is applied to a copy in `scratch`, which then holds
-// the candidate's matrix.
+// One candidate: the fingerprint of a matrix after a gate, or that the step does not fit. The gate is applied to a copy
+// in `scratch`, which then holds the candidate's matrix.
 fn candidate_print(
     n: usize,
     gate: u32,
@@ -176,7 +180,7 @@ pub fn two_prints(
             second: Candidate::DoesNotFit,
         };
     };
-    let both = prints::pair_fingerprints(left, right, n, j, k);
+    let both = pair_prints::pair_fingerprints(left, right, n, j, k);
     TwoCandidates {
         first: Candidate::Print(both.left, j),
         second: Candidate::Print(both.right, k),

@@ -1,5 +1,5 @@
--- Entries in their places: what is read after a store, where row and column lie for every width, and what is known of an entry by its place.
--- Assumes nothing.
+-- Entries in their places: what is read after a store, where row and column lie for every width, and what is known of
+-- an entry by its place. Assumes nothing.
 use mathlib.Core.Path.{_≡_, refl, sym, ap, _∙_, subst}
 use mathlib.Core.Bool.{true, false}
 use mathlib.Core.Logic.{_≢_}
@@ -14,7 +14,7 @@ use lib.Seq.{getD-set-same, getD-set-other}
 use lib.Pow.{pow-mono, high}
 use Rattle.ints.proofs.Bools.{clash, iff}
 use Rattle.cyclotomic.specs.Zomega.{Zω, divisible, Small}
-use Rattle.cyclotomic.proofs.Number.{each}
+use Rattle.cyclotomic.proofs.Each.{each}
 use Rattle.exact.specs.Matrix.{allDivisible}
 use Rattle.exact.proofs.Words.{AllSmall}
 use Rattle.exact.proofs.Values.{divisible-to, divisible-from}

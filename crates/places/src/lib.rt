@@ -1,8 +1,11 @@
-// How 4,096 signed places hold a matrix of width up to 5: four for each entry, row after row (SPECIFICATION 1.7). Reading and storing an entry.
+// How 4,096 signed places hold a matrix of width up to 5: four for each entry, row after row (SPECIFICATION 1.7).
+// Reading and storing an entry, and the numbers of rows. All code over matrices goes by these, so that only this crate
+// knows the layout of an entry.
 ghost use mathlib.Core.Path.{_≡_};
 ghost use Prim.Native.Nat.{_+_, _*_, _^_, _<_, _≤_};
 ghost use lib.ListN.{length};
 ghost use Rattle.exact.specs.Places.{entry};
+ghost use Rattle.exact.specs.Rows.{bitOf};
 ghost use Rattle.places.specs.Places.{put};
 use cyclotomic::Coefficient;
 use cyclotomic::Cyclotomic;
@@ -21,6 +24,17 @@ pub fn mask(t: usize) -> usize
     ensures { λ r. ⌜ r ≡ 2 ^ t ⌝ }
 {
     1 << t
+}
+
+// The bit of a row's number that stands for qubit q: qubit 0 is the highest (SPECIFICATION 1.6).
+pub fn row_bit(n: usize, q: u32) -> usize
+    ensures { λ r. ⌜ r ≡ bitOf n q ⌝ }
+{
+    let i = q as usize;
+    if i >= n {
+        return 0;
+    }
+    n - 1 - i
 }
 
 // How many entries.

@@ -1,3 +1,1 @@
-pub mod Pivots
-pub mod Alike
 pub mod Mixing

@@ -1,34 +1,23 @@
--- The fingerprint by places: the words of one entry more are mixed in after the others, and the whole is width, exponent and entries.
--- Assumes nothing.
-use mathlib.Core.Path.{_≡_, refl, sym, ap, _∙_}
+-- The fingerprint by places: the words of one entry more are mixed in after the others, and the whole is width,
+-- exponent and entries. Assumes nothing.
+use mathlib.Core.Path.{_≡_, refl}
 use mathlib.Core.List.{List}
-use Prim.Native.Nat.{ℕ, zero, suc, _+_, _*_, _^_, _<_}
+use Prim.Native.Nat.{ℕ, zero, suc, _*_, _^_, _<_}
 use native.Mathlib.Nat.{mod-eq-of-lt}
-use native.Mathlib.Numerals.{add-one}
 use lib.IntN.{ℤ}
-use Rattle.cyclotomic.specs.declared.TurnPlaces.{TurnPlaces}
 use Rattle.cyclotomic.specs.Zomega.{Zω, turn}
-use Rattle.cyclotomic.specs.Eights.{eightOf, readAt, PlacesOf}
 use Rattle.words.specs.Words.{words}
 use Rattle.exact.specs.Phase.{flat, phaseOf, phased}
 use Rattle.exact.specs.Fingerprint.{Streams, start, mix, mixAll, fold, fourWords, wordsOf, fingerprint}
 use Rattle.exact.proofs.Prints.{words-same}
 use Rattle.exact.specs.Places.{entry, held}
 use Rattle.places.proofs.Placed.{read-at}
-use Rattle.prints.proofs.Pivots.{phase-any}
+use Rattle.phases.proofs.Pivots.{phase-any}
 
 -- the words of one entry more
 pub words-last : (m : ℕ) (s : Streams) (f : ℕ → Zω) → mixAll s (wordsOf (suc m) f) ≡ mixAll (mixAll s (wordsOf m f)) (fourWords (f m))
 words-last zero s f = refl
 words-last (suc m) s f = words-last m (mixAll s (fourWords (f 0))) (λ i. f (suc i))
-
--- and of one that is read at a turn's places of its eight
-pub eight-last : {p : ℕ} {t : TurnPlaces} {x : List ℤ} {s r : Streams} (l : List ℤ) (s₀ : Streams) (e : ℕ) → PlacesOf p t → x ≡ eightOf (entry l e)
-    → s ≡ mixAll s₀ (wordsOf e (λ i. turn p (entry l i))) → r ≡ mixAll s (fourWords (readAt x t))
-    → r ≡ mixAll s₀ (wordsOf (e + 1) (λ i. turn p (entry l i)))
-eight-last {t = t} l s₀ e h g i f =
-    let z = ap (λ (y : List ℤ). readAt y t) g ∙ h .turns (entry l e) in
-    rw (add-one e) (f ∙ (λ k. mixAll (i k) (fourWords (z k))) ∙ sym (words-last e s₀ _))
 
 -- the words of the entries, turned by the phase
 phased-words : (n k p : ℕ) (l : List ℤ) → p ≡ phaseOf n (held n 0 l)

@@ -1,6 +1,6 @@
-// A test program: prints what this library says of every gate code, pair of codes and basis (SPECIFICATION, chapter 2), in the form of the
-// recording of the original. The output is compared with crates/replay/stdout, which oracle/record writes from the original itself; the first
-// line is that recording's header.
+// A test program: prints what this library says of every gate code, pair of codes and basis (SPECIFICATION, chapter 2),
+// in the form of the recording of the original. The output is compared with crates/replay/stdout, which oracle/record
+// writes from the original itself; the first line is that recording's header.
 ghost use Prim.Native.Nat.{_≤_, _<_};
 use circuit::GateSet;
 use circuit::LibraryGate;
@@ -28,7 +28,8 @@ fn line_end() {
     io::write_all(STDOUT_FILENO, b"\n");
 }
 
-// `codes N` and every code that is valid at width N; the library is asked about all numbers below 114688, which is past the last kind.
+// `codes N` and every code that is valid at width N; the library is asked about all numbers below 114688, which is past
+// the last kind.
 fn codes_line(width: u32) {
     io::write_all(STDOUT_FILENO, b"codes");
     spaced(width);
@@ -174,26 +175,31 @@ fn generators_lines(width: u32)
     }
 }
 
-fn codes_lines() {
-    let mut width: u32 = 0;
-    while width <= 5 {
-        codes_line(width);
-        width += 1;
+// What is printed of each width.
+enum Lines {
+    Codes,
+    Valid,
+    Generators,
+}
+
+fn width_lines(what: Lines, width: u32)
+    requires { ⌜ width ≤ 5 ⌝ }
+{
+    match what {
+        Lines::Codes => codes_line(width),
+        Lines::Valid => valid_lines(width),
+        Lines::Generators => generators_lines(width),
     }
 }
 
-fn all_valid_lines() {
-    let mut width: u32 = 0;
+// The lines of each width from the first one on, up to 5.
+fn each_width(what: Lines, first: u32)
+    requires { ⌜ first ≤ 6 ⌝ }
+{
+    let lines = what;
+    let mut width = first;
     while width <= 5 {
-        valid_lines(width);
-        width += 1;
-    }
-}
-
-fn all_generators_lines() {
-    let mut width: u32 = 1;
-    while width <= 5 {
-        generators_lines(width);
+        width_lines(lines, width);
         width += 1;
     }
 }
@@ -203,13 +209,13 @@ fn main() {
         STDOUT_FILENO,
         b"recorded from qqq-wisc/tzap at 63829b8f5b by oracle/record gates\n",
     );
-    codes_lines();
-    all_valid_lines();
+    each_width(Lines::Codes, 0);
+    each_width(Lines::Valid, 0);
     let mut gates = [0u32; MOST];
     let count = generators::library_gates(5, GateSet::SUPPORTED, &mut gates);
     qubits_lines(&gates, count);
     pair_lines(0, &gates, count);
     pair_lines(1, &gates, count);
     pair_lines(2, &gates, count);
-    all_generators_lines();
+    each_width(Lines::Generators, 1);
 }

@@ -1,6 +1,7 @@
-// A test program: replays runs of the program `circuits`, for comparison with the original. Standard input holds runs, each a line
-// `run LENGTH`, that many bytes, which are the program's input, and a newline. For each it prints a line `run LENGTH` and that many bytes,
-// which are the program's output. A run of another form prints `broken` and ends; so does more than 1 MiB of standard input.
+// A test program: replays runs of the program `circuits`, for comparison with the original. Standard input holds runs,
+// each a line `run LENGTH`, that many bytes, which are the program's input, and a newline. For each it prints a line
+// `run LENGTH` and that many bytes, which are the program's output. A run of another form prints `broken` and ends; so
+// does more than 1 MiB of standard input.
 ghost use Prim.Native.Nat.{_≤_};
 ghost use lib.ListN.{length};
 use circuits_output::Printed;
@@ -25,7 +26,8 @@ fn print_length(n: usize) {
     io::write_all(STDOUT_FILENO, &line[..third]);
 }
 
-// An output of that many bytes. That they are within the lent ones is tested, so that the program's contract is not used.
+// An output of that many bytes. That they are within the lent ones is tested, so that the program's contract is not
+// used.
 fn print_output(out: &[u8], n: usize) {
     if out.len() < n {
         return broken();
@@ -120,8 +122,8 @@ fn with_output(runs: &[u8], out: &mut [u8]) {
     replay_all(runs, &mut fingerprints, &mut parents, &mut codes, out);
 }
 
-// Room for any output. It is a local, lent to a function, and so is the input: an array that a function returns may stand on the stack
-// three times.
+// Room for any output. It is a local, lent to a function, and so is the input: an array that a function returns may
+// stand on the stack three times.
 fn with_runs(runs: &[u8]) {
     let mut out = [0u8; 3200000];
     with_output(runs, &mut out);

@@ -1,5 +1,5 @@
--- The row operations by and, or and minus are the exact ones by bits: the test `r & mask == mask` says that all bits of the mask are 1, and
--- the partner of a row, r - 2^k or r | 2^k, is the row that differs in bit k. Assumes nothing.
+-- The row operations by and, or and minus are the exact ones by bits: the test `r & mask == mask` says that all bits of
+-- the mask are 1, and the partner of a row, r - 2^k or r | 2^k, is the row that differs in bit k. Assumes nothing.
 use mathlib.Core.Path.{_≡_, refl, sym, ap, _∙_, subst}
 use mathlib.Core.Bool.{Bool, true, false, _&&_}
 use mathlib.Core.List.{List, [], _∷_}

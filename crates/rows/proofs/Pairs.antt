@@ -1,5 +1,5 @@
--- Pairs of rows: one step of an exchange of places, what the whole does to rows and columns, and the two rows that differ in one bit.
--- Assumes nothing.
+-- Pairs of rows: one step of an exchange of places, what the whole does to rows and columns, and the two rows that
+-- differ in one bit. Assumes nothing.
 use mathlib.Core.Path.{_≡_, refl, sym, ap, _∙_, subst}
 use mathlib.Core.Bool.{Bool, true, false, not}
 use mathlib.Core.List.{List}
@@ -18,7 +18,7 @@ use Rattle.ints.specs.Bits.{digit, bit}
 use Rattle.ints.specs.Lists.{pick}
 use Rattle.ints.proofs.Bits.{digit-lt, below, and-digit, or-digit}
 use Rattle.ints.proofs.Bools.{clash, iff}
-use Rattle.cyclotomic.proofs.Number.{each}
+use Rattle.cyclotomic.proofs.Each.{each}
 use Rattle.exact.proofs.Flips.{bit-own}
 use Rattle.exact.specs.Places.{entry, read}
 use Rattle.places.specs.Places.{Kept}

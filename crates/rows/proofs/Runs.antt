@@ -1,4 +1,4 @@
--- What a loop over entries did: a run of them turned, or divided. Assumes nothing.
+-- What a loop over entries did: a run of them turned. Assumes nothing.
 use mathlib.Core.Path.{_≡_, refl, ap, _∙_}
 use mathlib.Core.List.{List}
 use Prim.Native.Nat.{ℕ, _+_, _<_}
@@ -6,13 +6,11 @@ use native.Mathlib.Omega.{arith}
 use borrow.Author.Count.{below-more}
 use lib.IntN.{ℤ}
 use lib.ListN.{length}
-use Rattle.cyclotomic.specs.Zomega.{Zω, turn, overSqrt2}
+use Rattle.cyclotomic.specs.Zomega.{Zω, turn}
 use Rattle.exact.specs.Places.{entry}
 use Rattle.places.specs.Places.{places, put}
-use Rattle.rows.specs.Work.{Turned, Divided}
+use Rattle.rows.specs.Work.{Turned}
 use Rattle.places.proofs.Placed.{entry-put-same, entry-put-other, length-put}
-
--- ---- a run of entries that is turned
 
 module _ (power : ℕ) (l : List ℤ) (e : ℕ) where
   pub turned-none : Turned power l l e 0
@@ -29,19 +27,4 @@ module _ (power : ℕ) (l : List ℤ) (e : ℕ) where
     turned = below-more _ c (λ k h. rw q (entry-put-other l1 (e + c) z (e + k) (λ p. omega arith) ∙ w .turned k h))
         (rw q (entry-put-same l1 (e + c) z (omega (arith, w .long)) ∙ t));
     other = λ k a. rw q (entry-put-other l1 (e + c) z k (a c (omega arith)) ∙ w .other k (λ i h. a i (omega arith)));
-  }
-
--- ---- entries that are divided
-
-module _ (l : List ℤ) where
-  pub divided-none : Divided l l 0
-  divided-none = record { long = refl; divided = λ k b. absurd (omega arith); other = λ k a. refl }
-
-  pub divided-more : {l1 l2 : List ℤ} {z : Zω} (c : ℕ) → Divided l l1 c → length l ≡ places → c < 1024
-      → z ≡ overSqrt2 (entry l c) → l2 ≡ put l1 c z → Divided l l2 (c + 1)
-  divided-more {l1} {l2} {z} c w n b t q = record {
-    long = ap length q ∙ length-put l1 c z ∙ w .long;
-    divided = below-more _ c (λ k h. rw q (entry-put-other l1 c z k (λ p. omega arith) ∙ w .divided k h))
-        (rw q (entry-put-same l1 c z (omega (arith, w .long)) ∙ t));
-    other = λ k a. rw q (entry-put-other l1 c z k (λ p. omega arith) ∙ w .other k (omega arith));
   }

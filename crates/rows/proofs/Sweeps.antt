@@ -1,4 +1,5 @@
--- A sweep over the rows: a row's key is the loop's r at which it is worked, its own number or the lower row of its pair. Assumes nothing.
+-- A sweep over the rows: a row's key is the loop's r at which it is worked, its own number or the lower row of its
+-- pair. Assumes nothing.
 use mathlib.Core.Path.{_≡_, refl, _∙_}
 use mathlib.Core.List.{List}
 use Prim.Native.Nat.{ℕ, _+_, _^_, _≤_, _<_}
@@ -12,7 +13,8 @@ use Rattle.places.specs.Places.{places, Same, Kept}
 use Rattle.places.proofs.Placed.{kept-refl, kept-trans}
 use Rattle.rows.specs.Work.{Worked}
 
--- the rows whose key is below r are those of y, the others are as they were in l₀, and so are the places past the matrix
+-- the rows whose key is below r are those of y, the others are as they were in l₀, and so are the places past the
+-- matrix
 pub record Swept (n : ℕ) (key : ℕ → ℕ) (l₀ : List ℤ) (y : ℕ → ℕ → Zω) (l : List ℤ) (r : ℕ) : Type 0 where
   pub long : length l ≡ places
   pub done : (s c : ℕ) → s < 2 ^ n → c < 2 ^ n → key s < r → read n l s c ≡ y s c

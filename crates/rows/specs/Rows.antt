@@ -4,7 +4,7 @@ use Prim.Native.Nat.{ℕ, _-_}
 use lib.Dec.{eqb}
 use lib.Bits.{bitAnd, bitOr}
 use Rattle.ints.specs.Lists.{pick}
-use Rattle.cyclotomic.specs.Zomega.{Zω, addω, subω, turn, sqrt2, overSqrt2}
+use Rattle.cyclotomic.specs.Zomega.{Zω, addω, subω, turn, sqrt2}
 
 -- row r has all bits of the mask
 abbrev pub has : ℕ → ℕ → Bool
@@ -27,6 +27,3 @@ exchangeRows control bit x r c = x (sourceRow control bit r) c
 -- sum and difference of the rows that differ in the bit, where they have all bits of control; the other rows times √2
 unfoldable pub hRows : ℕ → ℕ → (ℕ → ℕ → Zω) → ℕ → ℕ → Zω
 hRows control bit x r c = pick (has r control) (pick (has r bit) (subω (x (r - bit) c) (x r c)) (addω (x r c) (x (bitOr r bit) c))) (sqrt2 (x r c))
-
-abbrev pub dividedAll : (ℕ → ℕ → Zω) → ℕ → ℕ → Zω
-dividedAll x r c = overSqrt2 (x r c)

@@ -1,10 +1,10 @@
 -- What the loops over places do to them. Assumes nothing.
 use mathlib.Core.Path.{_≡_}
 use mathlib.Core.List.{List}
-use Prim.Native.Nat.{ℕ, _+_, _^_, _≤_, _<_}
+use Prim.Native.Nat.{ℕ, _+_, _^_, _<_}
 use lib.IntN.{ℤ, pos}
 use lib.ListN.{length, getD}
-use Rattle.cyclotomic.specs.Zomega.{Zω, turn, overSqrt2, Small}
+use Rattle.cyclotomic.specs.Zomega.{Zω, turn, Small}
 use Rattle.exact.specs.Places.{entry, read}
 use Rattle.places.specs.Places.{Kept}
 
@@ -31,12 +31,6 @@ pub record Turned (power : ℕ) (l l′ : List ℤ) (e c : ℕ) : Type 0 where
   pub long : length l′ ≡ length l
   pub turned : (k : ℕ) → k < c → entry l′ (e + k) ≡ turn power (entry l (e + k))
   pub other : (k : ℕ) → ((i : ℕ) → i < c → k ≡ e + i → ⊥) → entry l′ k ≡ entry l k
-
--- the first c entries were divided by √2; no other entry changed
-pub record Divided (l l′ : List ℤ) (c : ℕ) : Type 0 where
-  pub long : length l′ ≡ length l
-  pub divided : (k : ℕ) → k < c → entry l′ k ≡ overSqrt2 (entry l k)
-  pub other : (k : ℕ) → c ≤ k → entry l′ k ≡ entry l k
 
 -- c entries from e on are within the limit
 pub record SmallFrom (l : List ℤ) (e c : ℕ) : Type 0 where

@@ -1,15 +1,14 @@
-// Row operations in place, on 4,096 signed places that hold a matrix of width up to 5. matrix.rs of the original: `apply_phase_left`,
-// `apply_controlled_x_left` and the parts of `normalize_denominator`. Rows are tested by and, a row's partner is found by or. Entries are
-// turned and divided by the ring's own functions; an exchange moves places.
+// Row operations in place, on 4,096 signed places that hold a matrix of width up to 5: turns by powers of omega and
+// exchanges. matrix.rs of the original, `apply_phase_left` and `apply_controlled_x_left`. Rows are tested by and, a
+// row's partner is found by or; entries are turned by the ring's own function, and an exchange moves places.
 ghost use mathlib.Core.Path.{_≡_};
 ghost use Prim.Native.Nat.{_+_, _*_, _^_, _<_, _≤_};
 ghost use lib.ListN.{length};
 ghost use lib.Bits.{bitAnd};
-ghost use Rattle.exact.specs.Matrix.{allDivisible};
 ghost use Rattle.exact.proofs.Words.{AllSmall};
 ghost use Rattle.exact.specs.Places.{read};
 ghost use Rattle.places.specs.Places.{places, Same, Kept};
-ghost use Rattle.rows.specs.Rows.{phaseRows, lowRow, exchangeRows, dividedAll};
+ghost use Rattle.rows.specs.Rows.{phaseRows, lowRow, exchangeRows};
 ghost use Rattle.rows.specs.Work.{Worked, Exchanged, Turned, SmallFrom};
 use cyclotomic::Coefficient;
 
@@ -115,40 +114,5 @@ pub fn apply_phase_left(m: &mut [Coefficient; 4096], n: usize, mask: usize, powe
         6 => phase_rows(m, n, mask, 6),
         7 => phase_rows(m, n, mask, 7),
         _ => phase_rows(m, n, mask, power),
-    }
-}
-
-// Whether every entry is divisible by sqrt(2).
-pub fn all_divisible(m: &[Coefficient], n: usize) -> bool
-    requires { ⌜ n ≤ 5 ⌝ }
-    requires { ⌜ 4 * (2 ^ n * 2 ^ n) ≤ length (now m) ⌝ }
-    ensures { λ r. ⌜ r ≡ allDivisible n (read n (now (m .entry))) ⌝ }
-{
-    let size = places::area(n);
-    let mut e = 0;
-    while e < size {
-        if !places::get(m, e).divisible_by_sqrt_2() {
-            return false;
-        }
-        e += 1;
-    }
-    true
-}
-
-// All entries are divided by sqrt(2).
-pub fn divide_all(m: &mut [Coefficient; 4096], n: usize)
-    requires { ⌜ length (now m) ≡ places ⌝ }
-    requires { ⌜ n ≤ 5 ⌝ }
-    requires { ⌜ AllSmall n (read n (now m)) ⌝ }
-    ensures sized { λ _. ⌜ length (now (m .exit)) ≡ places ⌝ }
-    ensures divided { λ _. ⌜ Same n (read n (now (m .exit))) (dividedAll (read n (now (m .entry)))) ⌝ }
-    ensures kept { λ _. ⌜ Kept n (now (m .entry)) (now (m .exit)) ⌝ }
-{
-    let size = places::area(n);
-    let mut e = 0;
-    while e < size {
-        let z = places::get(m, e);
-        places::put_at(m, e, z.divide_by_sqrt_2());
-        e += 1;
     }
 }

@@ -9,8 +9,8 @@ use Rattle.circuit.specs.Codes.{validFor}
 use Rattle.exact.specs.Answers.{Answer, given, refused}
 use Rattle.synthesis_arena.specs.Chains.{depthOf, oneMore, toldDepth, Depths}
 use Rattle.walk.specs.Chains.{marked, Chain, good, bad, then, chainOf}
-use Rattle.walk.specs.Meaning.{Fault, not-below, not-valid, too-many, unmarked}
-use Rattle.walk.proofs.Chaining.{walk-within, says-root, bad-by, good-by, gates-of, chain-more, link, longer, parent-good}
+use Rattle.walk.specs.Meaning.{Fault, not-below, not-valid, too-many}
+use Rattle.walk.proofs.Chaining.{walk-within, unmarked, says-root, bad-by, good-by, gates-of, chain-more, link, longer, parent-good}
 use Rattle.synthesis_arena.specs.declared.NodeDepth.{NodeDepth}
 use Rattle.synthesis_arena.specs.declared.NodeDepth.the-variants.{At, Bad}
 

@@ -1,6 +1,7 @@
-// One width's part of a table, in three lent arrays: fingerprints, parents, gate codes. synthesis_arena.rs of the original, `WidthTable`:
-// a node is its last gate and its parent, which has the gates before it, and its list is read along the parents to node 0 (SPECIFICATION 7.4,
-// 7.5). Whatever the arrays hold is decided; a chain is bad only where a caller made or altered the table.
+// One width's part of a table, in three lent arrays: fingerprints, parents, gate codes. synthesis_arena.rs of the
+// original, `WidthTable`: a node is its last gate and its parent, which has the gates before it, and its list is read
+// along the parents to node 0 (SPECIFICATION 7.4, 7.5). Whatever the arrays hold is decided; a chain is bad only where
+// a caller made or altered the table.
 ghost use mathlib.Core.Path.{_≡_};
 ghost use mathlib.Core.Bool.{false};
 ghost use Prim.Native.Nat.{ℕ, _%_, _<_, _≤_};
@@ -49,8 +50,8 @@ fn low(fingerprint: u64) -> u32
     (fingerprint % 4294967296) as u32
 }
 
-// Whether one of the nodes from one on and below another may have the fingerprint: its lower half, four of which are compared at once. There
-// is no early return: this loop is many times faster without one.
+// Whether one of the nodes from one on and below another may have the fingerprint: its lower half, four of which are
+// compared at once. There is no early return: this loop is many times faster without one.
 fn may_have(fingerprints: &[u64], from: usize, end: usize, fingerprint: u64) -> bool
     requires within { ⌜ (from ≤ end) × (end ≤ length (now fingerprints)) ⌝ }
     ensures none_has { λ r. ⌜ ((count : ℕ) → end ≤ count → r ≡ false
@@ -66,7 +67,8 @@ fn may_have(fingerprints: &[u64], from: usize, end: usize, fingerprint: u64) -> 
     found
 }
 
-// A place before which none of the nodes, from one on, has the fingerprint: whole blocks that do not have it are passed over.
+// A place before which none of the nodes, from one on, has the fingerprint: whole blocks that do not have it are passed
+// over.
 fn skip_blocks(fingerprints: &[u64], count: usize, from: usize, fingerprint: u64) -> usize
     requires within { ⌜ (from ≤ count) × (count ≤ length (now fingerprints)) ⌝ }
     ensures none_before { λ r. ⌜ lowestFrom (now (fingerprints .entry)) count r fingerprint ≡ lowestFrom (now (fingerprints .entry)) count from fingerprint ⌝ }
@@ -111,8 +113,9 @@ fn is_marked(parents: &[u32], codes: &[u32]) -> bool
     codes[0] == MARK
 }
 
-// The depth of a node: 0 for node 0, and for another one more than its parent's (SPECIFICATION 7.5). The recursion is on the node's number, which
-// falls because a parent lies below its node. The gate limit falls by one with each gate, so that no more than `limit` + 1 calls are open.
+// The depth of a node: 0 for node 0, and for another one more than its parent's (SPECIFICATION 7.5). The recursion is
+// on the node's number, which falls because a parent lies below its node. The gate limit falls by one with each gate,
+// so that no more than `limit` + 1 calls are open.
 pub fn depth(
     parents: &[u32],
     codes: &[u32],
@@ -146,8 +149,8 @@ pub fn depth(
     }
 }
 
-// The list of a node, read along its parents, oldest gate first. The gates fill the first places of `out`; later places, and on a bad chain all
-// of them, keep what they held (SPECIFICATION 7.5, 7.7).
+// The list of a node, read along its parents, oldest gate first. The gates fill the first places of `out`; later
+// places, and on a bad chain all of them, keep what they held (SPECIFICATION 7.5, 7.7).
 pub fn circuit(
     parents: &[u32],
     codes: &[u32],

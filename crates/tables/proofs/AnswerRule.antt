@@ -4,11 +4,8 @@ use mathlib.Core.Bool.{Bool, true, false}
 use mathlib.Core.List.{List}
 use Prim.Native.Nat.{ℕ, zero, suc, _+_, _*_, _-_, _≤_, _<_}
 use native.Mathlib.Omega.{arith}
-use borrow.Author.Tests.{ne-eqb}
-use lib.Dec.{eqb}
 use lib.ListN.{getD, drop}
 use lib.Seq.{getD-take, getD-drop}
-use Rattle.ints.specs.Lists.{pick}
 use Rattle.walk.specs.Modes.{byPrint}
 use Rattle.walk.specs.AtWidth.{atWidth}
 use Rattle.walk.specs.Lookup.{Lookup, found, lowestFrom}
@@ -22,14 +19,15 @@ use Rattle.walk.proofs.Indexed.{looked-node}
 use Rattle.walk.proofs.Layers.{walk-shape}
 use Rattle.walk.proofs.Exactly.{prints-distinct}
 use Rattle.walk.proofs.Meaning.{find-rule}
-use Rattle.tables.specs.Checks.{firstRow, Arrays}
-use Rattle.tables.specs.Tables.{Table, walkOf, notAWidth, countAt, Query, matrixOf, partOf, limitsAt, partAt, findRows, foundIn, answerRows, writtenIn, repliedBy, synthesized}
+use Rattle.tables.specs.Checks.{firstRow, byRows, Arrays}
+use Rattle.tables.specs.Tables.{Table, walkOf, notAWidth, countAt, Query, matrixOf, partOf, limitsAt, partAt, findRows, foundIn, answerRows, writtenIn, synthesized}
 use Rattle.tables.specs.Built.{Built, FilledFrom}
-use Rattle.tables.specs.AnswerRule.{DistinctAt, firstFoundIn, firstSynthesized, AnswerRule}
+use Rattle.tables.specs.AnswerRule.{DistinctAt, firstFoundIn, firstSynthesized, AnswerRule, FirstNode}
 use Rattle.tables.proofs.Accepted.{accepted}
 use Rattle.tables.proofs.Counts.{a-width, counted, record-count, walk-count, count-at, good-record}
 use Rattle.tables.proofs.Indexes.{looks-scan}
-use Rattle.tables.proofs.Asked.{good-look, partFound, find-passed, find-refused, no-part}
+use Rattle.tables.proofs.Rows.{rows-pass, rows-refuse-at-0}
+use Rattle.tables.proofs.Asked.{no-positions-find, good-look, find-passed, find-refused}
 
 module _ (t : Table) (a : Arrays) (q : Query) where
   abbrev L : f.WidthLimits
@@ -66,15 +64,17 @@ module _ (t : Table) (a : Arrays) (q : Query) where
   unfolding firstFoundIn
   find-distinct d = by (firstRow (findRows t a q)) refl
     where
-      by : (r : ℕ) → firstRow (findRows t a q) ≡ r → foundIn t a q ≡ pick (eqb (firstRow (findRows t a q)) 0) (findFirst L P (matrixOf q)) (f.refused (firstRow (findRows t a q)) 0)
-      by zero e = find-passed t a q e ∙ find-rule .distinct L P (matrixOf q) (distinct-part e d) ∙ ap (λ (r : ℕ). pick (eqb r 0) (findFirst L P (matrixOf q)) (f.refused r 0)) (sym e)
-      by (suc r) e = find-refused t a q (suc r) (omega arith) e ∙ ap (λ (b : Bool). pick b (findFirst L P (matrixOf q)) (f.refused (suc r) 0)) (sym (ne-eqb (suc r) 0 (omega arith))) ∙ ap (λ (r : ℕ). pick (eqb r 0) (findFirst L P (matrixOf q)) (f.refused r 0)) (sym e)
+      by : (r : ℕ) → firstRow (findRows t a q) ≡ r → foundIn t a q ≡ byRows (findRows t a q) (findFirst L P (matrixOf q)) (λ r p. f.refused r p)
+      by zero e =
+          find-passed t a q e ∙ find-rule .distinct L P (matrixOf q) (distinct-part e d) ∙ sym (rows-pass (findRows t a q) _ (λ r p. f.refused r p) e)
+      by (suc r) e =
+          find-refused t a q (suc r) (omega arith) e
+          ∙ sym (rows-refuse-at-0 (findRows t a q) _ (λ r p. f.refused r p) (no-positions-find t a q) (suc r) (omega arith) e)
 
   answer-distinct : DistinctAt t a (q .width) → (out : List ℕ) → synthesized t a q out ≡ firstSynthesized t a q out
   unfolding synthesized firstSynthesized
   answer-distinct d out =
-      ap (λ (g : Finding). pick (eqb (firstRow (answerRows t a q out)) 0) (thenWrite (λ k. writtenIn t a (q .width) k out) out g)
-      (outcome (refused (firstRow (answerRows t a q out)) 0) out)) (find-distinct d)
+      ap (λ (g : Finding). byRows (answerRows t a q out) (thenWrite (λ k. writtenIn t a (q .width) k out) out g) (λ r p. outcome (refused r p) out)) (find-distinct d)
 
 by-print : (t : Table) (a : Arrays) → Built byPrint t a → (w : ℕ) → DistinctAt t a w
 by-print t a b w i j l h s =
@@ -86,7 +86,7 @@ by-print t a b w i j l h s =
 pub answer-rule : AnswerRule
 answer-rule = record {
   lowest = λ t a x q e. (find-passed t a q e, find-rule .lowest (limitsAt (t .limits) (q .width)) (partAt t a (q .width)) (matrixOf q) (as-scan t a q x e));
-  find-distinct = find-distinct;
-  answer-distinct = answer-distinct;
-  by-print = by-print;
 }
+
+pub first-node : FirstNode
+first-node = record { find-distinct = find-distinct; answer-distinct = answer-distinct; by-print = by-print }

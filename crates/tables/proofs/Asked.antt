@@ -1,11 +1,11 @@
--- A fill, a find, a write and an answer of a lent table, by its rows: where no row holds the index is filled, and the others are what the part of
--- the width gives; an answer is refused by the rows of its find and by 12. Assumes nothing.
+-- A fill, a find, a write and an answer of a lent table, by its rows: where no row holds the index is filled, and the
+-- others are what the part of the width gives; an answer is refused by the rows of its find and by 12. Assumes nothing.
 use mathlib.Core.Path.{_≡_, refl, sym, ap, _∙_}
 use mathlib.Core.Bool.{Bool, true, false}
 use mathlib.Core.List.{List, [], _∷_, _++_}
 use Prim.Native.Nat.{ℕ, zero, suc, _<_}
 use native.Mathlib.Omega.{arith}
-use borrow.Author.Tests.{ne-eqb, lt-ltb}
+use borrow.Author.Tests.{lt-ltb}
 use lib.ListN.{length}
 use Rattle.ints.specs.Lists.{pick}
 use Rattle.walk.specs.Index.{By, indexed}
@@ -13,11 +13,11 @@ use Rattle.walk.specs.Finds.{Finding, node, findOf}
 use Rattle.walk.specs.Finds as f
 use Rattle.walk.specs.Answers.{refused, Outcome, outcome, writeOf, thenWrite, answerOf}
 use Rattle.walk.proofs.Meaning.{no-nodes, found-below}
-use Rattle.tables.specs.Checks.{Row, firstRow, Arrays, roomRow, indexRow}
-use Rattle.tables.specs.Tables.{Table, Query, matrixOf, recordRow, tableRowsOf, listRow, notAWidth, countAt, limitsAt, partAt, lookRows, lookRowsOf, findRows, foundBy, foundIn}
-use Rattle.tables.specs.Tables.{filledIndex, filled, not-filled, fillLeft, filledBy, fillOf}
-use Rattle.tables.specs.Tables.{nodeRow, writeRows, writtenBy, writtenIn, answerRows, repliedBy, synthesized}
-use Rattle.tables.proofs.Rows.{Numbered, numbered-query, index-number, first-here, first-past, first-last, first-none, first-some, firstRow-append, append-none}
+use Rattle.tables.specs.Checks.{Row, firstRow, Arrays, roomRow, indexRow, queryRows}
+use Rattle.tables.specs.Tables.{Table, Query, matrixOf, recordRow, tableRowsOf, listRow, notAWidth, countAt, limitsAt, partAt, lookRows, lookRowsOf, findRows, foundIn}
+use Rattle.tables.specs.Tables.{filledIndex, filled, not-filled, fillLeft, fillOf}
+use Rattle.tables.specs.Tables.{nodeRow, writeRows, writtenIn, answerRows, synthesized}
+use Rattle.tables.proofs.Rows.{Numbered, numbered-query, index-number, NoPositions, no-positions-append, no-positions-index, no-positions-query, rows-pass, rows-refuse-at-0, first-here, first-past, first-last, first-none, first-some, firstRow-append, append-none}
 
 -- ---- rows
 
@@ -27,6 +27,18 @@ numbered-look t by f u c places = (omega arith, (omega arith, (omega (arith, ind
 pub numbered-find : (t : Table) (a : Arrays) (q : Query) → Numbered (findRows t a q)
 numbered-find t a q =
     (omega arith, (omega arith, (omega (arith, index-number (t .limits) (a .by) (length (a .index))), numbered-query (q .width) (q .exponent) (q .numbers))))
+
+-- none of them tells a position
+pub no-positions-look : (t : Table) (by : By) (a : Arrays) → NoPositions (lookRowsOf t by a)
+no-positions-look t by a = (refl, (refl, no-positions-index (t .limits) by (length (a .index))))
+
+pub no-positions-find : (t : Table) (a : Arrays) (q : Query) → NoPositions (findRows t a q)
+no-positions-find t a q =
+    no-positions-append (lookRowsOf t (a .by) a) (queryRows (q .width) (q .exponent) (q .numbers)) (no-positions-look t (a .by) a)
+    (no-positions-query (q .width) (q .exponent) (q .numbers))
+
+pub no-positions-answer : (t : Table) (a : Arrays) (q : Query) (out : List ℕ) → NoPositions (answerRows t a q out)
+no-positions-answer t a q out = no-positions-append (findRows t a q) (listRow t out ∷ []) (no-positions-find t a q) (refl, tt)
 
 -- where no row of an answer holds, none of the find's does, and the lent list is long enough
 pub passed : (t : Table) (a : Arrays) (q : Query) (out : List ℕ) → firstRow (answerRows t a q out) ≡ 0
@@ -68,11 +80,11 @@ rows-passed t a w k out r m h l =
 module _ (t : Table) (a : Arrays) where
   pub fill-passed : firstRow (lookRowsOf t indexed a) ≡ 0 → fillOf t a ≡ fillLeft filled (filledIndex t a)
   unfolding fillOf
-  fill-passed e = ap (filledBy t a) e
+  fill-passed = rows-pass (lookRowsOf t indexed a) _ (λ r p. fillLeft (not-filled r p) (a .index))
 
   pub fill-refused : (r : ℕ) → 0 < r → firstRow (lookRowsOf t indexed a) ≡ r → fillOf t a ≡ fillLeft (not-filled r 0) (a .index)
   unfolding fillOf
-  fill-refused r h e = ap (filledBy t a) e ∙ rw (ne-eqb r 0 (omega arith))
+  fill-refused = rows-refuse-at-0 (lookRowsOf t indexed a) _ (λ r p. fillLeft (not-filled r p) (a .index)) (no-positions-look t indexed a)
 
 -- ---- a find
 
@@ -83,11 +95,11 @@ module _ (t : Table) (a : Arrays) (q : Query) where
 
   pub find-passed : firstRow (findRows t a q) ≡ 0 → foundIn t a q ≡ partFound
   unfolding foundIn
-  find-passed e = ap (foundBy t a q) e
+  find-passed = rows-pass (findRows t a q) _ (λ r p. f.refused r p)
 
   pub find-refused : (r : ℕ) → 0 < r → firstRow (findRows t a q) ≡ r → foundIn t a q ≡ f.refused r 0
   unfolding foundIn
-  find-refused r h e = ap (foundBy t a q) e ∙ rw (ne-eqb r 0 (omega arith))
+  find-refused = rows-refuse-at-0 (findRows t a q) _ (λ r p. f.refused r p) (no-positions-find t a q)
 
   -- a width that the table does not have has no node
   pub no-part : notAWidth t (q .width) ≡ true → partFound ≡ f.none
@@ -101,11 +113,11 @@ module _ (t : Table) (a : Arrays) (w k : ℕ) (out : List ℕ) where
 
   pub write-passed : firstRow (writeRows t a w k out) ≡ 0 → writtenIn t a w k out ≡ partWritten
   unfolding writtenIn
-  write-passed e = ap (writtenBy t a w k out) e
+  write-passed = rows-pass (writeRows t a w k out) _ (λ r p. outcome (refused r p) out)
 
   pub write-refused : (r : ℕ) → 0 < r → firstRow (writeRows t a w k out) ≡ r → writtenIn t a w k out ≡ outcome (refused r 0) out
   unfolding writtenIn
-  write-refused r h e = ap (writtenBy t a w k out) e ∙ rw (ne-eqb r 0 (omega arith))
+  write-refused = rows-refuse-at-0 (writeRows t a w k out) _ (λ r p. outcome (refused r p) out) (refl, (refl, (refl, (refl, tt))))
 
 -- ---- an answer
 
@@ -123,7 +135,8 @@ module _ (t : Table) (a : Arrays) (q : Query) (out : List ℕ) where
   pub answer-passed : firstRow (answerRows t a q out) ≡ 0 → synthesized t a q out ≡ partAsked
   unfolding synthesized answerOf
   answer-passed e =
-      ap (repliedBy t a q out) e ∙ ap (thenWrite (λ k. writtenIn t a (q .width) k out) out) (find-passed t a q (passed t a q out e .0))
+      rows-pass (answerRows t a q out) _ (λ r p. outcome (refused r p) out) e
+      ∙ ap (thenWrite (λ k. writtenIn t a (q .width) k out) out) (find-passed t a q (passed t a q out e .0))
       ∙ by (partFound t a q) refl
     where
       by : (g : Finding) → partFound t a q ≡ g
@@ -134,7 +147,7 @@ module _ (t : Table) (a : Arrays) (q : Query) (out : List ℕ) where
 
   pub answer-refused : (r : ℕ) → 0 < r → firstRow (answerRows t a q out) ≡ r → synthesized t a q out ≡ outcome (refused r 0) out
   unfolding synthesized
-  answer-refused r h e = ap (repliedBy t a q out) e ∙ rw (ne-eqb r 0 (omega arith))
+  answer-refused = rows-refuse-at-0 (answerRows t a q out) _ (λ r p. outcome (refused r p) out) (no-positions-answer t a q out)
 
   -- an answer whose find meets no row: 12, or what the part answers
   pub asked-is : firstRow (findRows t a q) ≡ 0 → pick (listRow t out .holds) (outcome (refused 12 0) out) partAsked ≡ synthesized t a q out
@@ -158,10 +171,10 @@ module _ (t : Table) (a : Arrays) (q : Query) (out : List ℕ) where
   unfolding synthesized
   followed long = by (firstRow (findRows t a q)) refl
     where
-      by : (r : ℕ) → firstRow (findRows t a q) ≡ r → thenWrite (λ k. writtenIn t a (q .width) k out) out (foundIn t a q) ≡ repliedBy t a q out (firstRow (answerRows t a q out))
+      by : (r : ℕ) → firstRow (findRows t a q) ≡ r → thenWrite (λ k. writtenIn t a (q .width) k out) out (foundIn t a q) ≡ synthesized t a q out
       by zero e =
           let rest = firstRow-append (findRows t a q) (listRow t out ∷ []) (numbered-find t a q) e in
-          sym (ap (repliedBy t a q out) (rest ∙ first-last (listRow t out) (long (good-table t a _ e .0))))
+          sym (rows-pass (answerRows t a q out) _ (λ r p. outcome (refused r p) out) (rest ∙ first-last (listRow t out) (long (good-table t a _ e .0))))
       by (suc r) e =
           ap (thenWrite (λ k. writtenIn t a (q .width) k out) out) (find-refused t a q (suc r) (omega arith) e)
           ∙ sym (answer-refused (suc r) (omega arith) (first-some (findRows t a q) (listRow t out ∷ []) (suc r) (omega arith) e))

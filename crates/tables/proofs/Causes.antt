@@ -1,4 +1,5 @@
--- Rows by their tests and rows in words: where each test tells its words, the first that holds is the same. Assumes nothing.
+-- Rows by their tests and rows in words: where each test tells its words, the first that holds is the same. Assumes
+-- nothing.
 use mathlib.Core.Path.{_≡_, refl, sym, ap, _∙_}
 use mathlib.Core.Logic.{_⊎_, inl, inr}
 use mathlib.Core.Bool.{Bool, true, false, not, _&&_, _||_}
@@ -7,10 +8,11 @@ use Prim.Native.Nat.{ℕ, _<_}
 use native.Mathlib.Omega.{arith}
 use borrow.Author.Tests.{eqb-true, eq-eqb, ltb-true, lt-ltb, not-true}
 use lib.Dec.{eqb, ltb}
+use Rattle.ints.specs.Lists.{pick}
 use Rattle.ints.proofs.Bools.{clash, both-true, and-both}
-use Rattle.tables.specs.Checks.{Row, row, firstRow}
-use Rattle.tables.specs.Exactly.{Cause, cause, First, NoCause}
-use Rattle.tables.proofs.Rows.{first-here, first-past, first-none}
+use Rattle.tables.specs.Checks.{Row, row, rowAt, firstRow, firstPosition}
+use Rattle.tables.specs.Exactly.{Cause, cause, causeAt, Past, First, NoCause}
+use Rattle.tables.proofs.Rows.{first-past, first-none}
 
 -- ---- a test and its words
 
@@ -68,60 +70,74 @@ fails {C} {b} m h = by b refl
 
 -- ---- rows and causes
 
--- row by row, each with its number, which is not 0
+-- the test is true exactly where C is so of a position, and then it is so of p alone
+pub record DecidesAt (C : ℕ → Type 0) (b : Bool) (p : ℕ) : Type 0 where
+  pub to : b ≡ true → C p
+  pub from : (q : ℕ) → C q → (b ≡ true) × (q ≡ p)
+
+-- row by row, each with its number, which is not 0; a row needs to be its words only where those before it do not hold
 pub data InWords : List Row → List Cause → Type 1 where
   done : InWords [] []
-  more : {C : Type 0} {b : Bool} {rs : List Row} {cs : List Cause} (s : ℕ) → 0 < s → Decides C b → InWords rs cs → InWords (row b s ∷ rs) (cause s C ∷ cs)
+  more-at : {C : ℕ → Type 0} {b : Bool} {p : ℕ} {rs : List Row} {cs : List Cause} (s : ℕ) → 0 < s → DecidesAt C b p → (b ≡ false → InWords rs cs)
+      → InWords (rowAt b s p ∷ rs) (causeAt s C ∷ cs)
+
+-- a row that tells no position
+pub at-0 : {C : Type 0} {b : Bool} → Decides C b → DecidesAt (λ p. C × (p ≡ 0)) b 0
+at-0 m = record { to = λ e. (m .to e, refl); from = λ q c. (m .from (c .0), c .1) }
+
+pub more : {C : Type 0} {b : Bool} {rs : List Row} {cs : List Cause} (s : ℕ) → 0 < s → Decides C b → InWords rs cs → InWords (row b s ∷ rs) (cause s C ∷ cs)
+more {C} s h m w = more-at {C = λ p. C × (p ≡ 0)} s h (at-0 m) (λ e. w)
 
 pub words-append : {rs ss : List Row} {cs ds : List Cause} → InWords rs cs → InWords ss ds → InWords (rs ++ ss) (cs ++ ds)
 words-append done v = v
-words-append (more s h m w) v = more s h m (words-append w v)
+words-append (more-at s h m w) v = more-at s h m (λ e. words-append (w e) v)
+
+-- a row that does not hold is past
+past : {C : ℕ → Type 0} {b : Bool} {p : ℕ} (s : ℕ) → DecidesAt C b p → b ≡ false → Past (causeAt s C)
+past s m f q c = clash (m .from q c .0) f
+
+-- and back
+not-past : {C : ℕ → Type 0} {b : Bool} {p : ℕ} (s : ℕ) → DecidesAt C b p → Past (causeAt s C) → b ≡ false
+not-past {C} {b} {p} s m n = by b refl
+  where
+    by : (t : Bool) → b ≡ t → t ≡ false
+    by true e = absurd (n p (m .to e))
+    by false e = refl
 
 -- the first row that holds, and the first cause
-pub first-to : {rs : List Row} {cs : List Cause} → InWords rs cs → (r : ℕ) → 0 < r → firstRow rs ≡ r → First r 0 cs
+pub first-to : {rs : List Row} {cs : List Cause} → InWords rs cs → (r : ℕ) → 0 < r → firstRow rs ≡ r → First r (firstPosition rs) cs
 unfolding firstRow
-first-to done r p e = absurd (omega arith)
-first-to (more {C} {b} {rs} {cs} s h m w) r p e = by b refl (λ q. first-to w r p q)
+first-to done r h e = absurd (omega arith)
+first-to (more-at {C} {b} {p} {rs} {cs} s g m w) r h e = by b refl (λ f q. first-to (w f) r h q) e
   where
-    by : (t : Bool) → b ≡ t → (firstRow rs ≡ r → First r 0 cs) → First r 0 (cause s C ∷ cs)
-    by true f g = inl (sym (first-here (row b s) rs f) ∙ e, (m .to f, refl))
-    by false f g = inr ((λ i x. clash (m .from (x .0)) f), g (sym (first-past (row b s) rs f) ∙ e))
+    by : (t : Bool) → b ≡ t → (b ≡ false → firstRow rs ≡ r → First r (firstPosition rs) cs) → pick t s (firstRow rs) ≡ r
+        → First r (pick t p (firstPosition rs)) (causeAt s C ∷ cs)
+    by true f k x = inl (x, m .to f)
+    by false f k x = inr (past s m f, k f x)
 
-pub first-from : {rs : List Row} {cs : List Cause} → InWords rs cs → (r p : ℕ) → First r p cs → (firstRow rs ≡ r) × (0 < r) × (p ≡ 0)
-first-from done r p f = absurd f
-first-from (more {C} {b} {rs} {cs} s h m w) r p (inl (e, x)) = (first-here (row b s) rs (m .from (x .0)) ∙ e, omega (arith, h, e), x .1)
-first-from (more {C} {b} {rs} {cs} s h m w) r p (inr (n, f)) =
-    let z = first-from w r p f in
-    (first-past (row b s) rs (fails m (λ c. n 0 (c, refl))) ∙ z .0, z .1, z .2)
+pub first-from : {rs : List Row} {cs : List Cause} → InWords rs cs → (r q : ℕ) → First r q cs → (firstRow rs ≡ r) × (0 < r) × (q ≡ firstPosition rs)
+unfolding firstRow
+first-from done r q f = absurd f
+first-from (more-at {C} {b} {p} {rs} {cs} s h m w) r q (inl (e, x)) =
+    let (y, z) = m .from q x in
+    rw y (e, omega (arith, h, e), z)
+first-from (more-at {C} {b} {p} {rs} {cs} s h m w) r q (inr (n, f)) =
+    let y = not-past s m n in
+    rw y (first-from (w y) r q f)
 
 -- none holds
 pub none-to : {rs : List Row} {cs : List Cause} → InWords rs cs → firstRow rs ≡ 0 → NoCause cs
 none-to done e = tt
-none-to (more {C} {b} {rs} {cs} s h m w) e =
-    let z = first-none (row b s) rs h e in
-    ((λ i x. clash (m .from (x .0)) (z .0)), none-to w (z .1))
+none-to (more-at {C} {b} {p} {rs} {cs} s h m w) e =
+    let z = first-none (rowAt b s p) rs h e in
+    (past s m (z .0), none-to (w (z .0)) (z .1))
 
 pub none-from : {rs : List Row} {cs : List Cause} → InWords rs cs → NoCause cs → firstRow rs ≡ 0
 unfolding firstRow
 none-from done n = refl
-none-from (more {C} {b} {rs} {cs} s h m w) n = first-past (row b s) rs (fails m (λ c. n .0 0 (c, refl))) ∙ none-from w (n .1)
-
-pub none-first : (cs : List Cause) (r p : ℕ) → NoCause cs → First r p cs → ⊥
-none-first [] r p n f = f
-none-first (c ∷ cs) r p n (inl x) = n .0 p (x .1)
-none-first (c ∷ cs) r p n (inr (m, f)) = none-first cs r p (n .1) f
-
--- the first is one alone, where each holds at one position at most
-abbrev pub OneEach : List Cause → Type 0
-OneEach [] = Unit {0}
-OneEach (c ∷ cs) = ((p q : ℕ) → c .at p → c .at q → p ≡ q) × OneEach cs
-
-pub one-first : (cs : List Cause) → OneEach cs → (r p s q : ℕ) → First r p cs → First s q cs → (r ≡ s) × (p ≡ q)
-one-first [] o r p s q f g = absurd f
-one-first (c ∷ cs) o r p s q (inl x) (inl y) = (sym (x .0) ∙ y .0, o .0 p q (x .1) (y .1))
-one-first (c ∷ cs) o r p s q (inl x) (inr y) = absurd (y .0 p (x .1))
-one-first (c ∷ cs) o r p s q (inr x) (inl y) = absurd (x .0 q (y .1))
-one-first (c ∷ cs) o r p s q (inr x) (inr y) = one-first cs (o .1) r p s q (x .1) (y .1)
+none-from (more-at {C} {b} {p} {rs} {cs} s h m w) n =
+    let y = not-past s m (n .0) in
+    first-past (rowAt b s p) rs y ∙ none-from (w y) (n .1)
 
 -- ---- causes after causes
 

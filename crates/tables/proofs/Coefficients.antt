@@ -7,7 +7,7 @@ use native.Mathlib.Omega.{arith}
 use lib.IntN.{ℤ, pos}
 use lib.ListN.{getD}
 use Rattle.cyclotomic.specs.Zomega.{Zω}
-use Rattle.cyclotomic.proofs.Number.{each}
+use Rattle.cyclotomic.proofs.Each.{each}
 use Rattle.exact.specs.Matrix.{Exact}
 use Rattle.exact.proofs.Words.{Equal}
 use Rattle.exact.specs.Phase.{flat}

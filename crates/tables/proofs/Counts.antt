@@ -1,5 +1,5 @@
--- How many nodes a width's walk and a width of a record have, what the record of a built table says of each width, and that row 13 does not refuse
--- it. Assumes nothing.
+-- How many nodes a width's walk and a width of a record have, what the record of a built table says of each width, and
+-- that row 13 does not refuse it. Assumes nothing.
 use mathlib.Core.Path.{_≡_, refl, ap, _∙_}
 use mathlib.Core.Logic.{inr}
 use mathlib.Core.Bool.{Bool, true, false, not, _&&_, _||_}

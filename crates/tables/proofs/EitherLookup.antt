@@ -4,9 +4,7 @@ use mathlib.Core.Bool.{Bool, true, false}
 use mathlib.Core.List.{List, [], _++_}
 use Prim.Native.Nat.{ℕ, zero, suc, _<_}
 use native.Mathlib.Omega.{arith}
-use lib.Dec.{eqb}
 use lib.ListN.{length}
-use Rattle.ints.specs.Lists.{pick}
 use Rattle.ints.proofs.Bools.{clash}
 use Rattle.exact.specs.Matrix.{Exact}
 use Rattle.exact.specs.Fingerprint.{fingerprint}
@@ -19,14 +17,15 @@ use Rattle.walk.specs.Finds.{WidthLimits, Part, Finding, byChain, byLookup, loo
 use Rattle.walk.specs.Answers.{refused, outcome, writeOf, thenWrite}
 use Rattle.tables.specs.Checks.{Row, firstRow, Limits, Arrays, arraysBy, inParts, indexRow}
 use Rattle.tables.specs.Tables.{Table, walkOf, printsOf, indexTo, table, left, buildOf, Query, matrixOf, notAWidth, countAt, partOf, limitsAt, partAt, lookRowsOf}
-use Rattle.tables.specs.Tables.{filledIndex, FillReply, filled, not-filled, FillLeft, fillLeft, fillOf, findRows, foundIn, writtenIn, answerRows, repliedBy, synthesized}
+use Rattle.tables.specs.Tables.{filledIndex, FillReply, filled, not-filled, FillLeft, fillLeft, fillOf, findRows, foundIn, writtenIn, answerRows, synthesized}
 use Rattle.tables.specs.Built.{FilledFrom}
 use Rattle.tables.specs.EitherLookup.{scanned, through, EitherLookup}
 use Rattle.tables.proofs.Counts.{a-width, good-record}
 use Rattle.tables.proofs.Accepted.{record-limits}
-use Rattle.tables.proofs.Indexes.{part-sizes, indexed-parts, all-again, all-anew, scan-leaves, index-to-length, fill-keeps, looks-scan}
+use Rattle.tables.proofs.Indexes.{indexed-parts, all-again, all-anew, scan-leaves, index-to-length, fill-keeps, looks-scan}
 use Rattle.tables.proofs.FromBuild.{build-passed, rows-none, build-fills, build-returned, build-built}
-use Rattle.tables.proofs.Asked.{good-look, look-passed, fill-passed, fill-refused, partFound, find-passed, find-refused, no-part}
+use Rattle.tables.proofs.Rows.{rows-pass}
+use Rattle.tables.proofs.Asked.{good-look, look-passed, fill-passed, fill-refused, partFound, find-passed, find-refused, no-part, answer-refused}
 
 -- ---- a find by two parts whose nodes have the same chains and that look up the same from each start
 
@@ -79,12 +78,16 @@ module _ (t : Table) (a : Arrays) (x : FilledFrom t a) where
 
     answer-same : (out : List ℕ) → synthesized t a q out ≡ synthesized t (scanned a) q out
     unfolding synthesized
-    answer-same out =
-        ap (repliedBy t a q out) (rows-same _)
-        ∙ (λ j. pick (eqb rows 0) (thenWrite (λ k. write-same t a (q .width) k out j) out (find-same j)) (outcome (refused rows 0) out))
+    answer-same out = by (firstRow (answerRows t a q out)) refl
       where
-        rows : ℕ
-        rows = firstRow (answerRows t (scanned a) q out)
+        asked : thenWrite (λ k. writtenIn t a (q .width) k out) out (foundIn t a q) ≡ thenWrite (λ k. writtenIn t (scanned a) (q .width) k out) out (foundIn t (scanned a) q)
+        asked = λ j. thenWrite (λ k. write-same t a (q .width) k out j) out (find-same j)
+
+        by : (r : ℕ) → firstRow (answerRows t a q out) ≡ r → synthesized t a q out ≡ synthesized t (scanned a) q out
+        by zero e =
+            rows-pass (answerRows t a q out) _ (λ r p. outcome (refused r p) out) e ∙ asked
+            ∙ sym (rows-pass (answerRows t (scanned a) q out) _ (λ r p. outcome (refused r p) out) (sym (rows-same _) ∙ e))
+        by (suc r) e = answer-refused t a q out (suc r) (omega arith) e ∙ sym (answer-refused t (scanned a) q out (suc r) (omega arith) (sym (rows-same _) ∙ e))
 
 -- ---- a fill
 
@@ -114,7 +117,7 @@ module _ (t : Table) (a : Arrays) where
         is = λ h. sym filled-again;
       })
 
-  fill-again : (i : List ℕ) → fillOf t a ≡ fillLeft filled i → fillOf t (through a i) ≡ fillLeft filled i
+  pub fill-again : (i : List ℕ) → fillOf t a ≡ fillLeft filled i → fillOf t (through a i) ≡ fillLeft filled i
   unfolding firstRow
   fill-again i n =
       let (e, z) = fill-returned i n in
@@ -173,14 +176,12 @@ module _ (mode : Mode) (l : Limits) (a b : Arrays) (t : Table) (n : buildOf mode
 
 pub either-lookup : EitherLookup
 either-lookup = record {
-  parts = part-sizes;
   looks-same = looks-scan;
   find-same = find-same;
   answer-same = answer-same;
   write-same = write-same;
   fill-filled = fill-filled;
   fill-anew = fill-anew;
-  fill-again = fill-again;
   build-same = build-same;
   build-filled = λ mode l a b t e n. build-anew mode l a b t n e;
   scan-leaves = λ mode l a b t e n. build-leaves mode l a b t n e;

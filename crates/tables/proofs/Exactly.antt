@@ -1,25 +1,27 @@
--- Which input is refused, exactly: the statements of specs/Exactly. Assumes nothing.
-use mathlib.Core.Path.{_≡_, refl, sym, ap, _∙_, subst}
-use mathlib.Core.Logic.{_↔_, _⊎_, inl, inr}
+-- Which input is refused, exactly: the statements of specs/Exactly, each entry by its rows in words (Entry). Assumes
+-- nothing.
+use mathlib.Core.Path.{_≡_, refl, sym, ap, _∙_}
+use mathlib.Core.Logic.{_↔_, inl}
 use mathlib.Core.List.{List, [], _∷_}
 use Prim.Native.Nat.{ℕ, zero, suc}
 use native.Mathlib.Omega.{arith}
 use Rattle.walk.specs.Modes.{Mode}
 use Rattle.walk.specs.Index.{indexed}
 use Rattle.walk.specs.Finds as f
-use Rattle.walk.specs.Answers.{refused, Outcome, outcome}
-use Rattle.walk.proofs.Meaning.{first, second, kind-of, found-first, found-second, find-means, at-below, write-means}
+use Rattle.walk.specs.Answers.{refused, Outcome, outcome, writeOf, thenWrite}
+use Rattle.walk.specs.Meaning.{BadFound, FindMeans}
+use Rattle.walk.proofs.Meaning.{first, second, found-first, found-second, find-means, at-below, write-means}
 use Rattle.tables.specs.Checks.{firstRow, Limits, Arrays}
 use Rattle.tables.specs.Tables.{Table, BuildReply, table, refusal, Left, left, recordOf, builtTo, buildRows, buildOf, Query, matrixOf}
-use Rattle.tables.specs.Tables.{limitsAt, partAt, lookRowsOf, filledIndex, FillReply, filled, not-filled, FillLeft, fillLeft, fillOf, findRows, foundIn, writeRows, writtenIn, synthesized}
-use Rattle.tables.specs.Exactly.{Cause, cause, First, NoCause, buildCauses, BadChain, lookCauses, answerCauses, findCauses, BadNode, writeCauses, Exactly}
-use Rattle.tables.proofs.FromBuild.{build-refusal, build-fills}
-use Rattle.tables.proofs.Replies.{ReplyCase, not-a-width, part-asked, by-row, row-refuses, width-asked, cases, asked-means}
-use Rattle.tables.proofs.OfBuilt.{has-width, a-width, counted}
-use Rattle.tables.proofs.Asked.{fill-passed, fill-refused, find-passed, find-refused, write-passed, write-refused}
-use Rattle.tables.proofs.Causes.{first-to, first-from, none-to, none-from, first-more, first-later, first-split}
+use Rattle.tables.specs.Tables.{limitsAt, partAt, lookRowsOf, filledIndex, FillReply, filled, not-filled, FillLeft, fillLeft, fillOf, findRows, foundIn, writeRows, writtenIn, answerRows, synthesized}
+use Rattle.tables.specs.Exactly.{cause, First, NoCause, buildCauses, BadChain, lookCauses, answerCauses, findCauses, BadNode, writeCauses, RefusedWhere, Exactly}
+use Rattle.tables.proofs.Counts.{counted}
+use Rattle.tables.proofs.Rows.{rows-pass}
+use Rattle.tables.proofs.Asked.{partFound, partAsked, answer-passed}
+use Rattle.tables.proofs.Replies.{asked-means}
+use Rattle.tables.proofs.Entry.{Entry, refused-where, done-where, only}
 use Rattle.tables.proofs.ListExactly.{list, formed}
-use Rattle.tables.proofs.InWords.{build-in-words, look-in-words, findRowCauses, find-in-words, rowCauses, answer-in-words, writeRowCauses, write-in-words}
+use Rattle.tables.proofs.InWords.{build-in-words, look-in-words, find-in-words, answer-in-words, write-in-words}
 
 -- ---- a build
 
@@ -32,31 +34,17 @@ buildPosition (table t) = 0
 buildPosition (refusal r p) = p
 
 module _ (mode : Mode) (l : Limits) (a : Arrays) where
-  build : (b : Arrays) (r p : ℕ) → (buildOf mode l a ≡ left (refusal r p) b) ↔ (First r p (buildCauses l a) × (b ≡ a))
-  build b r p = (λ n. to n (firstRow (buildRows l a)) refl, from)
-    where
-      to : buildOf mode l a ≡ left (refusal r p) b → (s : ℕ) → firstRow (buildRows l a) ≡ s → First r p (buildCauses l a) × (b ≡ a)
-      to n zero f = absurd (omega (arith, ap (λ (z : Left). buildNumber (z .reply)) (sym (build-fills mode l a f) ∙ n)))
-      to n (suc s) f =
-          let z = sym (build-refusal mode l a (suc s) (omega arith) f) ∙ n in
-          let x : suc s ≡ r = omega (arith, ap (λ (y : Left). buildNumber (y .reply)) z) in
-          let y : 0 ≡ p = ap (λ (y : Left). buildPosition (y .reply)) z in (
-            subst (λ (j : ℕ). First r j (buildCauses l a)) y
-                (subst (λ (j : ℕ). First j 0 (buildCauses l a)) x (first-to (build-in-words l a) (suc s) (omega arith) f)),
-            sym (ap (λ (y : Left). y .arrays) z),
-          )
+  build-apart : (r p : ℕ) (m : Arrays) → left (table (recordOf mode l)) (builtTo mode l (l .qubits) a) ≡ left (refusal r p) m → ⊥
+  build-apart r p m n = omega (arith, ap (λ (z : Left). buildNumber (z .reply)) n)
 
-      from : First r p (buildCauses l a) × (b ≡ a) → buildOf mode l a ≡ left (refusal r p) b
-      from (f, z) =
-          let (x, h, y) = first-from (build-in-words l a) r p f in
-          build-refusal mode l a r h x ∙ (λ k. left (refusal r (sym y k)) (sym z k))
-
-  built : (buildOf mode l a ≡ left (table (recordOf mode l)) (builtTo mode l (l .qubits) a)) ↔ NoCause (buildCauses l a)
-  built = (λ n. to n (firstRow (buildRows l a)) refl, λ n. build-fills mode l a (none-from (build-in-words l a) n))
-    where
-      to : buildOf mode l a ≡ left (table (recordOf mode l)) (builtTo mode l (l .qubits) a) → (s : ℕ) → firstRow (buildRows l a) ≡ s → NoCause (buildCauses l a)
-      to n zero f = none-to (build-in-words l a) f
-      to n (suc s) f = absurd (omega (arith, ap (λ (z : Left). buildNumber (z .reply)) (sym (build-refusal mode l a (suc s) (omega arith) f) ∙ n)))
+  build-entry : Entry (buildOf mode l a) (left (table (recordOf mode l)) (builtTo mode l (l .qubits) a)) (λ r p m. left (refusal r p) m) a (buildRows l a) []
+  unfolding buildOf
+  build-entry = record {
+    is = refl;
+    same = λ r p s q m n e.
+        (omega (arith, ap (λ (z : Left). buildNumber (z .reply)) e), ap (λ (z : Left). buildPosition (z .reply)) e, ap (λ (z : Left). z .arrays) e);
+    later = λ f r p m. (λ n. absurd (build-apart r p m n), λ y. absurd (y .0));
+  }
 
 -- ---- a fill
 
@@ -69,147 +57,90 @@ fillPosition filled = 0
 fillPosition (not-filled r p) = p
 
 module _ (t : Table) (a : Arrays) where
-  fill : (i : List ℕ) (r p : ℕ) → (fillOf t a ≡ fillLeft (not-filled r p) i) ↔ (First r p (lookCauses t indexed a) × (i ≡ a .index))
-  fill i r p = (λ n. to n (firstRow (lookRowsOf t indexed a)) refl, from)
-    where
-      to : fillOf t a ≡ fillLeft (not-filled r p) i → (s : ℕ) → firstRow (lookRowsOf t indexed a) ≡ s → First r p (lookCauses t indexed a) × (i ≡ a .index)
-      to n zero e = absurd (omega (arith, ap (λ (z : FillLeft). fillNumber (z .reply)) (sym (fill-passed t a e) ∙ n)))
-      to n (suc s) e =
-          let z = sym (fill-refused t a (suc s) (omega arith) e) ∙ n in
-          let x : suc s ≡ r = omega (arith, ap (λ (y : FillLeft). fillNumber (y .reply)) z) in
-          let y : 0 ≡ p = ap (λ (y : FillLeft). fillPosition (y .reply)) z in (
-            subst (λ (j : ℕ). First r j (lookCauses t indexed a)) y
-                (subst (λ (j : ℕ). First j 0 (lookCauses t indexed a)) x (first-to (look-in-words t indexed a) (suc s) (omega arith) e)),
-            sym (ap (λ (y : FillLeft). y .index) z),
-          )
+  fill-apart : (r p : ℕ) (m : List ℕ) → fillLeft filled (filledIndex t a) ≡ fillLeft (not-filled r p) m → ⊥
+  fill-apart r p m n = omega (arith, ap (λ (z : FillLeft). fillNumber (z .reply)) n)
 
-      from : First r p (lookCauses t indexed a) × (i ≡ a .index) → fillOf t a ≡ fillLeft (not-filled r p) i
-      from (g, z) =
-          let (x, h, y) = first-from (look-in-words t indexed a) r p g in
-          fill-refused t a r h x ∙ (λ k. fillLeft (not-filled r (sym y k)) (sym z k))
+  fill-entry : Entry (fillOf t a) (fillLeft filled (filledIndex t a)) (λ r p m. fillLeft (not-filled r p) m) (a .index) (lookRowsOf t indexed a) []
+  unfolding fillOf
+  fill-entry = record {
+    is = refl;
+    same = λ r p s q m n e.
+        (omega (arith, ap (λ (z : FillLeft). fillNumber (z .reply)) e), ap (λ (z : FillLeft). fillPosition (z .reply)) e, ap (λ (z : FillLeft). z .index) e);
+    later = λ f r p m. (λ n. absurd (fill-apart r p m n), λ y. absurd (y .0));
+  }
 
-  fills : (fillOf t a ≡ fillLeft filled (filledIndex t a)) ↔ NoCause (lookCauses t indexed a)
-  fills = (λ n. to n (firstRow (lookRowsOf t indexed a)) refl, λ n. fill-passed t a (none-from (look-in-words t indexed a) n))
-    where
-      to : fillOf t a ≡ fillLeft filled (filledIndex t a) → (s : ℕ) → firstRow (lookRowsOf t indexed a) ≡ s → NoCause (lookCauses t indexed a)
-      to n zero e = none-to (look-in-words t indexed a) e
-      to n (suc s) e = absurd (omega (arith, ap (λ (z : FillLeft). fillNumber (z .reply)) (sym (fill-refused t a (suc s) (omega arith) e) ∙ n)))
-
--- ---- an answer
-
-module _ (t : Table) (a : Arrays) (q : Query) (out : List ℕ) where
-  -- the last row: a chain that is met
-  abbrev chain : Cause
-  chain = cause 13 (BadChain t a q)
-
-  answer : (after : List ℕ) (r p : ℕ) → (synthesized t a q out ≡ outcome (refused r p) after) ↔ (First r p (answerCauses t a q out) × (after ≡ out))
-  answer after r p = (λ n. to n (cases t a q out), λ x. from (first-split (rowCauses t a q out) (chain ∷ []) r p (x .0)) (x .1))
-    where
-      -- a refusal of the number s without a position, which this is
-      told : (s : ℕ) → First s 0 (answerCauses t a q out) → s ≡ r → 0 ≡ p → First r p (answerCauses t a q out)
-      told s f x y = subst (λ (j : ℕ). First r j (answerCauses t a q out)) y (subst (λ (j : ℕ). First j 0 (answerCauses t a q out)) x f)
-
-      to : synthesized t a q out ≡ outcome (refused r p) after → ReplyCase t a q out → First r p (answerCauses t a q out) × (after ≡ out)
-      to n (not-a-width f w m) = absurd (omega (arith, kind-of (sym m ∙ n)))
-      to n (part-asked f w m) =
-          let (x, y, z, u) = asked-means t a q out .is-refused r p after .0 (sym m ∙ n) in
-          let v = a-width t (q .width) w in (
-            told 13 (first-later (rowCauses t a q out) (chain ∷ []) 13 0 (none-to (answer-in-words t a q out) f)
-                (inl (refl, (record { some = v .0; has = v .1; fault = x }, refl)))) (sym y) (sym z),
-            u,
-          )
-      to n (by-row s h f m) =
-          let z = sym m ∙ n in (
-            told s (first-more (rowCauses t a q out) (chain ∷ []) s 0 (first-to (answer-in-words t a q out) s h f))
-                (ap (λ (o : Outcome). first (o .reply)) z) (ap (λ (o : Outcome). second (o .reply)) z),
-            sym (ap (λ (o : Outcome). o .list) z),
-          )
-
-      from : First r p (rowCauses t a q out) ⊎ (NoCause (rowCauses t a q out) × First r p (chain ∷ [])) → after ≡ out
-          → synthesized t a q out ≡ outcome (refused r p) after
-      from (inl f) z =
-          let (x, h, y) = first-from (answer-in-words t a q out) r p f in
-          row-refuses t a q out r h x ∙ (λ k. outcome (refused r (sym y k)) (sym z k))
-      from (inr (n, inl (x, (c, y)))) z =
-          width-asked t a q out (none-from (answer-in-words t a q out) n) (has-width t (q .width) (c .some) (c .has))
-          ∙ asked-means t a q out .is-refused r p after .1 (c .fault, sym x, y, z)
-      from (inr (n, inr (m, f))) z = absurd f
-
--- ---- a find
+-- ---- a find: the last cause is a chain that is met
 
 module _ (t : Table) (a : Arrays) (q : Query) where
-  find : (r p : ℕ) → (foundIn t a q ≡ f.refused r p) ↔ First r p (findCauses t a q)
-  find r p = (λ n. to n (firstRow (findRows t a q)) refl, λ x. from (first-split (findRowCauses t a q) (last-cause ∷ []) r p x))
+  -- a node that is looked at is one of a width that the table has
+  bad-chain : BadFound (limitsAt (t .limits) (q .width)) (partAt t a (q .width)) (matrixOf q) → BadChain t a q
+  bad-chain x =
+      let v = counted t (q .width) (at-below (limitsAt (t .limits) (q .width)) (partAt t a (q .width)) (matrixOf q) (x .leads)) in
+      record { some = v .0; has = v .1; fault = x }
+
+  find-entry : Entry (foundIn t a q) (partFound t a q) (λ r p (m : Unit {0}). f.refused r p) tt (findRows t a q) (cause 13 (BadChain t a q) ∷ [])
+  unfolding foundIn
+  find-entry = record {
+    is = refl;
+    same = λ r p s q m n e. (ap found-first e, ap found-second e, refl);
+    later = λ e r p m. (
+      (λ n. let (x, y, z) = means .is-refused r p .0 n in (inl (sym y, (bad-chain x, z)), refl)),
+      (λ y. let (s, c, z) = only 13 (BadChain t a q) (y .0) in means .is-refused r p .1 (c .fault, sym s, z)),
+    );
+  }
     where
-      last-cause : Cause
-      last-cause = cause 13 (BadChain t a q)
+      means : FindMeans (limitsAt (t .limits) (q .width)) (partAt t a (q .width)) (matrixOf q)
+      means = find-means (limitsAt (t .limits) (q .width)) (partAt t a (q .width)) (matrixOf q)
 
-      told : (s : ℕ) → First s 0 (findCauses t a q) → s ≡ r → 0 ≡ p → First r p (findCauses t a q)
-      told s g x y = subst (λ (j : ℕ). First r j (findCauses t a q)) y (subst (λ (j : ℕ). First j 0 (findCauses t a q)) x g)
+-- ---- a write: the last cause is the node's chain
 
-      to : foundIn t a q ≡ f.refused r p → (s : ℕ) → firstRow (findRows t a q) ≡ s → First r p (findCauses t a q)
-      to n zero e =
-          let (x, y, z) = find-means (limitsAt (t .limits) (q .width)) (partAt t a (q .width)) (matrixOf q) .is-refused r p .0 (sym (find-passed t a q e) ∙ n) in
-          let v = counted t (q .width) (at-below (limitsAt (t .limits) (q .width)) (partAt t a (q .width)) (matrixOf q) (x .leads)) in
-          told 13 (first-later (findRowCauses t a q) (last-cause ∷ []) 13 0 (none-to (find-in-words t a q) e)
-          (inl (refl, (record { some = v .0; has = v .1; fault = x }, refl)))) (sym y) (sym z)
-      to n (suc s) e =
-          let z = sym (find-refused t a q (suc s) (omega arith) e) ∙ n in
-          told (suc s) (first-more (findRowCauses t a q) (last-cause ∷ []) (suc s) 0 (first-to (find-in-words t a q) (suc s) (omega arith) e))
-          (ap found-first z) (ap found-second z)
-
-      from : First r p (findRowCauses t a q) ⊎ (NoCause (findRowCauses t a q) × First r p (last-cause ∷ [])) → foundIn t a q ≡ f.refused r p
-      from (inl g) = let (x, h, y) = first-from (find-in-words t a q) r p g in find-refused t a q r h x ∙ ap (f.refused r) (sym y)
-      from (inr (n, inl (x, (c, y)))) =
-          find-passed t a q (none-from (find-in-words t a q) n)
-          ∙ find-means (limitsAt (t .limits) (q .width)) (partAt t a (q .width)) (matrixOf q) .is-refused r p .1 (c .fault, sym x, y)
-      from (inr (n, inr (m, g))) = absurd g
-
--- ---- a write
+told-apart : (r p s q : ℕ) (m n : List ℕ) → outcome (refused r p) m ≡ outcome (refused s q) n → (r ≡ s) × (p ≡ q) × (m ≡ n)
+told-apart r p s q m n e = (ap (λ (o : Outcome). first (o .reply)) e, ap (λ (o : Outcome). second (o .reply)) e, ap (λ (o : Outcome). o .list) e)
 
 module _ (t : Table) (a : Arrays) (w k : ℕ) (out : List ℕ) where
-  write : (after : List ℕ) (r p : ℕ) → (writtenIn t a w k out ≡ outcome (refused r p) after) ↔ (First r p (writeCauses t a w k out) × (after ≡ out))
-  write after r p = (λ n. to n (firstRow (writeRows t a w k out)) refl, λ x. from (first-split (writeRowCauses t a w k out) (last-cause ∷ []) r p (x .0)) (x .1))
+  write-entry : Entry (writtenIn t a w k out) (writeOf (limitsAt (t .limits) w) (partAt t a w) k out) (λ r p m. outcome (refused r p) m) out
+      (writeRows t a w k out) (cause 13 (BadNode t a w k) ∷ [])
+  unfolding writtenIn
+  write-entry = record {
+    is = refl;
+    same = told-apart;
+    later = λ e r p m. (
+      (λ n. let (x, y, z, u) = write-means (limitsAt (t .limits) w) (partAt t a w) k out .is-refused r p m .0 n in (inl (sym y, (x, z)), u)),
+      (λ y. let (s, c, z) = only 13 (BadNode t a w k) (y .0) in write-means (limitsAt (t .limits) w) (partAt t a w) k out .is-refused r p m .1 (c, sym s, z, y .1)),
+    );
+  }
+
+-- ---- an answer: the last cause is a chain that its find meets
+
+module _ (t : Table) (a : Arrays) (q : Query) (out : List ℕ) where
+  abbrev asked : Outcome
+  asked = thenWrite (λ k. writtenIn t a (q .width) k out) out (foundIn t a q)
+
+  answer-entry : Entry (synthesized t a q out) asked (λ r p m. outcome (refused r p) m) out (answerRows t a q out) (cause 13 (BadChain t a q) ∷ [])
+  unfolding synthesized
+  answer-entry = record {
+    is = refl;
+    same = told-apart;
+    later = λ e r p m. (
+      (λ n. let (x, y, z, u) = asked-means t a q out .is-refused r p m .0 (sym (by-part e) ∙ n) in (inl (sym y, (bad-chain t a q x, z)), u)),
+      (λ y. let (s, c, z) = only 13 (BadChain t a q) (y .0) in by-part e ∙ asked-means t a q out .is-refused r p m .1 (c .fault, sym s, z, y .1)),
+    );
+  }
     where
-      last-cause : Cause
-      last-cause = cause 13 (BadNode t a w k)
+      by-part : firstRow (answerRows t a q out) ≡ 0 → asked ≡ partAsked t a q out
+      by-part e = sym (rows-pass (answerRows t a q out) asked (λ r p. outcome (refused r p) out) e) ∙ answer-passed t a q out e
 
-      told : (s : ℕ) → First s 0 (writeCauses t a w k out) → s ≡ r → 0 ≡ p → First r p (writeCauses t a w k out)
-      told s g x y = subst (λ (j : ℕ). First r j (writeCauses t a w k out)) y (subst (λ (j : ℕ). First j 0 (writeCauses t a w k out)) x g)
-
-      to : writtenIn t a w k out ≡ outcome (refused r p) after → (s : ℕ) → firstRow (writeRows t a w k out) ≡ s
-          → First r p (writeCauses t a w k out) × (after ≡ out)
-      to n zero e =
-          let (x, y, z, u) = write-means (limitsAt (t .limits) w) (partAt t a w) k out .is-refused r p after .0 (sym (write-passed t a w k out e) ∙ n) in (
-            told 13 (first-later (writeRowCauses t a w k out) (last-cause ∷ []) 13 0 (none-to (write-in-words t a w k out) e) (inl (refl, (x, refl)))) (sym y) (sym z),
-            u,
-          )
-      to n (suc s) e =
-          let z = sym (write-refused t a w k out (suc s) (omega arith) e) ∙ n in (
-            told (suc s) (first-more (writeRowCauses t a w k out) (last-cause ∷ []) (suc s) 0 (first-to (write-in-words t a w k out) (suc s) (omega arith) e))
-                (ap (λ (o : Outcome). first (o .reply)) z) (ap (λ (o : Outcome). second (o .reply)) z),
-            sym (ap (λ (o : Outcome). o .list) z),
-          )
-
-      from : First r p (writeRowCauses t a w k out) ⊎ (NoCause (writeRowCauses t a w k out) × First r p (last-cause ∷ [])) → after ≡ out
-          → writtenIn t a w k out ≡ outcome (refused r p) after
-      from (inl g) z =
-          let (x, h, y) = first-from (write-in-words t a w k out) r p g in
-          write-refused t a w k out r h x ∙ (λ j. outcome (refused r (sym y j)) (sym z j))
-      from (inr (n, inl (x, (c, y)))) z =
-          write-passed t a w k out (none-from (write-in-words t a w k out) n)
-          ∙ write-means (limitsAt (t .limits) w) (partAt t a w) k out .is-refused r p after .1 (c, sym x, y, z)
-      from (inr (n, inr (m, g))) z = absurd g
+-- ---- all of them
 
 pub exactly : Exactly
 exactly = record {
-  build = build;
-  built = built;
-  fill = fill;
-  fills = fills;
-  answer = answer;
-  find = find;
-  write = write;
+  build = λ mode l a. refused-where (build-entry mode l a) (build-in-words l a);
+  built = λ mode l a. done-where (build-entry mode l a) (build-in-words l a) (build-apart mode l a);
+  fill = λ t a. refused-where (fill-entry t a) (look-in-words t indexed a);
+  fills = λ t a. done-where (fill-entry t a) (look-in-words t indexed a) (fill-apart t a);
+  answer = λ t a q out. refused-where (answer-entry t a q out) (answer-in-words t a q out);
+  find = λ t a q r p. let z = refused-where (find-entry t a q) (find-in-words t a q) tt r p in (λ n. z .0 n .0, λ x. z .1 (x, refl));
+  write = λ t a w k out. refused-where (write-entry t a w k out) (write-in-words t a w k out);
   list = list;
   formed = formed;
 }

@@ -1,6 +1,6 @@
--- What an array holds after the parts of widths 1 to Q were worked, each by what keeps its length: each part is as it was worked, and the places
--- behind the last are as they were. So of columns filled in: a filled place holds its column's number, and all other places are as they were.
--- Assumes nothing.
+-- What an array holds after the parts of widths 1 to Q were worked, each by what keeps its length: each part is as it
+-- was worked, and the places behind the last are as they were. So of columns filled in: a filled place holds its
+-- column's number, and all other places are as they were. Assumes nothing.
 use mathlib.Core.Path.{_≡_, refl, sym, ap, _∙_}
 use mathlib.Core.List.{List, _++_}
 use mathlib.Core.Logic.{_⊎_, inl, inr}

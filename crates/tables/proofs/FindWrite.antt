@@ -225,13 +225,13 @@ module _ (t : Table) (a : Arrays) (q : Query) where
 
 -- ---- a larger built table
 
-module _ {mode : Mode} (t t′ : Table) (a a′ : Arrays) (b : Built mode t a) (b′ : Built mode t′ a′) (x : FilledFrom t a) (x′ : FilledFrom t′ a′) (s : NoSmaller (t .limits) (t′ .limits))
+module _ {mode : Mode} (t t′ : Table) (a a′ : Arrays) (b : Built mode t a) (b′ : Built mode t′ a′) (x′ : FilledFrom t′ a′) (s : NoSmaller (t .limits) (t′ .limits))
     (q : Query) (k m : ℕ) (h : Finds t a q k m) where
   -- its answer with a list that is long enough
   larger-node : (l : List ℕ) × (length l ≡ m) × Gives t a q (longList t) l × ((k′ : ℕ) × Finds t′ a′ q k′ (length l) × Writes t′ a′ (q .width) k′ (longList t′) l)
   larger-node =
       let (l, z, w, g) = found-written t a q (longList t) (long-enough t) k m h in
-      (l, z, g, by l (demand .larger mode t t′ a a′ b b′ x x′ s q (longList t) (longList t′) l g))
+      (l, z, g, by l (demand .larger mode t t′ a a′ b b′ x′ s q (longList t) (longList t′) l g))
     where
       by : (l : List ℕ) → Gives t′ a′ q (longList t′) l ⊎ Refuses t′ a′ q (longList t′) 12 → (k′ : ℕ) × Finds t′ a′ q k′ (length l) × Writes t′ a′ (q .width) k′ (longList t′) l
       by l (inl g) = given-found t′ a′ q (longList t′) (long-enough t′) l g
@@ -253,7 +253,7 @@ module _ {mode : Mode} (t t′ : Table) (a a′ : Arrays) (b : Built mode t a) (
           by (inl c) = inr (found-short t′ a′ q k′ m h′ out′ c .0)
           by (inr c) =
               let (l′, z, v, g′) = found-written t′ a′ q out′ c k′ m h′ in
-              inl (subst (Writes t′ a′ (q .width) k′ out′) (one l′ g′ (demand .larger mode t t′ a a′ b b′ x x′ s q out out′ l (answered t a q k m h out l w .1))) v)
+              inl (subst (Writes t′ a′ (q .width) k′ out′) (one l′ g′ (demand .larger mode t t′ a a′ b b′ x′ s q out out′ l (answered t a q k m h out l w .1))) v)
             where
               one : (l′ : List ℕ) → Gives t′ a′ q out′ l′ → Gives t′ a′ q out′ l ⊎ Refuses t′ a′ q out′ 12 → l′ ≡ l
               one l′ g′ (inl e) = one-list l′ l out′ (sym g′ ∙ e)

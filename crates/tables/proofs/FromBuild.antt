@@ -1,11 +1,11 @@
--- What a build leaves: a built table of its limits, and an index that is filled from it, where no row refuses, and otherwise what it found. Assumes
--- nothing.
+-- What a build leaves: a built table of its limits, and an index that is filled from it, where no row refuses, and
+-- otherwise what it found. Assumes nothing.
 use mathlib.Core.Path.{_≡_, refl, sym, ap, _∙_, subst}
 use mathlib.Core.Bool.{Bool, true, false}
 use mathlib.Core.List.{List, [], _∷_, map}
 use Prim.Native.Nat.{ℕ, zero, suc, _+_, _-_, _*_, _≤_, _<_}
 use native.Mathlib.Omega.{arith}
-use borrow.Author.Tests.{eqb-true, ne-eqb}
+use borrow.Author.Tests.{eqb-true}
 use lib.Dec.{eqb}
 use lib.ListN.{length, getD, length-map}
 use Rattle.ints.proofs.Bools.{clash}
@@ -17,9 +17,9 @@ use Rattle.walk.specs.Index.{By, scan, indexed}
 use Rattle.walk.proofs.Sequences.{map-at}
 use Rattle.tables.specs.Checks.{firstRow, Limits, limitRows, Arrays, arraysBy, placesOf, roomRow, indexRow, partsRow}
 use Rattle.tables.specs.Tables.{Table, walkOf, recordOf, printsOf, parentsOf, codesOf, filledTo, indexTo, builtTo}
-use Rattle.tables.specs.Tables.{BuildReply, table, refusal, Left, left, buildRows, leftBy, buildOf}
+use Rattle.tables.specs.Tables.{BuildReply, table, refusal, Left, left, buildRows, buildOf}
 use Rattle.tables.specs.Built.{Built, FilledFrom}
-use Rattle.tables.proofs.Rows.{numbered-limits, index-number, first-none, first-past, first-last, firstRow-append, append-none}
+use Rattle.tables.proofs.Rows.{numbered-limits, index-number, NoPositions, no-positions-append, no-positions-index, no-positions-limits, rows-pass, rows-refuse-at-0, first-none, first-past, first-last, firstRow-append, append-none}
 use Rattle.tables.proofs.Accepted.{accepted, roomy, room-is}
 pub use Rattle.tables.proofs.Counts.{walk-count}
 use Rattle.tables.proofs.Filled.{filled-length, filled-at, filled-same}
@@ -97,15 +97,18 @@ filled-record mode l a e = record {
 
 -- ---- a build, by the first row that holds
 
+no-positions-build : (l : Limits) (a : Arrays) → NoPositions (buildRows l a)
+no-positions-build l a = no-positions-append (limitRows l) (roomRow l a ∷ partsRow l a ∷ []) (no-positions-limits l) (refl, no-positions-index l (a .by) (length (a .index)))
+
 -- it is refused by that row's number, and leaves the arrays as they were
 pub build-refusal : (mode : Mode) (l : Limits) (a : Arrays) (r : ℕ) → 0 < r → firstRow (buildRows l a) ≡ r → buildOf mode l a ≡ left (refusal r 0) a
 unfolding buildOf
-build-refusal mode l a r h e = ap (leftBy mode l a) e ∙ rw (ne-eqb r 0 (omega arith))
+build-refusal mode l a = rows-refuse-at-0 (buildRows l a) _ (λ r p. left (refusal r p) a) (no-positions-build l a)
 
 -- there is none: it returns the record, and widths 1 to Q are filled
 pub build-fills : (mode : Mode) (l : Limits) (a : Arrays) → firstRow (buildRows l a) ≡ 0 → buildOf mode l a ≡ left (table (recordOf mode l)) (builtTo mode l (l .qubits) a)
 unfolding buildOf
-build-fills mode l a e = ap (leftBy mode l a) e
+build-fills mode l a = rows-pass (buildRows l a) _ (λ r p. left (refusal r p) a)
 
 -- ---- a build, by what it answered
 

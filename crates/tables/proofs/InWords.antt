@@ -14,7 +14,7 @@ use lib.Dec.{eqb, ltb}
 use lib.Pow.{pow-lt}
 use Rattle.ints.proofs.Bools.{clash, or-right}
 use Rattle.ints.specs.Lists.{pick, range}
-use Rattle.cyclotomic.specs.Zomega.{limit, eqZ}
+use Rattle.coefficients.specs.Coefficients.{limit, eqZ}
 use Rattle.cyclotomic.proofs.Answers.{eqZ-true, eqZ-self}
 use Rattle.circuit.specs.Sets.{supported, subset}
 use Rattle.exact.specs.Matrix.{allDivisible}
@@ -164,7 +164,7 @@ module _ (t : Table) where
     where
       some : (r : ℕ) → first-limit ≡ r → not (eqb r 0) ≡ true → BadRecord t
       some zero e h = clash h refl
-      some (suc r) e h = bad-limits (suc r) 0 (first-to (limits-in-words (t .limits)) (suc r) (omega arith) e)
+      some (suc r) e h = bad-limits (suc r) _ (first-to (limits-in-words (t .limits)) (suc r) (omega arith) e)
 
       to : (not (eqb first-limit 0) ≡ true) ⊎ (any (badCount t) (range 1 5) ≡ true) → BadRecord t
       to (inl e) = some first-limit refl e

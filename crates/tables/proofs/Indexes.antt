@@ -1,5 +1,5 @@
--- The index of a table: where the part of each width lies, that a part filled from a table, damaged or not, leads to the node that the scan finds, and
--- that a fill from a built table leaves what its build leaves. Assumes nothing.
+-- The index of a table: where the part of each width lies, that a part filled from a table, damaged or not, leads to
+-- the node that the scan finds, and that a fill from a built table leaves what its build leaves. Assumes nothing.
 use mathlib.Core.Path.{_≡_, refl, sym, ap, _∙_}
 use mathlib.Core.Bool.{true, false}
 use mathlib.Core.List.{List}
@@ -52,6 +52,10 @@ pub indexed-parts : (l : Limits) (by : By) (places : ℕ) → by ≡ indexed →
 indexed-parts l scan places e h = not-both refl e
 indexed-parts l indexed places e h = not-false _ h
 
+-- the part of a width lies behind those of the widths below it
+part-of : (v n : ℕ) (xs : List ℕ) → partOf (suc v) n xs ≡ take n (drop (v * n) xs)
+part-of v n xs = let e : suc v - 1 ≡ v = omega arith in ap (λ (z : ℕ). take n (drop (z * n) xs)) e
+
 -- ---- parts that go each with some nodes
 
 -- a part that goes with its nodes already
@@ -89,7 +93,9 @@ module _ (l : Limits) (by : By) (prints : ℕ → List ℕ) (count : ℕ → ℕ
   pub all-at : (index : List ℕ) (w : ℕ) → 0 < w → w ≤ l .qubits
       → partOf w (partSize l (length index)) (allKept index) ≡ kept by (prints w) (count w) (partOf w (partSize l (length index)) index)
   all-at index zero p h = absurd (omega arith)
-  all-at index (suc v) p h = let e : suc v - 1 ≡ v = omega arith in rw e (all-part index v (omega arith))
+  all-at index (suc v) p h =
+      part-of v (partSize l (length index)) (allKept index) ∙ all-part index v (omega arith)
+      ∙ ap (kept by (prints (suc v)) (count (suc v))) (sym (part-of v (partSize l (length index)) index))
 
   -- once more changes nothing
   pub all-again : (index : List ℕ) → allKept (allKept index) ≡ allKept index

@@ -1,4 +1,5 @@
--- Arrays that hold the nodes of a width, looked up as by the scan, answer as the width of the build does. Assumes nothing.
+-- Arrays that hold the nodes of a width, looked up as by the scan, answer as the width of the build does. Assumes
+-- nothing.
 use mathlib.Core.Path.{_≡_, refl, sym, ap, _∙_}
 use mathlib.Core.Bool.{Bool, true, false}
 use mathlib.Core.List.{List, _++_}
@@ -55,7 +56,8 @@ module _ (mode : Mode) (limits : WidthLimits) (small : limits .width ≤ 5) wher
     abbrev after : Finding → Outcome
     after g = thenWrite (λ j. writeOf limits part j out) out g
 
-    -- whatever the other places hold, the arrays answer what the width of the build answers: its recheck passes, since a node that answers is equal
+    -- whatever the other places hold, the arrays answer what the width of the build answers: its recheck passes, since
+    -- a node that answers is equal
     pub joined : answerOf limits part x out ≡ toldOption (answered mode (limits .width) (limits .basis) (limits .gates) (limits .entries) x) out
     unfolding answerOf answerBy recheck
     joined = ap after (held-find mode limits small (shape .layered .grown) (shape .limit) part all h x same) ∙ by (ltb k (length ns)) refl

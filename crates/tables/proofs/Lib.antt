@@ -1,5 +1,6 @@
 pub mod Rows
 pub mod Causes
+pub mod Entry
 pub mod InWords
 pub mod Accepted
 pub mod Coefficients
@@ -20,4 +21,3 @@ pub mod EitherLookup
 pub mod Exactly
 pub mod AnswerRule
 pub mod Refused
-pub mod Samples

@@ -1,12 +1,11 @@
 -- Which list is refused, by which row and at which position, exactly. Assumes nothing.
-use mathlib.Core.Path.{_≡_, refl, sym, ap, _∙_, subst}
-use mathlib.Core.Logic.{_↔_, _⊎_, inl, inr}
+use mathlib.Core.Path.{_≡_, refl, sym, ap, _∙_}
+use mathlib.Core.Logic.{_↔_}
 use mathlib.Core.Bool.{Bool, true, false}
 use mathlib.Core.List.{List, [], _∷_}
 use Prim.Native.Nat.{ℕ, zero, suc, _≤_, _<_}
 use native.Mathlib.Omega.{arith}
-use borrow.Author.Tests.{eqb-true, eqb-false, ltb-true, ltb-false}
-use lib.Dec.{eqb, ltb}
+use borrow.Author.Tests.{ltb-true, ltb-false, lt-ltb}
 use lib.IntN.{ℤ}
 use lib.ListN.{length, getD}
 use Rattle.ints.specs.Lists.{pick}
@@ -16,13 +15,12 @@ use Rattle.exact.specs.Lists.{product}
 use Rattle.exact.specs.Fits.{Steps, allFit, unfitAt, steps, FirstPast}
 use Rattle.exact.specs.Answers.{Answer, given, refused}
 use Rattle.exact.proofs.TooLarge.{too-large-exactly, fits-exactly}
-use Rattle.exact.proofs.Answered.{isGiven, number, given-list, refused-list}
-use Rattle.walk.proofs.Sequences.{lt-or}
+use Rattle.exact.proofs.Answered.{isGiven, number}
 use Rattle.tables.specs.Checks.{coefficientCount}
-use Rattle.tables.specs.Lists.{ListOutcome, firstInvalid, coefficients, outcome, listed}
-use Rattle.tables.specs.Exactly.{cause, causeAt, Past, First, NoCause, FirstNotValid, listCauses}
-use Rattle.tables.proofs.Lists.{list-6, list-9, list-7, list-8, list-formed}
-use Rattle.tables.proofs.Causes.{none-first, OneEach, one-first}
+use Rattle.tables.specs.Lists.{ListOutcome, firstInvalid, coefficients, outcome, validRow, fitRow, listedRows, listed}
+use Rattle.tables.specs.Exactly.{causeAt, NoCause, FirstNotValid, listCauses, RefusedWhere}
+use Rattle.tables.proofs.Causes.{is-lt, is-eq, is-not, DecidesAt, at-0, InWords, done, more-at, more}
+use Rattle.tables.proofs.Entry.{Entry, refused-where, not-refused, done-where}
 
 -- the first code that is not valid
 module _ (n : ℕ) where
@@ -42,7 +40,7 @@ module _ (n : ℕ) where
       by true v q f = one-before g l (firstInvalid n l) v (f (omega arith))
       by false v q f = record { inside = omega arith; before = λ j p. absurd (omega arith); not-valid = v }
 
-  is-first : (l : List ℕ) (p : ℕ) → FirstNotValid n l p → firstInvalid n l ≡ p
+  pub is-first : (l : List ℕ) (p : ℕ) → FirstNotValid n l p → firstInvalid n l ≡ p
   is-first [] p w = absurd (omega (arith, w .inside))
   is-first (g ∷ l) zero w = let v = w .not-valid in rw v
   is-first (g ∷ l) (suc p) w =
@@ -53,86 +51,59 @@ abbrev numberOf : Answer → ℕ
 numberOf (given k) = 0
 numberOf (refused r p) = r
 
+-- row 7 and row 8 in words, at their positions; of 8 where the width is up to 5
+is-valid-row : (n : ℕ) (codes : List ℕ) → DecidesAt (FirstNotValid n codes) (validRow n codes .holds) (firstInvalid n codes)
+is-valid-row n codes = record {
+  to = λ e. not-valid-at n codes (ltb-true (firstInvalid n codes) (length codes) e);
+  from = λ p w. let z = is-first n codes p w in (lt-ltb (firstInvalid n codes) (length codes) (omega (arith, z, w .inside)), sym z);
+}
+
+unfit-is : {i j : ℕ} → unfitAt i ≡ unfitAt j → i ≡ j
+unfit-is e = ap position e
+  where
+    position : Steps → ℕ
+    position allFit = 0
+    position (unfitAt i) = i
+
+fit-in-words : (n : ℕ) (codes : List ℕ) → n ≤ 5 → (s : Steps) → steps n codes ≡ s → InWords (fitRow s ∷ []) (causeAt 8 (FirstPast n codes) ∷ [])
+fit-in-words n codes h allFit e =
+    more-at {C = FirstPast n codes} 8 (omega arith) (record { to = λ b. clash b refl; from = λ p (w : FirstPast n codes p). clash (fits-exactly n h codes .0 e p (w .inside)) (w .past) }) (λ b. done)
+fit-in-words n codes h (unfitAt i) e =
+    more-at {C = FirstPast n codes} 8 (omega arith)
+    (record { to = λ b. too-large-exactly n h codes i .0 e; from = λ p (w : FirstPast n codes p). (refl, unfit-is (sym (too-large-exactly n h codes p .1 w) ∙ e)) }) (λ b. done)
+
 module _ (n : ℕ) (codes : List ℕ) (numbers : List ℤ) where
-  -- the answer, with the row that is the first
-  data ListEnded : Type 0 where
-    at-row : (r p : ℕ) → First r p (listCauses n codes numbers) → outcome (refused r p) numbers ≡ listed n codes numbers → ListEnded
-    at-end : NoCause (listCauses n codes numbers) → outcome (given (product n codes .k)) (coefficients n (product n codes)) ≡ listed n codes numbers → ListEnded
+  list-in-words : InWords (listedRows n codes numbers) (listCauses n codes numbers)
+  list-in-words =
+      more-at 6 (omega arith) (at-0 (is-lt 5 n)) (λ h. more 9 (omega arith) (is-not (is-eq (length numbers) (coefficientCount n)))
+      (more-at 7 (omega arith) (is-valid-row n codes) (λ b. fit-in-words n codes (ltb-false 5 n h) (steps n codes) refl)))
 
-  module _ (h : n ≤ 5) where
-    not-wide : Past (cause 6 (5 < n))
-    not-wide p x = absurd (omega (arith, x .0))
+  -- what is told of an accepted list is no refusal
+  apart : (r p : ℕ) (m : List ℤ) → outcome (given (product n codes .k)) (coefficients n (product n codes)) ≡ outcome (refused r p) m → ⊥
+  apart r p m e = clash refl (ap (λ (o : ListOutcome). isGiven (o .answer)) e)
 
-    module _ (c : length numbers ≡ coefficientCount n) where
-      not-other : Past (cause 9 (length numbers ≡ coefficientCount n → ⊥))
-      not-other p x = x .0 c
+  entry : Entry (listed n codes numbers) (outcome (given (product n codes .k)) (coefficients n (product n codes))) (λ r p m. outcome (refused r p) m) numbers
+      (listedRows n codes numbers) []
+  unfolding listed
+  entry = record {
+    is = refl;
+    same = λ r p s q m o e. (
+      ap (λ (z : ListOutcome). numberOf (z .answer)) e,
+      ap (λ (z : ListOutcome). number (z .answer)) e,
+      ap (λ (z : ListOutcome). z .numbers) e,
+    );
+    later = λ f r p m. (λ e. absurd (apart r p m e), λ y. absurd (y .0));
+  }
 
-      module _ (q : length codes ≤ firstInvalid n codes) where
-        all-good : Past (causeAt 7 (FirstNotValid n codes))
-        all-good p w = absurd (omega (arith, is-first n codes p w, w .inside))
-
-        stepped : (s : Steps) → steps n codes ≡ s → ListEnded
-        stepped allFit x =
-            at-end (not-wide, (not-other, (all-good, ((λ p w. clash (fits-exactly n h codes .0 x p (w .inside)) (w .past)), tt))))
-            (list-formed n codes numbers h c q (product n codes .k) (given-list n codes x refl))
-        stepped (unfitAt i) x =
-            at-row 8 i (inr (not-wide, inr (not-other, inr (all-good, inl (refl, too-large-exactly n h codes i .0 x)))))
-            (list-8 n codes numbers h c q i (refused-list n codes x))
-
-      coded : (b : Bool) → ltb (firstInvalid n codes) (length codes) ≡ b → ListEnded
-      coded true x =
-          let q = ltb-true (firstInvalid n codes) (length codes) x in
-          at-row 7 (firstInvalid n codes) (inr (not-wide, inr (not-other, inl (refl, not-valid-at n codes q)))) (list-7 n codes numbers h c q)
-      coded false x = stepped (ltb-false (firstInvalid n codes) (length codes) x) (steps n codes) refl
-
-    sized : (b : Bool) → eqb (length numbers) (coefficientCount n) ≡ b → ListEnded
-    sized true x = coded (eqb-true (length numbers) (coefficientCount n) x) (ltb (firstInvalid n codes) (length codes)) refl
-    sized false x =
-        let c = eqb-false (length numbers) (coefficientCount n) x in
-        at-row 9 0 (inr (not-wide, inl (refl, (c, refl)))) (list-9 n codes numbers h c)
-
-  wide : (b : Bool) → ltb 5 n ≡ b → ListEnded
-  wide true x = let h = ltb-true 5 n x in at-row 6 0 (inl (refl, (h, refl))) (list-6 n codes numbers h)
-  wide false x = sized (ltb-false 5 n x) (eqb (length numbers) (coefficientCount n)) refl
-
-  -- each row holds at one position at most
-  one-past : (p q : ℕ) → FirstPast n codes p → FirstPast n codes q → p ≡ q
-  one-past p q v w = by (lt-or p q) (lt-or q p)
-    where
-      by : (p < q) ⊎ (q ≤ p) → (q < p) ⊎ (p ≤ q) → p ≡ q
-      by (inl h) u = clash (w .before p h) (v .past)
-      by (inr h) (inl k) = clash (v .before q k) (w .past)
-      by (inr h) (inr k) = omega arith
-
-  one-each : OneEach (listCauses n codes numbers)
-  one-each =
-      ((λ p q x y. x .1 ∙ sym (y .1)), ((λ p q x y. x .1 ∙ sym (y .1)), ((λ p q x y. sym (is-first n codes p x) ∙ is-first n codes q y), (one-past, tt))))
-
-  pub list : (after : List ℤ) (r p : ℕ) → (listed n codes numbers ≡ outcome (refused r p) after) ↔ (First r p (listCauses n codes numbers) × (after ≡ numbers))
-  list after r p = (λ x. to x (wide (ltb 5 n) refl), λ x. from (wide (ltb 5 n) refl) (x .0) (x .1))
-    where
-      to : listed n codes numbers ≡ outcome (refused r p) after → ListEnded → First r p (listCauses n codes numbers) × (after ≡ numbers)
-      to x (at-row s j f y) =
-          let z = y ∙ x in (
-            subst (λ (i : ℕ). First r i (listCauses n codes numbers)) (ap (λ (o : ListOutcome). number (o .answer)) z)
-                (subst (λ (i : ℕ). First i j (listCauses n codes numbers)) (ap (λ (o : ListOutcome). numberOf (o .answer)) z) f),
-            sym (ap (λ (o : ListOutcome). o .numbers) z),
-          )
-      to x (at-end f y) = clash refl (ap (λ (o : ListOutcome). isGiven (o .answer)) (y ∙ x))
-
-      from : ListEnded → First r p (listCauses n codes numbers) → after ≡ numbers → listed n codes numbers ≡ outcome (refused r p) after
-      from (at-row s j g y) f z =
-          let u = one-first (listCauses n codes numbers) one-each s j r p g f in
-          sym y ∙ (λ k. outcome (refused (u .0 k) (u .1 k)) (sym z k))
-      from (at-end g y) f z = absurd (none-first (listCauses n codes numbers) r p g f)
+  pub list : RefusedWhere (listed n codes numbers) (λ r p m. outcome (refused r p) m) numbers (listCauses n codes numbers)
+  list = refused-where entry list-in-words
 
   pub formed : (listed n codes numbers ≡ outcome (given (product n codes .k)) (coefficients n (product n codes))) ↔ NoCause (listCauses n codes numbers)
-  formed = (λ x. to x (wide (ltb 5 n) refl), λ x. from x (wide (ltb 5 n) refl))
-    where
-      to : listed n codes numbers ≡ outcome (given (product n codes .k)) (coefficients n (product n codes)) → ListEnded → NoCause (listCauses n codes numbers)
-      to x (at-row s j f y) = clash (ap (λ (o : ListOutcome). isGiven (o .answer)) (y ∙ x)) refl
-      to x (at-end f y) = f
+  formed = done-where entry list-in-words apart
 
-      from : NoCause (listCauses n codes numbers) → ListEnded → listed n codes numbers ≡ outcome (given (product n codes .k)) (coefficients n (product n codes))
-      from x (at-row s j f y) = absurd (none-first (listCauses n codes numbers) s j x f)
-      from x (at-end f y) = sym y
+  -- an accepted list: no row holds, and its product is told
+  pub accepted : (k : ℕ) (after : List ℤ) → listed n codes numbers ≡ outcome (given k) after
+      → NoCause (listCauses n codes numbers) × (product n codes .k ≡ k) × (coefficients n (product n codes) ≡ after)
+  accepted k after e =
+      let (x, y) = not-refused entry list-in-words (λ r p m z. clash refl (ap (λ (o : ListOutcome). isGiven (o .answer)) (sym e ∙ z))) in
+      (y, ap (λ (o : ListOutcome). number (o .answer)) (sym x ∙ e), ap (λ (o : ListOutcome). o .numbers) (sym x ∙ e))

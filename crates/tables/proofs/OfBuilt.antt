@@ -1,5 +1,5 @@
--- What a built table answers: rows 13 and 5 do not refuse it, and a width that it has answers as the walk does, where its index was filled from it.
--- Assumes nothing.
+-- What a built table answers: rows 13 and 5 do not refuse it, and a width that it has answers as the walk does, where
+-- its index was filled from it. Assumes nothing.
 use mathlib.Core.Path.{_≡_, refl, sym, ap, _∙_}
 use mathlib.Core.Bool.{false}
 use mathlib.Core.List.{List, [], _∷_, _++_, reverse}
@@ -14,30 +14,32 @@ use Rattle.exact.specs.Places.{read, held}
 use Rattle.walk.specs.Walk.{listAt}
 use Rattle.walk.specs.Modes.{Mode}
 use Rattle.walk.specs.AtWidth.{atWidth}
+use Rattle.walk.specs.Index.{By, scan}
 use Rattle.walk.specs.Chains.{good}
 use Rattle.walk.specs.Finds.{chainAt}
 use Rattle.walk.specs.Meaning.{BadFound}
 use Rattle.walk.proofs.Nodewise.{answered}
 use Rattle.walk.proofs.Grown.{Shape}
 use Rattle.walk.proofs.Layers.{walk-shape}
-use Rattle.walk.proofs.Holding.{Holding, held-chain, not-bad}
+use Rattle.walk.proofs.Holding.{Holding, held-chain, not-bad, given-held}
 use Rattle.walk.specs.Answers.{given, refused, outcome, answerOf}
 use Rattle.walk.specs.Answers as a
 use Rattle.walk.proofs.Meaning.{kind-of, at-below}
-use Rattle.tables.specs.Checks.{firstRow, Arrays, roomRow, partsRow, queryRows}
+use Rattle.tables.specs.Checks.{firstRow, Arrays, roomRow, indexRow, partsRow, queryRows}
 use Rattle.tables.specs.Tables.{Table, Width, widthAt, walkOf, Query, query, matrixOf, recordRow, listRow, partOf, notAWidth, synthesized, limitsAt, partAt}
 use Rattle.tables.specs.Built.{Built, FilledFrom}
+use Rattle.tables.specs.EitherLookup.{scanned}
 use Rattle.tables.specs.Demand3.{Gives}
 use Rattle.tables.proofs.Rows.{index-number, first-number, first-past}
 use Rattle.tables.proofs.Causes.{is-true, fails, none-to}
-use Rattle.tables.proofs.InWords.{query-in-words}
+use Rattle.tables.proofs.InWords.{not-both, query-in-words}
 use Rattle.tables.proofs.Accepted.{accepted}
 pub use Rattle.tables.proofs.Counts.{has-width, a-width, counted}
 use Rattle.tables.proofs.Counts.{walk-count, count-at, width-is, good-record}
 use Rattle.tables.proofs.Indexes.{looks-scan}
 use Rattle.tables.proofs.Asked.{passed, good-look, look-passed}
 use Rattle.tables.proofs.Joined.{toldOption, joined}
-use Rattle.tables.proofs.Replies.{not-given, one-list, rowOfAnswer, width-asked, gives-asked}
+use Rattle.tables.proofs.Replies.{not-given, one-list, rowOfAnswer, width-asked, gives-asked, gives-answers}
 
 -- ---- a query that no row refuses
 
@@ -80,6 +82,13 @@ told-none (some m) out e = not-given (omega arith) (sym e)
 pub not-refusal : (o : Option (List ℕ)) (r : ℕ) (out : List ℕ) → toldOption o out ≡ outcome (refused r 0) out → ⊥
 not-refusal none r out e = absurd (omega (arith, kind-of e))
 not-refusal (some l) r out e = absurd (omega (arith, kind-of e))
+
+-- by the scan nothing is asked of an index
+pub scan-filled : (t : Table) (a : Arrays) → a .by ≡ scan → FilledFrom t a
+scan-filled t a e = record {
+  parts = ap (λ (y : By). indexRow (t .limits) y (length (a .index)) .holds) e;
+  is = λ h. not-both e h;
+}
 
 -- ---- a built table
 
@@ -155,8 +164,31 @@ module _ {mode : Mode} (t : Table) (a : Arrays) (b : Built mode t a) where
     pub told-walk : FilledFrom t a → rowOfAnswer t a q out ≡ 0 → notAWidth t (q .width) ≡ false → synthesized t a q out ≡ toldOption (answered mode (q .width) B G E (matrixOf q)) out
     told-walk x e f = let w = a-width t (q .width) f in width-asked t a q out e f ∙ part-answers (q .width) (w .0) (w .1) x (matrixOf q) out
 
-    -- a list is the walk's
-    pub gives-walk : FilledFrom t a → (l : List ℕ) → Gives t a q out l → answered mode (q .width) B G E (matrixOf q) ≡ some l
-    gives-walk x l g =
-        let (e, f, p) = gives-asked t a q out l g in
-        told-some (answered mode (q .width) B G E (matrixOf q)) out l (sym (told-walk x e f) ∙ g)
+    -- a list is the walk's, whatever the index holds
+    pub gives-walk : (l : List ℕ) → Gives t a q out l → answered mode (q .width) B G E (matrixOf q) ≡ some l
+    gives-walk l g =
+        let (e, f, z) = gives-asked t a q out l g in
+        let (p, h) = a-width t (q .width) f in
+        let s = shape (q .width) p h in
+        let r = gives-answers t a q out l g in
+        given-held mode (limitsAt (t .limits) (q .width)) (widths-small (q .width) h) (s .layered .grown) (s .limit) (partAt t a (q .width))
+        (count-at t a b (q .width) p h) (holding (q .width) p h) (matrixOf q)
+        (asked-lowest (q .width) (q .exponent) (q .numbers) (query-passed t a q out e)) (r .node) l (r .found)
+
+-- the arrays alone are the table: it is built by the scan too
+scan-built : {mode : Mode} (t : Table) (a : Arrays) → Built mode t a → Built mode t (scanned a)
+scan-built t a b = record {
+  accepted = b .accepted;
+  returned = b .returned;
+  room = b .room;
+  nodes = λ w p h j l. let n = b .nodes w p h j l in record { print = n .print; parent = n .parent; code = n .code };
+}
+
+-- a list that is given through any index is given by the scan
+pub scan-gives : {mode : Mode} (t : Table) (a : Arrays) → Built mode t a → (q : Query) (out l : List ℕ) → Gives t a q out l → Gives t (scanned a) q out l
+scan-gives t a b q out l g =
+    let (e, f, z) = gives-asked t a q out l g in
+    let parts = good-look t (a .by) a _ (passed t a q out e .0) .2 in
+    told-walk t (scanned a) (scan-built t a b) q out (scan-filled t (scanned a) refl)
+    (rows-are t (scanned a) (scan-built t a b) refl q out ∙ sym (rows-are t a b parts q out) ∙ e) f
+    ∙ ap (λ (o : Option (List ℕ)). toldOption o out) (gives-walk t a b q out l g)

@@ -1,5 +1,5 @@
 -- Where a lent table answers none and where a list, and which rows refuse of a built one, exactly. Assumes nothing.
-use mathlib.Core.Path.{_≡_, refl, sym, ap, _∙_}
+use mathlib.Core.Path.{_≡_, refl, sym, ap, _∙_, subst}
 use mathlib.Core.Logic.{_↔_, _⊎_, inl, inr}
 use mathlib.Core.Bool.{true, false}
 use mathlib.Core.List.{List, [], _∷_, _++_}
@@ -10,11 +10,12 @@ use Rattle.walk.specs.Modes.{Mode}
 use Rattle.walk.specs.Answers.{refused, outcome}
 use Rattle.walk.specs.Meaning.{AnsweredBy, NoList, BadFound}
 use Rattle.walk.proofs.Meaning.{kind-of}
-use Rattle.tables.specs.Checks.{firstRow, Arrays, partsRow, queryRows}
+use Rattle.tables.specs.Checks.{Row, firstRow, Arrays, partsRow, queryRows}
 use Rattle.tables.specs.Tables.{Table, Query, matrixOf, listRow, notAWidth, limitsAt, partAt}
 use Rattle.tables.specs.Built.{Built}
 use Rattle.tables.specs.Demand3.{Gives, GivesNone, Refuses, NotRefused}
 use Rattle.tables.specs.Exactly.{cause, First, queryCauses}
+use Rattle.tables.proofs.Rows.{NoPositions, first-position, no-positions-append, no-positions-query}
 use Rattle.tables.proofs.Causes.{is-lt, InWords, done, more, words-append, first-to, first-from}
 use Rattle.tables.proofs.InWords.{query-in-words}
 use Rattle.tables.proofs.Replies.{number-of, rowOfAnswer, ReplyCase, not-a-width, part-asked, by-row, row-refuses, width-none, width-asked, cases}
@@ -74,11 +75,17 @@ module _ (t : Table) (a : Arrays) (q : Query) (out : List ℕ) where
 
   pub refused-built : {mode : Mode} → Built mode t a → partsRow (t .limits) a .holds ≡ false → (r : ℕ) → Refuses t a q out r ↔ First r 0 (queryCauses q ++ (cause 12 (length out < t .limits .gates) ∷ []))
   refused-built {mode} b i r = (
-    (λ n. let (h, e) = to n (refused-by r n) in first-to words r h (sym (rows-are t a b i q out) ∙ e)),
+    (λ n. let (h, e) = to n (refused-by r n) in subst (λ (p : ℕ). First r p (queryCauses q ++ (cause 12 (length out < t .limits .gates) ∷ []))) (first-position rows none) (first-to words r h (sym (rows-are t a b i q out) ∙ e))),
     (λ w. let (e, h, z) = first-from words r 0 w in row-refuses t a q out r h (rows-are t a b i q out ∙ e)),
   )
     where
-      words : InWords (queryRows (q .width) (q .exponent) (q .numbers) ++ (listRow t out ∷ [])) (queryCauses q ++ (cause 12 (length out < t .limits .gates) ∷ []))
+      rows : List Row
+      rows = queryRows (q .width) (q .exponent) (q .numbers) ++ (listRow t out ∷ [])
+
+      none : NoPositions rows
+      none = no-positions-append (queryRows (q .width) (q .exponent) (q .numbers)) (listRow t out ∷ []) (no-positions-query (q .width) (q .exponent) (q .numbers)) (refl, tt)
+
+      words : InWords rows (queryCauses q ++ (cause 12 (length out < t .limits .gates) ∷ []))
       words = words-append (query-in-words q) (more 12 (omega arith) (is-lt (length out) (t .limits .gates)) done)
 
       to : Refuses t a q out r → Refusal r → (0 < r) × (rowOfAnswer t a q out ≡ r)

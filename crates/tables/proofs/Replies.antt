@@ -1,5 +1,5 @@
--- The answer of a lent table by its cases, whatever the memory holds: refused by the first row that holds, none for a width that there is not,
--- and otherwise what the part of the width answers. Assumes nothing.
+-- The answer of a lent table by its cases, whatever the memory holds: refused by the first row that holds, none for a
+-- width that there is not, and otherwise what the part of the width answers. Assumes nothing.
 use mathlib.Core.Path.{_≡_, refl, sym, ap, _∙_, subst}
 use mathlib.Core.Bool.{Bool, true, false}
 use mathlib.Core.List.{List, _++_}

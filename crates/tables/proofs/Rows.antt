@@ -1,20 +1,26 @@
--- Laws of the first row whose condition holds. Assumes nothing.
-use mathlib.Core.Path.{_≡_, refl, _∙_}
+-- Laws of the first row whose condition holds, and of an entry by its rows. Assumes nothing.
+use mathlib.Core.Path.{_≡_, refl, ap, _∙_}
 use mathlib.Core.Bool.{true, false}
 use mathlib.Core.List.{List, [], _∷_, _++_}
 use Prim.Native.Nat.{ℕ, _<_}
 use native.Mathlib.Omega.{arith}
+use borrow.Author.Tests.{ne-eqb}
 use lib.IntN.{ℤ}
+use lib.Dec.{eqb}
+use Rattle.ints.specs.Lists.{pick}
 use Rattle.exact.proofs.Values.{pick-ind}
 use Rattle.walk.specs.Index.{By, scan, indexed}
-use Rattle.tables.specs.Checks.{Row, firstRow, Limits, limitRows, indexRow, queryRows}
+use Rattle.tables.specs.Checks.{Row, firstRow, firstPosition, byRows, Limits, limitRows, indexRow, queryRows}
 
--- ---- numbers of rows
+-- ---- what is so of every row
+
+abbrev pub Each : (Row → Type 0) → List Row → Type 0
+Each P [] = Unit {0}
+Each P (r ∷ rs) = P r × Each P rs
 
 -- P is so of every row's number
 abbrev pub Numbers : (ℕ → Type 0) → List Row → Type 0
-Numbers P [] = Unit {0}
-Numbers P (r ∷ rs) = P (r .number) × Numbers P rs
+Numbers P = Each (λ r. P (r .number))
 
 -- then of the first's that holds, if it is so of 0 too
 pub first-number : (P : ℕ → Type 0) (rs : List Row) → P 0 → Numbers P rs → P (firstRow rs)
@@ -36,6 +42,43 @@ numbered-query n k numbers = (omega arith, (omega arith, (omega arith, (omega ar
 pub index-number : (l : Limits) (by : By) (places : ℕ) → indexRow l by places .number ≡ 17
 index-number l scan places = refl
 index-number l indexed places = refl
+
+-- every row tells no position; then the first that holds tells none
+abbrev pub NoPositions : List Row → Type 0
+NoPositions = Each (λ r. r .position ≡ 0)
+
+pub first-position : (rs : List Row) → NoPositions rs → firstPosition rs ≡ 0
+first-position [] u = refl
+first-position (r ∷ rs) u = pick-ind (λ (p : ℕ). p ≡ 0) (r .holds) (λ e. u .0) (λ e. first-position rs (u .1))
+
+pub no-positions-append : (rs ss : List Row) → NoPositions rs → NoPositions ss → NoPositions (rs ++ ss)
+no-positions-append [] ss u v = v
+no-positions-append (r ∷ rs) ss u v = (u .0, no-positions-append rs ss (u .1) v)
+
+pub no-positions-index : (l : Limits) (by : By) (places : ℕ) → NoPositions (indexRow l by places ∷ [])
+no-positions-index l scan places = (refl, tt)
+no-positions-index l indexed places = (refl, tt)
+
+pub no-positions-limits : (l : Limits) → NoPositions (limitRows l)
+no-positions-limits l = (refl, (refl, (refl, (refl, tt))))
+
+pub no-positions-query : (n k : ℕ) (numbers : List ℤ) → NoPositions (queryRows n k numbers)
+no-positions-query n k numbers = (refl, (refl, (refl, (refl, tt))))
+
+-- ---- an entry, by its rows
+
+module _ {A : Type 0} (rs : List Row) (asked : A) (refuse : ℕ → ℕ → A) where
+  -- none holds
+  pub rows-pass : firstRow rs ≡ 0 → byRows rs asked refuse ≡ asked
+  rows-pass e = ap (λ (r : ℕ). pick (eqb r 0) asked (refuse r (firstPosition rs))) e
+
+  -- the first that holds refuses
+  pub rows-refuse : (r : ℕ) → 0 < r → firstRow rs ≡ r → byRows rs asked refuse ≡ refuse r (firstPosition rs)
+  rows-refuse r h e = ap (λ (r : ℕ). pick (eqb r 0) asked (refuse r (firstPosition rs))) e ∙ rw (ne-eqb r 0 (omega arith))
+
+  -- at no position, where none is told
+  pub rows-refuse-at-0 : NoPositions rs → (r : ℕ) → 0 < r → firstRow rs ≡ r → byRows rs asked refuse ≡ refuse r 0
+  rows-refuse-at-0 u r h e = rows-refuse r h e ∙ ap (refuse r) (first-position rs u)
 
 -- ---- one row and the rest
 

@@ -1,7 +1,8 @@
--- Which input is refused, by which number and at which position, exactly (SPECIFICATION 9.1 to 9.3): the rows of each public entry in words,
--- in their order; a build, a fill, a find, a write, an answer and a list are refused by a row exactly where it holds and none before it does. The rows
--- are told again here, as what is so and not as a test, so that the tests of Checks, Tables and Lists are checked against them. Tests of the
--- lower floors, as `subset`, `valid` and `allDivisible`, are taken as they are. Assumes nothing.
+-- Which input is refused, by which number and at which position, exactly (SPECIFICATION 9.1 to 9.3): the rows of each
+-- public entry in words, in their order; a build, a fill, a find, a write, an answer and a list are refused by a row
+-- exactly where it holds and none before it does. The rows are told again here, as what is so and not as a test, so
+-- that the tests of Checks, Tables and Lists are checked against them. Tests of lower crates, as `subset`, `valid` and
+-- `allDivisible`, are taken as they are. Assumes nothing.
 use mathlib.Core.Path.{_≡_}
 use mathlib.Core.Logic.{_↔_, _⊎_}
 use mathlib.Core.Bool.{true, false}
@@ -9,7 +10,7 @@ use mathlib.Core.List.{List, [], _∷_, _++_}
 use Prim.Native.Nat.{ℕ, _*_, _^_, _≤_, _<_}
 use lib.IntN.{ℤ, pos, negsuc}
 use lib.ListN.{length, getD}
-use Rattle.cyclotomic.specs.Zomega.{limit}
+use Rattle.coefficients.specs.Coefficients.{limit}
 use Rattle.circuit.specs.Sets.{supported, subset}
 use Rattle.circuit.specs.Codes.{valid}
 use Rattle.exact.specs.Matrix.{allDivisible}
@@ -161,19 +162,23 @@ listCauses n codes numbers =
 
 -- ---- exactly
 
--- a refusal is told exactly where its row is the first that holds, at that position, and leaves lent memory as it was; and where no row holds,
--- the build or the list does what was asked
+-- what an entry comes to is the refusal by r at p, with m in lent memory, exactly where the row of r is the first that
+-- holds, at p, and m is what was lent
+abbrev pub RefusedWhere : {A M : Type 0} → A → (ℕ → ℕ → M → A) → M → List Cause → Type 0
+RefusedWhere {A} {M} x refuse lent causes = (m : M) (r p : ℕ) → (x ≡ refuse r p m) ↔ (First r p causes × (m ≡ lent))
+
+-- so it is with every entry; and where no row holds, a build, a fill and a list do what was asked
 pub record Exactly : Type 0 where
-  pub build : (mode : Mode) (l : Limits) (a b : Arrays) (r p : ℕ) → (buildOf mode l a ≡ left (refusal r p) b) ↔ (First r p (buildCauses l a) × (b ≡ a))
+  pub build : (mode : Mode) (l : Limits) (a : Arrays) → RefusedWhere (buildOf mode l a) (λ r p b. left (refusal r p) b) a (buildCauses l a)
   pub built : (mode : Mode) (l : Limits) (a : Arrays) → (buildOf mode l a ≡ left (table (recordOf mode l)) (builtTo mode l (l .qubits) a)) ↔ NoCause (buildCauses l a)
-  pub fill : (t : Table) (a : Arrays) (i : List ℕ) (r p : ℕ) → (fillOf t a ≡ fillLeft (not-filled r p) i) ↔ (First r p (lookCauses t indexed a) × (i ≡ a .index))
+  pub fill : (t : Table) (a : Arrays) → RefusedWhere (fillOf t a) (λ r p i. fillLeft (not-filled r p) i) (a .index) (lookCauses t indexed a)
   pub fills : (t : Table) (a : Arrays) → (fillOf t a ≡ fillLeft filled (filledIndex t a)) ↔ NoCause (lookCauses t indexed a)
-  pub answer : (t : Table) (a : Arrays) (q : Query) (out after : List ℕ) (r p : ℕ)
-      → (synthesized t a q out ≡ outcome (refused r p) after) ↔ (First r p (answerCauses t a q out) × (after ≡ out))
+  pub answer : (t : Table) (a : Arrays) (q : Query) (out : List ℕ)
+      → RefusedWhere (synthesized t a q out) (λ r p after. outcome (refused r p) after) out (answerCauses t a q out)
   pub find : (t : Table) (a : Arrays) (q : Query) (r p : ℕ) → (foundIn t a q ≡ f.refused r p) ↔ First r p (findCauses t a q)
-  pub write : (t : Table) (a : Arrays) (w k : ℕ) (out after : List ℕ) (r p : ℕ)
-      → (writtenIn t a w k out ≡ outcome (refused r p) after) ↔ (First r p (writeCauses t a w k out) × (after ≡ out))
-  pub list : (n : ℕ) (codes : List ℕ) (numbers after : List ℤ) (r p : ℕ)
-      → (listed n codes numbers ≡ lists.outcome (e.refused r p) after) ↔ (First r p (listCauses n codes numbers) × (after ≡ numbers))
+  pub write : (t : Table) (a : Arrays) (w k : ℕ) (out : List ℕ)
+      → RefusedWhere (writtenIn t a w k out) (λ r p after. outcome (refused r p) after) out (writeCauses t a w k out)
+  pub list : (n : ℕ) (codes : List ℕ) (numbers : List ℤ)
+      → RefusedWhere (listed n codes numbers) (λ r p after. lists.outcome (e.refused r p) after) numbers (listCauses n codes numbers)
   pub formed : (n : ℕ) (codes : List ℕ) (numbers : List ℤ)
       → (listed n codes numbers ≡ lists.outcome (e.given (product n codes .k)) (coefficients n (product n codes))) ↔ NoCause (listCauses n codes numbers)

@@ -1,5 +1,6 @@
--- A find and a write of a lent table beside its answer, and demand 3 of them (SPECIFICATION 7.10 to 7.12): what is found is written, with the list
--- that is answered, so that it is right, the same in larger tables and shortest; and none is found where none is answered. Assumes nothing.
+-- A find and a write of a lent table beside its answer, and demand 3 of them (SPECIFICATION 7.10 to 7.12): what is
+-- found is written, with the list that is answered, so that it is right, the same in larger tables and shortest; and
+-- none is found where none is answered. Assumes nothing.
 use mathlib.Core.Path.{_≡_}
 use mathlib.Core.Logic.{_↔_, _⊎_}
 use mathlib.Core.Bool.{false}
@@ -39,7 +40,8 @@ module _ (t : Table) (a : Arrays) (q : Query) where
     no-node : FindsNone → FindDecided
     a-refusal : (r : ℕ) → FindRefuses r → FindDecided
 
-  -- as `Complete` of an answer: no list that reaches the matrix has fewer gates than the node found; none exactly where no list within the limit does
+  -- as `Complete` of an answer: no list that reaches the matrix has fewer gates than the node found; none exactly where
+  -- no list within the limit does
   pub record FindComplete : Type 0 where
     pub shortest : (k m : ℕ) → Finds k m → (l : List ℕ) → Reaches t q l → m ≤ length l
     pub none-exactly : 0 < q .width → q .width ≤ t .limits .qubits → widthAt t (q .width) .saturated ≡ false → ((r : ℕ) → FindRefuses r → ⊥)
@@ -81,8 +83,9 @@ pub record FindWrite : Type 0 where
   pub right : (t : Table) (a : Arrays) (q : Query) (k m : ℕ) → Finds t a q k m → (out l : List ℕ) → Writes t a (q .width) k out l
       → (length l ≡ m) × PowerOf (q .width) (matrixOf q) (product (q .width) l) × ListOf (q .width) (t .limits .basis) l × (length l ≤ t .limits .gates)
   pub unitary : (t : Table) (a : Arrays) (q : Query) (k m : ℕ) → Finds t a q k m → Unitary (q .width) (matrixOf q)
-  -- of built tables of one mode: a larger one finds a node too, of as many gates, and its write gives the same list or is refused by 12
-  pub larger : (mode : Mode) (t t′ : Table) (a a′ : Arrays) → Built mode t a → Built mode t′ a′ → FilledFrom t a → FilledFrom t′ a′ → NoSmaller (t .limits) (t′ .limits)
+  -- of built tables of one mode: a larger one finds a node too, of as many gates, and its write gives the same list or
+  -- is refused by 12
+  pub larger : (mode : Mode) (t t′ : Table) (a a′ : Arrays) → Built mode t a → Built mode t′ a′ → FilledFrom t′ a′ → NoSmaller (t .limits) (t′ .limits)
       → (q : Query) (k m : ℕ) → Finds t a q k m → (k′ : ℕ) × Finds t′ a′ q k′ m
       × ((out out′ l : List ℕ) → Writes t a (q .width) k out l → Writes t′ a′ (q .width) k′ out′ l ⊎ WriteRefuses t′ a′ (q .width) k′ out′ 12)
   -- wherever an answer is shortest and none means that there is no list, so it is with a find

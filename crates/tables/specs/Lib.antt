@@ -8,5 +8,4 @@ pub mod Lists
 pub mod Demand2
 pub mod Exactly
 pub mod AnswerRule
-pub mod Samples
 pub mod Beside

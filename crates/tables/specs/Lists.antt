@@ -1,6 +1,6 @@
--- What a list becomes, for every input: its exponent, or the refusal's number and position, and what the lent places then hold. The contract of
--- `library_circuit_matrix` is this definition (SPECIFICATION, chapter 4). Assumes nothing.
-use mathlib.Core.Bool.{not}
+-- What a list becomes, for every input: its exponent, or the refusal's number and position, and what the lent places
+-- then hold. The contract of `library_circuit_matrix` is this definition (SPECIFICATION, chapter 4). Assumes nothing.
+use mathlib.Core.Bool.{false, true}
 use mathlib.Core.List.{List, [], _∷_}
 use Prim.Native.Nat.{ℕ, zero, suc, _*_, _^_}
 use lib.IntN.{ℤ}
@@ -11,9 +11,10 @@ use Rattle.cyclotomic.specs.Zomega.{Zω}
 use Rattle.circuit.specs.Codes.{valid}
 use Rattle.exact.specs.Matrix.{Exact}
 use Rattle.exact.specs.Lists.{product}
-use Rattle.exact.specs.Answers.{Answer, given, refused, listAnswer}
+use Rattle.exact.specs.Fits.{Steps, allFit, unfitAt, steps}
+use Rattle.exact.specs.Answers.{Answer, given, refused}
 use Rattle.exact.specs.Phase.{flat}
-use Rattle.tables.specs.Checks.{coefficientCount}
+use Rattle.tables.specs.Checks.{Row, row, rowAt, firstRow, firstPosition, byRows, wideRow, coefficientsRow}
 
 -- ---- codes
 
@@ -41,15 +42,20 @@ pub record ListOutcome : Type 0 where
 abbrev pub outcome : Answer → List ℤ → ListOutcome
 outcome a l = record { answer = a; numbers = l }
 
--- by the answer to the list: the product's coefficients, or the places as they were (SPECIFICATION 4.3)
-abbrev pub formed : ℕ → List ℕ → List ℤ → Answer → ListOutcome
-formed n codes numbers (given k) = outcome (given k) (coefficients n (product n codes))
-formed n codes numbers (refused a i) = outcome (refused a i) numbers
+-- row 7, at the first code that is not valid, and row 8, at the first gate whose step does not fit (SPECIFICATION 4.2)
+abbrev pub validRow : ℕ → List ℕ → Row
+validRow n codes = rowAt (ltb (firstInvalid n codes) (length codes)) 7 (firstInvalid n codes)
 
--- rows 6, 9, 7, 8, in this order; an accepted list leaves the coefficients of its product in the lent places (SPECIFICATION 4.2, 4.3)
+abbrev pub fitRow : Steps → Row
+fitRow allFit = row false 8
+fitRow (unfitAt i) = rowAt true 8 i
+
+-- rows 6, 9, 7, 8 in this order (SPECIFICATION 9.2)
+abbrev pub listedRows : ℕ → List ℕ → List ℤ → List Row
+listedRows n codes numbers = wideRow n ∷ coefficientsRow n numbers ∷ validRow n codes ∷ fitRow (steps n codes) ∷ []
+
+-- an accepted list leaves the coefficients of its product in the lent places, a refused one leaves them (SPECIFICATION
+-- 4.3)
 unfoldable pub listed : ℕ → List ℕ → List ℤ → ListOutcome
 listed n codes numbers =
-    pick (ltb 5 n) (outcome (refused 6 0) numbers)
-    (pick (not (eqb (length numbers) (coefficientCount n))) (outcome (refused 9 0) numbers)
-    (pick (ltb (firstInvalid n codes) (length codes)) (outcome (refused 7 (firstInvalid n codes)) numbers)
-    (formed n codes numbers (listAnswer n codes))))
+    byRows (listedRows n codes numbers) (outcome (given (product n codes .k)) (coefficients n (product n codes))) (λ r p. outcome (refused r p) numbers)

@@ -1,6 +1,7 @@
--- What a build leaves in three lent arrays and an index and returns, what a fill leaves in the index, and what a lent table answers, for every
--- input and by either look-up (SPECIFICATION, chapters 6 and 7). The contracts of `build`, `fill_index`, `find`, `write` and `synthesize` are these
--- definitions, and the demands are stated of them. Assumes nothing.
+-- What a build leaves in three lent arrays and an index and returns, what a fill leaves in the index, and what a lent
+-- table answers, for every input and by either look-up (SPECIFICATION, chapters 6 and 7). The contracts of `build`,
+-- `fill_index`, `find`, `write` and `synthesize` are these definitions, and the demands are stated of them. Assumes
+-- nothing.
 use mathlib.Core.Bool.{Bool, false, not, _&&_, _||_}
 use mathlib.Core.List.{List, [], _∷_, _++_, map}
 use Prim.Native.Nat.{ℕ, zero, suc, _*_, _-_, _/_}
@@ -17,7 +18,7 @@ use Rattle.walk.specs.Index.{By, indexed, kept}
 use Rattle.walk.specs.Finds.{WidthLimits, Part, partWith, Finding, findOf}
 use Rattle.walk.specs.Finds as f
 use Rattle.walk.specs.Answers.{refused, Outcome, outcome, writeOf, thenWrite}
-use Rattle.tables.specs.Checks.{Row, row, firstRow, Limits, limitRows, Arrays, shortRow, roomRow, indexRow, partsRow, queryRows}
+use Rattle.tables.specs.Checks.{Row, row, firstRow, firstPosition, byRows, Limits, limitRows, Arrays, shortRow, roomRow, indexRow, partsRow, queryRows}
 
 -- ---- the record
 
@@ -82,15 +83,18 @@ unfoldable pub partsTo : (ℕ → List ℕ → List ℕ) → ℕ → ℕ → Lis
 partsTo g n zero old = old
 partsTo g n (suc w) old = within (w * n) n (g (suc w)) (partsTo g n w old)
 
--- an array after widths 1 to w were filled: each part begins with its column, and all other places are as they were (SPECIFICATION 6.2, 6.11)
+-- an array after widths 1 to w were filled: each part begins with its column, and all other places are as they were
+-- (SPECIFICATION 6.2, 6.11)
 abbrev pub filledTo : (ℕ → List ℕ) → ℕ → ℕ → List ℕ → List ℕ
 filledTo column E w old = partsTo (λ v. over (column v)) E w old
 
--- how many places of an index of so many each width has: where row 17 does not hold, Q times as many are all (SPECIFICATION 7.16)
+-- how many places of an index of so many each width has: where row 17 does not hold, Q times as many are all
+-- (SPECIFICATION 7.16)
 abbrev pub partSize : Limits → ℕ → ℕ
 partSize l places = places / l .qubits
 
--- the index after widths 1 to w were built: each part goes with the nodes of its width; by the scan it is as it was (SPECIFICATION 7.14)
+-- the index after widths 1 to w were built: each part goes with the nodes of its width; by the scan it is as it was
+-- (SPECIFICATION 7.14)
 abbrev pub indexTo : Mode → Limits → By → ℕ → List ℕ → List ℕ
 indexTo mode l by w index = partsTo (λ v. kept by (printsOf mode l v) (length (walkOf mode l v .nodes))) (partSize l (length index)) w index
 
@@ -121,13 +125,9 @@ left r a = record { reply = r; arrays = a }
 abbrev pub buildRows : Limits → Arrays → List Row
 buildRows l a = limitRows l ++ (roomRow l a ∷ partsRow l a ∷ [])
 
--- by the number of the first row that holds, 0 where none does: a refusal leaves the arrays as they were (SPECIFICATION 9.4)
-abbrev pub leftBy : Mode → Limits → Arrays → ℕ → Left
-leftBy mode l a r = pick (eqb r 0) (left (table (recordOf mode l)) (builtTo mode l (l .qubits) a)) (left (refusal r 0) a)
-
--- a table is built, in a mode (SPECIFICATION, chapter 6)
+-- a table is built, in a mode (SPECIFICATION, chapter 6); a refusal leaves the arrays as they were (9.4)
 unfoldable pub buildOf : Mode → Limits → Arrays → Left
-buildOf mode l a = leftBy mode l a (firstRow (buildRows l a))
+buildOf mode l a = byRows (buildRows l a) (left (table (recordOf mode l)) (builtTo mode l (l .qubits) a)) (λ r p. left (refusal r p) a)
 
 -- ---- what a table is asked
 
@@ -156,7 +156,8 @@ badCount t w = badCountOf (t .limits .qubits) (t .limits .entries) w (widthAt t 
 abbrev pub recordRow : Table → Row
 recordRow t = row (not (eqb (firstRow (limitRows (t .limits))) 0) || any (badCount t) allWidths) 13
 
--- 13 of the record, then 5 of arrays of these lengths: what is tried before a table is asked anything (SPECIFICATION 9.2)
+-- 13 of the record, then 5 of arrays of these lengths: what is tried before a table is asked anything (SPECIFICATION
+-- 9.2)
 abbrev pub tableRows : Table → ℕ → ℕ → ℕ → List Row
 tableRows t f u c = recordRow t ∷ shortRow (t .limits) f u c ∷ []
 
@@ -174,7 +175,8 @@ listRow t out = placesRow t (length out)
 abbrev pub notAWidth : Table → ℕ → Bool
 notAWidth t w = eqb w 0 || ltb (t .limits .qubits) w
 
--- how many entries a width has; one that the table does not have has none, whatever the record says of it (SPECIFICATION 7.3)
+-- how many entries a width has; one that the table does not have has none, whatever the record says of it
+-- (SPECIFICATION 7.3)
 abbrev pub countAt : Table → ℕ → ℕ
 countAt t w = pick (notAWidth t w) 0 (widthAt t w .count)
 
@@ -223,13 +225,9 @@ pub record FillLeft : Type 0 where
 abbrev pub fillLeft : FillReply → List ℕ → FillLeft
 fillLeft r i = record { reply = r; index = i }
 
--- by the number of the first row that holds, 0 where none does: a refusal leaves the index as it was (SPECIFICATION 9.4)
-abbrev pub filledBy : Table → Arrays → ℕ → FillLeft
-filledBy t a r = pick (eqb r 0) (fillLeft filled (filledIndex t a)) (fillLeft (not-filled r 0) (a .index))
-
--- the index is cleared and filled from a table: 13 of the record, 5, 17 (SPECIFICATION 7.17)
+-- the index is cleared and filled from a table: 13 of the record, 5, 17 (SPECIFICATION 7.17); a refusal leaves it (9.4)
 unfoldable pub fillOf : Table → Arrays → FillLeft
-fillOf t a = filledBy t a (firstRow (lookRowsOf t indexed a))
+fillOf t a = byRows (lookRowsOf t indexed a) (fillLeft filled (filledIndex t a)) (λ r p. fillLeft (not-filled r p) (a .index))
 
 -- ---- a find
 
@@ -237,13 +235,9 @@ fillOf t a = filledBy t a (firstRow (lookRowsOf t indexed a))
 abbrev pub findRows : Table → Arrays → Query → List Row
 findRows t a q = lookRowsOf t (a .by) a ++ queryRows (q .width) (q .exponent) (q .numbers)
 
--- by the number of the first row that holds, 0 where none does
-abbrev pub foundBy : Table → Arrays → Query → ℕ → Finding
-foundBy t a q r = pick (eqb r 0) (findOf (limitsAt (t .limits) (q .width)) (partAt t a (q .width)) (matrixOf q)) (f.refused r 0)
-
 -- the node that answers a matrix is found (SPECIFICATION 7.10)
 unfoldable pub foundIn : Table → Arrays → Query → Finding
-foundIn t a q = foundBy t a q (firstRow (findRows t a q))
+foundIn t a q = byRows (findRows t a q) (findOf (limitsAt (t .limits) (q .width)) (partAt t a (q .width)) (matrixOf q)) (λ r p. f.refused r p)
 
 -- ---- a write
 
@@ -259,13 +253,9 @@ nodeRows t w k room = nodeRow t w k ∷ placesRow t room ∷ []
 abbrev pub writeRows : Table → Arrays → ℕ → ℕ → List ℕ → List Row
 writeRows t a w k out = tableRowsOf t a ++ nodeRows t w k (length out)
 
--- by the number of the first row that holds, 0 where none does: a refusal leaves the lent list as it was (SPECIFICATION 9.4)
-abbrev pub writtenBy : Table → Arrays → ℕ → ℕ → List ℕ → ℕ → Outcome
-writtenBy t a w k out r = pick (eqb r 0) (writeOf (limitsAt (t .limits) w) (partAt t a w) k out) (outcome (refused r 0) out)
-
--- the list of node k of width w is written (SPECIFICATION 7.11)
+-- the list of node k of width w is written (SPECIFICATION 7.11); a refusal leaves the lent list as it was (9.4)
 unfoldable pub writtenIn : Table → Arrays → ℕ → ℕ → List ℕ → Outcome
-writtenIn t a w k out = writtenBy t a w k out (firstRow (writeRows t a w k out))
+writtenIn t a w k out = byRows (writeRows t a w k out) (writeOf (limitsAt (t .limits) w) (partAt t a w) k out) (λ r p. outcome (refused r p) out)
 
 -- ---- an answer
 
@@ -273,11 +263,8 @@ writtenIn t a w k out = writtenBy t a w k out (firstRow (writeRows t a w k out))
 abbrev pub answerRows : Table → Arrays → Query → List ℕ → List Row
 answerRows t a q out = findRows t a q ++ (listRow t out ∷ [])
 
--- by the number of the first row that holds, 0 where none does: the find, followed by the write; a refusal leaves the lent list as it was
--- (SPECIFICATION 9.4)
-abbrev pub repliedBy : Table → Arrays → Query → List ℕ → ℕ → Outcome
-repliedBy t a q out r = pick (eqb r 0) (thenWrite (λ k. writtenIn t a (q .width) k out) out (foundIn t a q)) (outcome (refused r 0) out)
-
--- a matrix is answered (SPECIFICATION, chapter 7)
+-- a matrix is answered: the find, followed by the write (SPECIFICATION, chapter 7); a refusal leaves the lent list as
+-- it was (9.4)
 unfoldable pub synthesized : Table → Arrays → Query → List ℕ → Outcome
-synthesized t a q out = repliedBy t a q out (firstRow (answerRows t a q out))
+synthesized t a q out =
+    byRows (answerRows t a q out) (thenWrite (λ k. writtenIn t a (q .width) k out) out (foundIn t a q)) (λ r p. outcome (refused r p) out)

@@ -1,5 +1,5 @@
--- What a width answers: a list with the product asked, for any nodes whatever; the same list for more nodes; the shortest list; and what none
--- says. Assumes nothing.
+-- What a width answers: a list with the product asked, for any nodes whatever; the same list for more nodes; the
+-- shortest list; and what none says. Assumes nothing.
 use mathlib.Core.Path.{_≡_, refl, sym, ap, _∙_, subst}
 use mathlib.Core.Logic.{⊎-elim, _↔_}
 use mathlib.Core.Bool.{Bool, true, false}
@@ -105,7 +105,7 @@ module _ (R : Rules) where
           and-both (stepsFit R (listAt ns k)) (R .equal (prod R (listAt ns k)) x) (fit R b k h) (W .same-equal (prod-lowest R Same W (listAt ns k)) low s)
 
       -- such a node is found: a lower one that answered would make it known
-      found : {ns : List Node} → Grown R ns → (k : ℕ) → k < length ns → Same (prod R (listAt ns k)) x → answer R ns x ≡ some (listAt ns k)
+      pub found : {ns : List Node} → Grown R ns → (k : ℕ) → k < length ns → Same (prod R (listAt ns k)) x → answer R ns x ≡ some (listAt ns k)
       found {ns} b k h s =
           let i : ℕ = lowest (answersTo R x) ns in
           let own = prod-lowest R Same W (listAt ns k) in
@@ -116,8 +116,8 @@ module _ (R : Rules) where
           (λ (a : k ≤ i). omega arith) (lt-or i k) in
           hit-answer (answersTo R x) ns x (listAt ns k) (record { at = k; first = sym e; there = h; list = refl; right = passes b k h s })
 
-      -- Shortest, among lists of any length: a shorter list would have a node less deep, hence lower, that answers too; but the answering
-      -- node is the lowest
+      -- Shortest, among lists of any length: a shorter list would have a node less deep, hence lower, that answers too;
+      -- but the answering node is the lowest
       pub shortest : (b : Build) → Layered R b → HasAll R Same (b .depth) (b .nodes) → (l : List ℕ) → answer R (b .nodes) x ≡ some l
           → (m : List ℕ) → Over R m → Same (prod R m) x → length l ≤ length m
       shortest b i cp l e m o s =

@@ -1,5 +1,5 @@
--- One candidate, and the loops over candidates: what each candidate keeps the loops keep, they only append, a saturated state stays, and each
--- candidate is dealt with. Assumes nothing.
+-- One candidate, and the loops over candidates: what each candidate keeps the loops keep, they only append, a saturated
+-- state stays, and each candidate is dealt with. Assumes nothing.
 use mathlib.Core.Path.{_≡_, refl, sym, ap, _∙_, subst}
 use mathlib.Core.Logic.{_⊎_, inl, inr, ⊎-elim}
 use mathlib.Core.Bool.{Bool, true, false, not, _||_}

@@ -4,15 +4,15 @@ use mathlib.Core.Bool.{Bool, true, false, _&&_}
 use mathlib.Core.List.{List, [], _∷_, _++_}
 use Prim.Native.Nat.{ℕ, zero, suc, _+_, _-_, _≤_, _<_}
 use native.Mathlib.Omega.{arith}
-use lib.Dec.{ltb}
+use lib.Dec.{eqb, ltb}
 use lib.ListN.{length, getD, length-append, List·getD-append}
 use lib.Seq.{ext-getD, getD-at}
-use borrow.Author.Tests.{lt-ltb, ltb-true, ltb-false}
+use borrow.Author.Tests.{lt-ltb, ltb-true, ltb-false, eqb-true, eqb-false}
 use Rattle.ints.specs.Lists.{pick, all}
 use Rattle.ints.proofs.Bools.{clash, and-left, and-right, all-at}
-use Rattle.circuit.specs.Codes.{validFor}
+use Rattle.circuit.specs.Codes.{validFor, mark}
 use Rattle.walk.specs.Chains.{marked, Chain, good, bad, then, linked, chainOf}
-use Rattle.walk.specs.Meaning.{Trail, Fault, not-below, not-valid, too-many, unmarked, Gates, Chained}
+use Rattle.walk.specs.Meaning.{Trail, Fault, not-below, not-valid, too-many, no-parent-mark, no-code-mark, Gates, Chained}
 
 -- ---- tests over a list
 
@@ -45,6 +45,27 @@ module _ (parents : List ℕ) where
   walk-to node zero j m w h = refl
   walk-to node (suc i) zero m w h = absurd (omega arith)
   walk-to node (suc i) (suc j) m w h = (w .0, walk-to (getD parents node 0) i j m (w .1) (omega arith))
+
+-- ---- the marks of node 0
+
+module _ (parents codes : List ℕ) where
+  parent-marked : marked parents codes ≡ true → getD parents 0 0 ≡ mark
+  unfolding marked
+  parent-marked e = eqb-true (getD parents 0 0) mark (and-left (eqb (getD parents 0 0) mark) _ e)
+
+  code-marked : marked parents codes ≡ true → getD codes 0 0 ≡ mark
+  unfolding marked
+  code-marked e = eqb-true (getD codes 0 0) mark (and-right (eqb (getD parents 0 0) mark) _ e)
+
+-- a way to node 0, which lacks one of them
+pub unmarked : {n basis limit : ℕ} {parents codes : List ℕ} {node : ℕ} (i : ℕ) → Trail parents node i 0 → marked parents codes ≡ false
+    → Fault n basis limit parents codes node
+unfolding marked
+unmarked {n} {basis} {limit} {parents} {codes} {node} i w = by (eqb (getD parents 0 0) mark) refl
+  where
+    by : (b : Bool) → eqb (getD parents 0 0) mark ≡ b → b && eqb (getD codes 0 0) mark ≡ false → Fault n basis limit parents codes node
+    by false e h = no-parent-mark i w (eqb-false (getD parents 0 0) mark e)
+    by true e h = no-code-mark i w (eqb-false (getD codes 0 0) mark h)
 
 -- ---- a chain, node by node
 
@@ -84,7 +105,8 @@ module _ (n basis : ℕ) (parents codes : List ℕ) where
     valid = refl;
     short = omega arith;
     ends = refl;
-    marks = e;
+    parent-mark = parent-marked parents codes e;
+    code-mark = code-marked parents codes e;
     falls = none-above;
     gate = λ i m h. absurd (omega arith);
   }
@@ -99,7 +121,8 @@ module _ (n basis : ℕ) (parents codes : List ℕ) where
   fault-on left node p (not-below i m w q h) = not-below (suc i) m (p, w) q h
   fault-on left node p (not-valid i m w q h) = not-valid (suc i) m (p, w) q h
   fault-on left node p (too-many i m w h) = too-many (suc i) m (p, w) (omega arith)
-  fault-on left node p (unmarked i w h) = unmarked (suc i) (p, w) h
+  fault-on left node p (no-parent-mark i w h) = no-parent-mark (suc i) (p, w) h
+  fault-on left node p (no-code-mark i w h) = no-code-mark (suc i) (p, w) h
 
   module _ (left node : ℕ) (p : 0 < node) (below : getD parents node 0 < node) (ok : validFor n basis (getD codes node 0) ≡ true) where
     gates-on : (l : List ℕ) → Gates n basis left parents codes (getD parents node 0) l → Gates n basis (suc left) parents codes node (l ++ (getD codes node 0 ∷ []))
@@ -110,7 +133,8 @@ module _ (n basis : ℕ) (parents codes : List ℕ) where
           valid = all-snoc (validFor n basis) l g (w .valid) ok;
           short = omega (arith, w .short);
           ends = subst (λ (k : ℕ). Trail parents node k 0) (sym size) (p, w .ends);
-          marks = w .marks;
+          parent-mark = w .parent-mark;
+          code-mark = w .code-mark;
           falls = falls-on;
           gate = λ i m h v. ap (λ (k : ℕ). getD (l ++ (g ∷ [])) (k - suc i) 0) size ∙ gate-on i m (omega arith) v;
         }
@@ -155,7 +179,8 @@ module _ (n basis : ℕ) (parents codes : List ℕ) where
         let k : i < length l = walk-before parents node i (length l) m v p (w .ends) in
         clash (sym (ap (validFor n basis) (w .gate i m k v)) ∙ all-at (validFor n basis) l (length l - suc i) (w .valid) (omega arith)) h
     sound l w (too-many i m v h) = let k = walk-within parents node i (length l) m v (w .ends) in omega (arith, w .short)
-    sound l w (unmarked i v h) = clash (w .marks) h
+    sound l w (no-parent-mark i v h) = h (w .parent-mark)
+    sound l w (no-code-mark i v h) = h (w .code-mark)
 
     same-list : (l l′ : List ℕ) → Gates n basis limit parents codes node l → Gates n basis limit parents codes node l′ → l ≡ l′
     same-list l l′ u v = ext-getD 0 l l′ size at
@@ -234,7 +259,7 @@ module _ (n basis : ℕ) (parents codes : List ℕ) where
     pub parent-good : 0 < length l → (k : LastGate limit node l) → chain limit (getD parents node 0) ≡ good (k .rest)
     parent-good h k =
         let w = gates-of (limit - 1) (getD parents node 0) (k .before) in
-        good-by limit (getD parents node 0) (record { valid = w .valid; short = omega (arith, w .short); ends = w .ends; marks = w .marks; falls = w .falls; gate = w .gate })
+        good-by limit (getD parents node 0) (record { valid = w .valid; short = omega (arith, w .short); ends = w .ends; parent-mark = w .parent-mark; code-mark = w .code-mark; falls = w .falls; gate = w .gate })
 
   pub chained : (limit node : ℕ) → Chained n basis limit parents codes node
   chained limit node = record {

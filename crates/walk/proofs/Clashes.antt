@@ -1,5 +1,5 @@
--- Demand 3's condition on fingerprints, of lists that are oldest gate first, is the walk's condition where a fingerprint alone makes known, in both
--- directions: neither is weaker. Assumes nothing.
+-- Demand 3's condition on fingerprints, of lists that are oldest gate first, is the walk's condition where a
+-- fingerprint alone makes known, in both directions: neither is weaker. Assumes nothing.
 use mathlib.Core.Path.{_≡_, sym, ap, _∙_, subst}
 use mathlib.Core.Logic.{_↔_}
 use mathlib.Core.List.{reverse}

@@ -1,6 +1,6 @@
--- Layers with the two skip rules lose no product (SPECIFICATION 6.13): once a depth is completed, every list of the basis within it has a
--- node no deeper than the list is long, whose product is a power of omega times the list's. It rests on the laws, on `AllFit` and on
--- hypothesis K. Assumes nothing.
+-- Layers with the two skip rules lose no product (SPECIFICATION 6.13): once a depth is completed, every list of the
+-- basis within it has a node no deeper than the list is long, whose product is a power of omega times the list's. It
+-- rests on the laws, on `AllFit` and on hypothesis K. Assumes nothing.
 use mathlib.Core.Path.{_≡_, refl, sym, ap, _∙_, subst}
 use mathlib.Core.Logic.{_⊎_, inl, inr, ⊎-elim}
 use mathlib.Core.Bool.{true, false, _&&_}
@@ -47,7 +47,8 @@ module _ (R : Rules) (Same : R .Mat → R .Mat → Type 0) (W : Laws R Same) whe
       → Present R Same ns (R .act g (prod R z)))
       e (K k g l m)
 
-  -- hypothesis K of the nodes at the end holds of the nodes so far: a node that came later is not known by an earlier one
+  -- hypothesis K of the nodes at the end holds of the nodes so far: a node that came later is not known by an earlier
+  -- one
   present-before : {ns ms : List Node} (d e : ℕ) → Prefix ns ms → Grown R ms → d ≤ e → KnownIsPresent R Same e ms → KnownIsPresent R Same d ns
   present-before {ns} {ms} d e x b le K k g l m s p f a =
       ⊎-elim

@@ -1,5 +1,6 @@
--- Demand 3 at one width: the statements of WidthDemand, from the walk's theorems. The conditions, up to 29 gates and no shared fingerprint,
--- are used only through hypothesis K: what the walk skipped as known was skipped rightly. Where clashing nodes are kept K holds. Assumes nothing.
+-- Demand 3 at one width: the statements of WidthDemand, from the walk's theorems. The conditions, up to 29 gates and no
+-- shared fingerprint, are used only through hypothesis K: what the walk skipped as known was skipped rightly. Where
+-- clashing nodes are kept K holds. Assumes nothing.
 use mathlib.Core.Path.{_≡_, refl, sym, ap, _∙_, subst}
 use mathlib.Core.Bool.{Bool, false}
 use mathlib.Core.List.{List, reverse, reverse-reverse}
@@ -9,6 +10,7 @@ use native.Mathlib.Omega.{arith}
 use lib.ListN.{length, length-reverse}
 use Rattle.exact.specs.Matrix.{Exact, Lowest, PowerOf}
 use Rattle.exact.specs.Lists.{product}
+use Rattle.exact.specs.Fits.{fittingGates}
 use Rattle.exact.proofs.Acts.{power-sym}
 use Rattle.walk.specs.Walk.{Rules, Node, prod}
 use Rattle.walk.proofs.Laws.{Laws, Over}
@@ -78,7 +80,7 @@ module _ (mode : Mode) (n basis : ℕ) (small : n ≤ 5) where
 
   -- ---- up to 29 gates
 
-  module _ (G E : ℕ) (le : G ≤ 29) where
+  module _ (G E : ℕ) (le : G ≤ fittingGates) where
     -- where what was skipped as known was skipped rightly
     rightly : SkippedRightly mode n basis G E → WidthComplete mode n basis G E
     rightly K = record { shortest = short; none-exactly = empty }

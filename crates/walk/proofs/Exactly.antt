@@ -1,5 +1,6 @@
--- The walk at a width and a basis meets the laws, by the laws of exact matrices; within 29 gates every step fits; and lists, products and
--- fingerprints as callers have them, oldest gate first, are those of the walk, newest first. Assumes nothing.
+-- The walk at a width and a basis meets the laws, by the laws of exact matrices; within 29 gates every step fits; and
+-- lists, products and fingerprints as callers have them, oldest gate first, are those of the walk, newest first.
+-- Assumes nothing.
 use mathlib.Core.Path.{_≡_, refl, sym, ap, _∙_, subst}
 use mathlib.Core.Bool.{true}
 use mathlib.Core.List.{List, [], _∷_, _++_, reverse, reverse-cons, reverse-reverse, List·Memᴰ}
@@ -15,6 +16,7 @@ use Rattle.generators.proofs.Generated.{lists}
 use Rattle.exact.specs.Matrix.{Exact, Lowest, PowerOf}
 use Rattle.exact.specs.Rows.{gateOf}
 use Rattle.exact.specs.Lists.{product}
+use Rattle.exact.specs.Fits.{fittingGates}
 use Rattle.exact.specs.Fingerprint.{fingerprint}
 use Rattle.exact.proofs.Values.{equal-same}
 use Rattle.exact.proofs.Acts.{act-lowest, act-swap, act-back, power-of, power-refl, power-sym, power-trans, act-power}
@@ -137,7 +139,7 @@ module _ (mode : Mode) (n basis : ℕ) (small : n ≤ 5) where
   -- ---- the two conditions
 
   -- of a generator behind a list of generators, both newest gate first
-  pub all-fit : (G : ℕ) → G ≤ 29 → AllFit (atWidth mode n basis) G
+  pub all-fit : (G : ℕ) → G ≤ fittingGates → AllFit (atWidth mode n basis) G
   all-fit G le g l m o h =
       let t = plain n g (code-table n basis g (generator-code n basis small g m)) in
       let a = basis-plain n basis (reverse l) (over-list (reverse l) (over-reverse l o)) in

@@ -9,9 +9,9 @@ use Rattle.circuit.specs.Codes.{validFor}
 use Rattle.circuit.proofs.Coded.{code-table}
 use Rattle.exact.specs.Rows.{gateOf}
 use Rattle.exact.specs.Lists.{product}
-use Rattle.exact.specs.Fits.{stepFits}
+use Rattle.exact.specs.Fits.{fittingGates, stepFits}
 use Rattle.exact.proofs.Coded.{plain, basis-plain}
-use Rattle.exact.proofs.Bounds.{row-product, row-step, candidate-fits, list-fits}
+use Rattle.exact.proofs.Bounds.{row-product, row-step, fitting-gates, candidate-fits, list-fits}
 use Rattle.walk.specs.Walk.{Node, listAt}
 use Rattle.walk.specs.Modes.{Mode}
 use Rattle.walk.specs.AtWidth.{atWidth, built}
@@ -24,7 +24,7 @@ module _ (mode : Mode) (n basis : ℕ) (small : n ≤ 5) (G E : ℕ) where
   abbrev ns : List Node
   ns = built mode n basis G E .nodes
 
-  candidates : G ≤ 29 → (k g : ℕ) → k < length ns → length (listAt ns k) < G → validFor n basis g ≡ true
+  candidates : G ≤ fittingGates → (k g : ℕ) → k < length ns → length (listAt ns k) < G → validFor n basis g ≡ true
       → stepFits n (gateOf n g) (product n (reverse (listAt ns k))) ≡ true
   candidates le k g q h v =
       let o = over-reverse mode n basis small (listAt ns k) (over (atWidth mode n basis) (walk-shape (atWidth mode n basis) G E .layered .grown) k q) in
@@ -35,6 +35,7 @@ pub fitting : Fitting
 fitting = record {
   rows = λ n l. row-product n l;
   rows-raw = λ n g l. row-step n g l;
+  bound = fitting-gates;
   lists = λ n basis l o h. list-fits n l (basis-plain n basis l o) h;
   candidates = λ mode n basis G E small le k g q h v. candidates mode n basis small G E le k g q h v;
 }

@@ -1,8 +1,9 @@
--- Arrays that hold the nodes of a walk, in any mode: a node's chain is its list, so no chain is bad, and a look-up that finds the scan's node finds for a
--- matrix the lowest node that answers it. Assumes nothing.
+-- Arrays that hold the nodes of a walk, in any mode: a node's chain is its list, so no chain is bad, and a look-up that
+-- finds the scan's node finds for a matrix the lowest node that answers it. Assumes nothing.
 use mathlib.Core.Path.{_≡_, refl, sym, ap, _∙_}
 use mathlib.Core.Bool.{Bool, true, false}
-use mathlib.Core.List.{List, reverse}
+use mathlib.Core.List.{List, [], reverse}
+use mathlib.Core.Option.{some}
 use Prim.Native.Nat.{ℕ, _≤_, _<_}
 use native.Mathlib.Omega.{arith}
 use native.Mathlib.Decide.{decLt}
@@ -11,7 +12,7 @@ use lib.Dec.{ltb}
 use lib.ListN.{length, getD, length-reverse}
 use Rattle.ints.specs.Lists.{pick}
 use Rattle.ints.proofs.Bools.{clash, and-left, and-right, and-both}
-use Rattle.exact.specs.Matrix.{Exact}
+use Rattle.exact.specs.Matrix.{Exact, Lowest, PowerOf}
 use Rattle.exact.specs.Lists.{product}
 use Rattle.exact.specs.Phase.{upToPhase}
 use Rattle.exact.specs.Fingerprint.{fingerprint}
@@ -20,15 +21,15 @@ use Rattle.walk.specs.Modes.{Mode}
 use Rattle.walk.specs.AtWidth.{samePrint, printOf, parentOf, atWidth}
 use Rattle.walk.specs.Chains.{Chain, good, bad}
 use Rattle.walk.specs.Finds.{WidthLimits, Part, node, none, chainAt, findOf, isNode}
-use Rattle.walk.specs.Meaning.{Passed, not-equal, BadFound, AsScan, HasPrint}
+use Rattle.walk.specs.Meaning.{Passed, not-equal, FoundBy, BadFound, AsScan, HasPrint}
 use Rattle.walk.proofs.Grown.{Grown}
-use Rattle.walk.proofs.Nodewise.{lowest, answersTo}
+use Rattle.walk.proofs.Nodewise.{lowest, answersTo, answer, oldestFirst}
 use Rattle.walk.proofs.Sequences.{any-true, any-at}
 use Rattle.walk.proofs.Nodes.{fit}
-use Rattle.walk.proofs.Answers.{lowest-passes, lowest-least}
-use Rattle.walk.proofs.Exactly.{print-same, same-print, print-is, product-is}
+use Rattle.walk.proofs.Answers.{lowest-passes, lowest-least, found}
+use Rattle.walk.proofs.Exactly.{laws, query-lowest, print-same, same-print, print-is, product-is}
 use Rattle.walk.proofs.Rechecks.{steps-fit}
-use Rattle.walk.proofs.Chaining.{gates-of, bad-by}
+use Rattle.walk.proofs.Chaining.{gates-of, bad-by, good-by}
 use Rattle.walk.proofs.Held.{chain-is}
 use Rattle.walk.proofs.Meaning.{at-below, scan-means}
 
@@ -37,6 +38,11 @@ pub record Holding (n : ℕ) (ns : List Node) (f u c : List ℕ) : Type 0 where
   pub prints : (j : ℕ) → j < length ns → getD f j 0 ≡ printOf n (getD ns j root)
   pub parents : (j : ℕ) → j < length ns → getD u j 0 ≡ parentOf (getD ns j root)
   pub codes : (j : ℕ) → j < length ns → getD c j 0 ≡ gate (getD ns j root)
+
+-- the list of a good chain
+abbrev listOf : Chain → List ℕ
+listOf (good l) = l
+listOf bad = []
 
 -- a chain is good or bad
 abbrev isBad : Chain → ℕ
@@ -91,6 +97,17 @@ module _ (mode : Mode) (limits : WidthLimits) (small : limits .width ≤ 5) wher
           by : (t : Bool) → test (getD ns j root) ≡ t → test (getD ns j root) ≡ false
           by false e = e
           by true e = absurd (q e)
+
+      -- whatever the index holds, a list that is found is the one that the nodes answer: no other node is equal up to
+      -- phase
+      pub given-held : Lowest n x → (j : ℕ) (l : List ℕ) → FoundBy limits part x j l → oldestFirst (answer R ns x) ≡ some l
+      given-held low j l f =
+          let h : j < length ns = omega (arith, at-below limits part x (f .leads), all) in
+          let e : reverse (listAt ns j) ≡ l = ap listOf (sym (held-chain j h) ∙ good-by _ _ _ _ _ j (f .gates)) in
+          let q : upToPhase n (prod R (listAt ns j)) x ≡ true = sym (equal-is j) ∙ ap (λ (m : List ℕ). upToPhase n (product n m) x) e ∙ f .equal in
+          let W = laws mode n (limits .basis) small in
+          ap oldestFirst (found R (PowerOf n) W x (query-lowest mode n (limits .basis) small low) grown j h (W .equal-same (prod R (listAt ns j)) x q))
+          ∙ ap some e
 
       abbrev k : ℕ
       k = lowest test ns

@@ -1,4 +1,5 @@
--- Either look-up finds the lowest node, as long as the part is kept up, and a part that is kept up is what a fill leaves. Assumes nothing.
+-- Either look-up finds the lowest node, as long as the part is kept up, and a part that is kept up is what a fill
+-- leaves. Assumes nothing.
 use mathlib.Core.Path.{_≡_, refl, sym, ap, _∙_}
 use mathlib.Core.List.{List, [], _∷_}
 use Prim.Native.Nat.{ℕ, suc, _<_}

@@ -1,5 +1,5 @@
--- What a part holds that was filled from fingerprints, equal ones among them: each node stands along the probe of its fingerprint with no empty
--- place before it, and after every lower node that has the same fingerprint. Assumes nothing.
+-- What a part holds that was filled from fingerprints, equal ones among them: each node stands along the probe of its
+-- fingerprint with no empty place before it, and after every lower node that has the same fingerprint. Assumes nothing.
 use mathlib.Core.Path.{_≡_, refl, sym, ap, _∙_, subst}
 use mathlib.Core.Logic.{_⊎_, inl, inr, ⊎-elim}
 use mathlib.Core.Bool.{Bool, true, false}
@@ -269,7 +269,8 @@ module _ (fps : List ℕ) where
       let s : count < length (filled fps size count) = omega (arith, filled-length size count) in
       holds-inserted (filled fps size count) count w (omega arith) s
 
--- only the fingerprints of the nodes put in count: so a build that puts each node in as it is appended leaves what a fill leaves
+-- only the fingerprints of the nodes put in count: so a build that puts each node in as it is appended leaves what a
+-- fill leaves
 pub filled-cong : (fps gps : List ℕ) (size count : ℕ) → ((v : ℕ) → v < count → getD fps v 0 ≡ getD gps v 0) → filled fps size count ≡ filled gps size count
 unfolding filled
 filled-cong fps gps size zero h = refl

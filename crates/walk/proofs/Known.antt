@@ -1,4 +1,5 @@
--- Where hypothesis K comes from: from `NoClash` (SPECIFICATION 8.14); or clashing nodes are kept, and then K holds with no condition. Assumes nothing.
+-- Where hypothesis K comes from: from `NoClash` (SPECIFICATION 8.14); or clashing nodes are kept, and then K holds with
+-- no condition. Assumes nothing.
 use mathlib.Core.Path.{_≡_}
 use mathlib.Core.Bool.{true}
 use mathlib.Core.List.{List, _∷_}

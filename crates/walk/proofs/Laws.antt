@@ -1,4 +1,5 @@
--- The laws asked of what the walk is handed, and the words of demand 3 over it. Lists are newest gate first. Assumes nothing.
+-- The laws asked of what the walk is handed, and the words of demand 3 over it. Lists are newest gate first. Assumes
+-- nothing.
 use mathlib.Core.Path.{_≡_}
 use mathlib.Core.Bool.{Bool, true}
 use mathlib.Core.List.{List, [], _∷_, List·Memᴰ}
@@ -9,9 +10,11 @@ use Rattle.exact.specs.Rows.{act, gateOf}
 use Rattle.exact.specs.Fits.{stepFits}
 use Rattle.walk.specs.Walk.{Rules, Node, any, listAt, prod, pruned, knows, candidate}
 
--- Same: the one is a power of omega times the other. Lowest: the matrix is in lowest denominator, as every product and every query is.
--- A node that is the same as a candidate makes it known, and one that is the same as a query answers it; what counts as known by a node
--- counts so for all that is the same; and a node that answers a query makes known whatever is the same as the query.
+-- Same: the one is a power of omega times the other. Lowest: the matrix is in lowest denominator, as every product and
+-- every query is.
+-- A node that is the same as a candidate makes it known, and one that is the same as a query answers it; what counts as
+-- known by a node counts so for all that is the same; and a node that answers a query makes known whatever is the same
+-- as the query.
 pub record Laws (R : Rules) (Same : R .Mat → R .Mat → Type 0) : Type 1 where
   pub Lowest : R .Mat → Type 0
   pub one-lowest : Lowest (R .one)
@@ -42,7 +45,8 @@ module _ (R : Rules) where
   AllFit G = (g : ℕ) (l : List ℕ) → List·Memᴰ g (R .generators) → Over l → length l < G → R .fits g (prod R l) ≡ true
 
   module _ (Same : R .Mat → R .Mat → Type 0) where
-    -- no clash: a list makes another known only where their products are the same, among lists of the basis within G gates (SPECIFICATION 8.14)
+    -- no clash: a list makes another known only where their products are the same, among lists of the basis within G
+    -- gates (SPECIFICATION 8.14)
     abbrev pub NoClash : ℕ → Type 0
     NoClash G =
         (l m : List ℕ) → Over l → Over m → length l ≤ G → length m ≤ G → R .known (prod R l) (prod R m) ≡ true → Same (prod R l) (prod R m)

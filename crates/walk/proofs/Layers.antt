@@ -1,5 +1,5 @@
--- Depths: what holds while a depth is walked, and what one depth keeps of a width: its layers, its count, and that it is saturated only at
--- the entry limit. No law on what the walk is handed is used. Assumes nothing.
+-- Depths: what holds while a depth is walked, and what one depth keeps of a width: its layers, its count, and that it
+-- is saturated only at the entry limit. No law on what the walk is handed is used. Assumes nothing.
 use mathlib.Core.Path.{_≡_, refl, sym, ap, _∙_}
 use mathlib.Core.Logic.{_⊎_, inl, inr, ⊎-elim}
 use mathlib.Core.Bool.{true, false}
@@ -154,7 +154,8 @@ module _ (R : Rules) where
 
   -- ---- a width
 
-  -- what the beginning has and each depth of an unended width keeps, the width has; m is the number of depths that are left
+  -- what the beginning has and each depth of an unended width keeps, the width has; m is the number of depths that are
+  -- left
   depths-keep : (most : ℕ) (P : ℕ → Build → Type 0) → ((m : ℕ) (b : Build) → ended b ≡ false → P (suc m) b → P m (deeper R most b))
       → (m : ℕ) (b : Build) → P m b → (k : ℕ) × P k (depths R most b m) × ((k ≡ 0) ⊎ (ended (depths R most b m) ≡ true))
   unfolding depths

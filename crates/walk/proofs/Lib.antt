@@ -14,8 +14,6 @@ pub mod Exactly
 pub mod Fitting
 pub mod Clashes
 pub mod Demand3
-pub mod Samples
-pub mod NotEmpty
 pub mod Rechecks
 pub mod Lookups
 pub mod Rounds

@@ -37,7 +37,8 @@ module _ (fps : List ℕ) (count i f : ℕ) where
 
 -- ---- nodes that are passed over together
 
--- the nodes from the start to below i, and whether one of them has the fingerprint: if none has, the look-up may begin at i
+-- the nodes from the start to below i, and whether one of them has the fingerprint: if none has, the look-up may begin
+-- at i
 pub record Passed (fps : List ℕ) (from end f i : ℕ) (found : Bool) : Type 0 where
   pub within : i ≤ end
   pub none-has : (count : ℕ) → end ≤ count → found ≡ false → lowestFrom fps count i f ≡ lowestFrom fps count from f

@@ -15,7 +15,7 @@ use Rattle.exact.proofs.Phases.{up-sym, power-of-test}
 use Rattle.exact.proofs.Unitaries.{unitary-asked}
 use Rattle.walk.specs.Lookup.{Lookup, found}
 use Rattle.walk.specs.IndexLaws.{NodeFrom}
-use Rattle.walk.specs.Meaning.{LeadsTo, LeadsNowhere, Leads, Gates, Fault, Passed, does-not-fit, not-equal, LookedAt, at-first, past, FoundBy, AnsweredBy, NoList, not-found, no-more, BadFound, FindMeans, HasPrint, Lowest, AsScan, ScanMeans, Distinct, findFirst, FindRule, LowestNode, Nowhere, Means, WriteMeans, Right}
+use Rattle.walk.specs.Meaning.{LeadsTo, LeadsNowhere, Leads, Gates, Fault, Passed, does-not-fit, not-equal, LookedAt, at-first, past, FoundBy, AnsweredBy, NoList, not-found, no-more, BadFound, FindMeans, HasPrint, AllLowerPassed, AsScan, ScanMeans, Distinct, findFirst, FindRule, LowestNode, Nowhere, Means, WriteMeans, Right}
 use Rattle.walk.specs.Lookup as lookup
 use Rattle.walk.specs.Chains.{Chain, good, bad}
 use Rattle.walk.proofs.Lookups.{looks-up}
@@ -323,7 +323,7 @@ module _ (limits : WidthLimits) (part : Part) (x : Exact) where
   Print k = HasPrint limits part x k
 
   abbrev Low : ℕ → Type 0
-  Low k = Lowest limits part x k
+  Low k = AllLowerPassed limits part x k
 
   abbrev WayOf : ℕ → List ℕ → Type 0
   WayOf k l = Gates n (limits .basis) (limits .gates) (part .parents) (part .codes) k l

@@ -1,5 +1,5 @@
--- What holds of nodes however they have grown: node 0, parents, lists, depths, and that no node counts as known by an earlier one.
--- Assumes nothing.
+-- What holds of nodes however they have grown: node 0, parents, lists, depths, and that no node counts as known by an
+-- earlier one. Assumes nothing.
 use mathlib.Core.Path.{_≡_, refl, sym, ap, _∙_, subst}
 use mathlib.Core.Bool.{true, false}
 use mathlib.Core.List.{List, [], _∷_, _++_}

@@ -1,5 +1,5 @@
--- What nodes answer, said of the parts that the walk is handed: the lowest node that answers, its list, the recheck. tables/proofs/Joined has
--- that arrays which hold the nodes answer the same. Assumes nothing.
+-- What nodes answer, said of the parts that the walk is handed: the lowest node that answers, its list, the recheck.
+-- tables/proofs/Joined has that arrays which hold the nodes answer the same. Assumes nothing.
 use mathlib.Core.Bool.{Bool, true, _&&_}
 use mathlib.Core.List.{List, [], _∷_, reverse}
 use mathlib.Core.Option.{Option, none, some}

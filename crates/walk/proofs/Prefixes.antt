@@ -1,5 +1,5 @@
--- The nodes of a walk are the first nodes of every walk with no smaller limits: both make the same steps until the smaller one stops. No law
--- on what the walk is handed is used. Assumes nothing.
+-- The nodes of a walk are the first nodes of every walk with no smaller limits: both make the same steps until the
+-- smaller one stops. No law on what the walk is handed is used. Assumes nothing.
 use mathlib.Core.Path.{_≡_, refl, sym, ap, subst}
 use mathlib.Core.Logic.{_⊎_, inl, inr}
 use mathlib.Core.Bool.{Bool, true, false, _||_}
@@ -18,7 +18,8 @@ use Rattle.walk.proofs.Sequences.{prefix-refl, prefix-snoc, prefix-tran
 use Rattle.walk.proofs.Candidates.{grownBy, filled, try-later, layer-later, try-saturated}
 use Rattle.walk.proofs.Layers.{settled-nodes, deeper-nodes, deeper-depth}
 
--- the walk with the smaller entry limit has come just as far, or is saturated and its nodes are the first of the other's
+-- the walk with the smaller entry limit has come just as far, or is saturated and its nodes are the first of the
+-- other's
 abbrev Ahead : State → State → Type 0
 Ahead s t = (s ≡ t) ⊎ ((s .saturated ≡ true) × Prefix (s .nodes) (t .nodes))
 

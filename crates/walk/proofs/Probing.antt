@@ -1,5 +1,5 @@
--- A probe: what it comes to, whatever the part holds; and that in a part that was filled it finds the lowest node, whatever the fingerprints are.
--- Assumes nothing.
+-- A probe: what it comes to, whatever the part holds; and that in a part that was filled it finds the lowest node,
+-- whatever the fingerprints are. Assumes nothing.
 use mathlib.Core.Path.{_≡_, refl, sym, ap, _∙_, subst}
 use mathlib.Core.Bool.{Bool, true, false, not, _&&_}
 use mathlib.Core.List.{List}

@@ -1,5 +1,5 @@
--- The walk's recheck at a width, of a list that is newest gate first: it passes exactly where every step fits and the product is equal up to
--- phase to the matrix asked (SPECIFICATION 7.6). Assumes nothing.
+-- The walk's recheck at a width, of a list that is newest gate first: it passes exactly where every step fits and the
+-- product is equal up to phase to the matrix asked (SPECIFICATION 7.6). Assumes nothing.
 use mathlib.Core.Path.{_≡_, refl, sym, ap, _∙_}
 use mathlib.Core.Logic.{_↔_}
 use mathlib.Core.Bool.{Bool, true, false, _&&_}

@@ -1,4 +1,5 @@
--- The places of a probe, round the part: where it begins, which place comes after one, and that every place of the part is met. Assumes nothing.
+-- The places of a probe, round the part: where it begins, which place comes after one, and that every place of the part
+-- is met. Assumes nothing.
 use mathlib.Core.Path.{_≡_, sym, ap, _∙_}
 use Prim.Native.Nat.{ℕ, _+_, _-_, _%_, _<_}
 use native.Mathlib.Nat.{mod-lt, mod-eq-of-lt, mod-add-mod, add-mod-right}

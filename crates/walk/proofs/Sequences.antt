@@ -1,4 +1,5 @@
--- Tests, what is said of each element of a list, lists with one more at the end, and beginnings of lists, as the walk's proofs use them. Assumes nothing.
+-- Tests, what is said of each element of a list, lists with one more at the end, and beginnings of lists, as the walk's
+-- proofs use them. Assumes nothing.
 use mathlib.Core.Path.{_≡_, refl, sym, ap, _∙_}
 use mathlib.Core.Logic.{_⊎_, inl, inr, ⊎-elim}
 use mathlib.Core.Bool.{Bool, true, false, _||_}

@@ -1,5 +1,5 @@
--- Demand 3 at one width (SPECIFICATION 8.3 to 8.5), of what the nodes answer. Lists are oldest gate first. The demand itself, of the public
--- entries, is tables/specs/Demand3.antt. Assumes nothing.
+-- Demand 3 at one width (SPECIFICATION 8.3 to 8.5), of what the nodes answer. Lists are oldest gate first. The demand
+-- itself, of the public entries, is tables/specs/Demand3.antt. Assumes nothing.
 use mathlib.Core.Path.{_≡_}
 use mathlib.Core.Logic.{_↔_}
 use mathlib.Core.Bool.{Bool, false}
@@ -9,6 +9,7 @@ use Prim.Native.Nat.{ℕ, _≤_}
 use lib.ListN.{length}
 use Rattle.exact.specs.Matrix.{Exact, Lowest, PowerOf}
 use Rattle.exact.specs.Lists.{product}
+use Rattle.exact.specs.Fits.{fittingGates}
 use Rattle.walk.specs.Walk.{Node}
 use Rattle.walk.specs.Modes.{Mode, keeping}
 use Rattle.walk.specs.AtWidth.{built, ListOf, NoSharedPrint}
@@ -26,7 +27,8 @@ module _ (mode : Mode) (n basis : ℕ) where
   NoneExactly G E x =
       (answered mode n basis G E x ≡ none) ↔ ((m : List ℕ) → ListOf n basis m → length m ≤ G → PowerOf n x (product n m) → ⊥)
 
-  -- both, the second at a width that is not saturated (SPECIFICATION 8.5). A matrix that is not refused is in lowest denominator
+  -- both, the second at a width that is not saturated (SPECIFICATION 8.5). A matrix that is not refused is in lowest
+  -- denominator
   pub record WidthComplete (G E : ℕ) : Type 0 where
     pub shortest : (x : Exact) → Lowest n x → Shortest G E x
     pub none-exactly : built mode n basis G E .saturated ≡ false → (x : Exact) → Lowest n x → NoneExactly G E x
@@ -38,10 +40,11 @@ module _ (mode : Mode) (n basis : ℕ) where
     pub larger : (G G′ E E′ : ℕ) → G ≤ G′ → E ≤ E′ → (x : Exact) (l : List ℕ)
         → answered mode n basis G E x ≡ some l → answered mode n basis G′ E′ x ≡ some l
     -- up to 29 gates, and with no clash at the width (SPECIFICATION 8.5, 8.14)
-    pub complete : (G E : ℕ) → G ≤ 29 → NoSharedPrint n basis G → WidthComplete G E
+    pub complete : (G E : ℕ) → G ≤ fittingGates → NoSharedPrint n basis G → WidthComplete G E
     -- up to 29 gates, where clashing nodes are kept: no condition on fingerprints (SPECIFICATION 8.5, 8.17)
-    pub complete-keeping : mode ≡ keeping → (G E : ℕ) → G ≤ 29 → WidthComplete G E
-    -- the same, where the table at hand was looked through and every candidate that was skipped as known was skipped rightly
-    pub complete-rightly : (G E : ℕ) → G ≤ 29 → SkippedRightly mode n basis G E → WidthComplete G E
+    pub complete-keeping : mode ≡ keeping → (G E : ℕ) → G ≤ fittingGates → WidthComplete G E
+    -- the same, where the table at hand was looked through and every candidate that was skipped as known was skipped
+    -- rightly
+    pub complete-rightly : (G E : ℕ) → G ≤ fittingGates → SkippedRightly mode n basis G E → WidthComplete G E
     -- besides: an answered list is a list of the basis within the gate limit
     pub within : (G E : ℕ) (x : Exact) (l : List ℕ) → answered mode n basis G E x ≡ some l → ListOf n basis l × (length l ≤ G)

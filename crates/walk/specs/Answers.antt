@@ -1,5 +1,5 @@
--- What one width's part of a lent table answers to a matrix, whatever the arrays hold: the find, followed by the write of the node found
--- (SPECIFICATION 7.4 to 7.7). Assumes nothing.
+-- What one width's part of a lent table answers to a matrix, whatever the arrays hold: the find, followed by the write
+-- of the node found (SPECIFICATION 7.4 to 7.7). Assumes nothing.
 use mathlib.Core.List.{List, _++_}
 use Prim.Native.Nat.{ℕ}
 use lib.ListN.{length, drop}
@@ -26,8 +26,8 @@ outcome a l = record { reply = a; list = l }
 
 -- ---- the definition
 
--- by the chain of a node: its list is written over the first places of the lent list; a bad chain is 13, and the lent list is as it was
--- (SPECIFICATION 7.5, 7.7)
+-- by the chain of a node: its list is written over the first places of the lent list; a bad chain is 13, and the lent
+-- list is as it was (SPECIFICATION 7.5, 7.7)
 abbrev pub written : List ℕ → Chain → Outcome
 written out (good l) = outcome (given (length l)) (l ++ drop (length l) out)
 written out bad = outcome (refused 13 0) out

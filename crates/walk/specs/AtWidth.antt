@@ -1,5 +1,5 @@
--- The walk at a width and a basis, in a mode, over exact matrices. And the words of demand 3 about lists, which are here oldest gate first, as callers
--- have them. Assumes nothing.
+-- The walk at a width and a basis, in a mode, over exact matrices. And the words of demand 3 about lists, which are
+-- here oldest gate first, as callers have them. Assumes nothing.
 use mathlib.Core.Path.{_≡_}
 use mathlib.Core.Bool.{Bool, true}
 use mathlib.Core.List.{List, reverse}
@@ -62,8 +62,8 @@ built mode n basis G E = walk (atWidth mode n basis) G E
 abbrev pub ListOf : ℕ → ℕ → List ℕ → Type 0
 ListOf n basis l = all (validFor n basis) l ≡ true
 
--- no clash: where two lists of the basis at the width, each of at most G gates, have one fingerprint, the product of the second is a power of
--- omega times that of the first (SPECIFICATION 8.14)
+-- no clash: where two lists of the basis at the width, each of at most G gates, have one fingerprint, the product of
+-- the second is a power of omega times that of the first (SPECIFICATION 8.14)
 abbrev pub NoSharedPrint : ℕ → ℕ → ℕ → Type 0
 NoSharedPrint n basis G =
     (l m : List ℕ) → ListOf n basis l → ListOf n basis m → length l ≤ G → length m ≤ G

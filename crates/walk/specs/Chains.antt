@@ -1,5 +1,6 @@
--- The chain of a node, whatever the arrays of parents and codes hold: its gates, oldest first, or that the chain is bad (SPECIFICATION 7.5).
--- It is formed by recursion on how many gates the gate limit leaves, so that it ends in any memory. Assumes nothing.
+-- The chain of a node, whatever the arrays of parents and codes hold: its gates, oldest first, or that the chain is bad
+-- (SPECIFICATION 7.5). It is formed by recursion on how many gates the gate limit leaves, so that it ends in any
+-- memory. Assumes nothing.
 use mathlib.Core.Bool.{Bool, _&&_}
 use mathlib.Core.List.{List, [], _∷_, _++_}
 use Prim.Native.Nat.{ℕ, zero, suc}
@@ -22,7 +23,8 @@ abbrev pub then : Chain → ℕ → Chain
 then (good l) g = good (l ++ (g ∷ []))
 then bad g = bad
 
--- a node's chain from its parent's: bad if node 0 lacks a mark, a parent is not below, or a code is not valid for the basis (SPECIFICATION 7.5)
+-- a node's chain from its parent's: bad if node 0 lacks a mark, a parent is not below, or a code is not valid for the
+-- basis (SPECIFICATION 7.5)
 abbrev pub linked : ℕ → ℕ → List ℕ → List ℕ → Chain → ℕ → Chain
 linked n basis parents codes rest zero = pick (marked parents codes) (good []) bad
 linked n basis parents codes rest (suc node) =

@@ -1,5 +1,5 @@
--- The node that answers a matrix in one width's part of a lent table, whatever the arrays hold: look-up, chain, recheck (SPECIFICATION 7.4 to
--- 7.6). That a node found is right rests on the recheck alone. Assumes nothing.
+-- The node that answers a matrix in one width's part of a lent table, whatever the arrays hold: look-up, chain, recheck
+-- (SPECIFICATION 7.4 to 7.6). That a node found is right rests on the recheck alone. Assumes nothing.
 use mathlib.Core.Bool.{Bool, true, false, _&&_}
 use mathlib.Core.List.{List}
 use Prim.Native.Nat.{ℕ, zero, suc}
@@ -24,7 +24,8 @@ pub record WidthLimits : Type 0 where
   pub gates : ℕ
   pub entries : ℕ
 
--- a width's part of the three arrays, how many nodes it has, and how it is looked up, with its part of the index (SPECIFICATION 6.2, 7.13)
+-- a width's part of the three arrays, how many nodes it has, and how it is looked up, with its part of the index
+-- (SPECIFICATION 6.2, 7.13)
 pub record Part : Type 0 where
   pub fingerprints : List ℕ
   pub parents : List ℕ
@@ -59,13 +60,14 @@ pub data Finding : Type 0 where
 abbrev pub chainAt : WidthLimits → Part → ℕ → Chain
 chainAt limits part k = chainOf (limits .width) (limits .basis) (part .parents) (part .codes) (limits .gates) k
 
--- by the chain of node k: the node is found where its list passes the recheck, and 13 is told where the chain is bad; `rest` is what is found
--- where the list does not pass (SPECIFICATION 7.5, 7.6)
+-- by the chain of node k: the node is found where its list passes the recheck, and 13 is told where the chain is bad;
+-- `rest` is what is found where the list does not pass (SPECIFICATION 7.5, 7.6)
 abbrev pub byChain : ℕ → Exact → ℕ → Finding → Chain → Finding
 byChain n x k rest (good l) = pick (rechecked n l x) (node k (length l)) rest
 byChain n x k rest bad = refused 13 0
 
--- by what the look-up gave: the chain of the node is read, and `further` goes on from the next node; no node, none (SPECIFICATION 7.4)
+-- by what the look-up gave: the chain of the node is read, and `further` goes on from the next node; no node, none
+-- (SPECIFICATION 7.4)
 abbrev pub byLookup : WidthLimits → Part → Exact → (ℕ → Finding) → Lookup → Finding
 byLookup limits part x further (found k) = byChain (limits .width) x k (further (suc k)) (chainAt limits part k)
 byLookup limits part x further lookup.none = none
@@ -74,8 +76,8 @@ byLookup limits part x further lookup.none = none
 abbrev pub lookedIn : Part → ℕ → ℕ → Lookup
 lookedIn part from y = lookedUp (part .by) (part .index) (part .fingerprints) (part .count) from y
 
--- the nodes to which the fingerprint y leads, rising, until one is found for x or has a bad chain. At most m are looked at; each lies past the one
--- before, so as many as there are nodes are enough
+-- the nodes to which the fingerprint y leads, rising, until one is found for x or has a bad chain. At most m are looked
+-- at; each lies past the one before, so as many as there are nodes are enough
 unfoldable pub findFrom : WidthLimits → Part → ℕ → Exact → ℕ → ℕ → Finding
 findFrom limits part y x zero from = none
 findFrom limits part y x (suc m) from = byLookup limits part x (λ next. findFrom limits part y x m next) (lookedIn part from y)
@@ -84,8 +86,8 @@ findFrom limits part y x (suc m) from = byLookup limits part x (λ next. findFro
 unfoldable pub findBy : WidthLimits → Part → ℕ → Exact → Finding
 findBy limits part y x = findFrom limits part y x (part .count) 0
 
--- by its own fingerprint. Where the look-up finds the scan's node this is the lowest node that has it and whose list passes the recheck, but for a bad
--- chain before it (SPECIFICATION 7.4 to 7.6, 7.15; Meaning has the words)
+-- by its own fingerprint. Where the look-up finds the scan's node this is the lowest node that has it and whose list
+-- passes the recheck, but for a bad chain before it (SPECIFICATION 7.4 to 7.6, 7.15; Meaning has the words)
 abbrev pub findOf : WidthLimits → Part → Exact → Finding
 findOf limits part x = findBy limits part (fingerprint (limits .width) x) x
 

@@ -1,5 +1,5 @@
--- One width's part of an index: places that lead from a fingerprint to its nodes. A part may hold anything, and its size is its length; a place
--- that holds the mark is empty (SPECIFICATION 7.13). Assumes nothing.
+-- One width's part of an index: places that lead from a fingerprint to its nodes. A part may hold anything, and its
+-- size is its length; a place that holds the mark is empty (SPECIFICATION 7.13). Assumes nothing.
 use mathlib.Core.Bool.{Bool, not, _&&_}
 use mathlib.Core.List.{List}
 use Prim.Native.Nat.{ℕ, zero, suc, _+_, _%_}
@@ -9,8 +9,8 @@ use Rattle.ints.specs.Lists.{pick}
 use Rattle.circuit.specs.Codes.{mark}
 use Rattle.walk.specs.Lookup.{Lookup, found, none, lowestFrom}
 
--- the place of step j of a probe: j places onward, round the part, from the remainder of the fingerprint by the size. Where the size is a power of
--- two, that remainder is the fingerprint's low bits (SPECIFICATION 7.13)
+-- the place of step j of a probe: j places onward, round the part, from the remainder of the fingerprint by the size.
+-- Where the size is a power of two, that remainder is the fingerprint's low bits (SPECIFICATION 7.13)
 abbrev pub placeOf : ℕ → ℕ → ℕ → ℕ
 placeOf size fingerprint j = (fingerprint % size + j) % size
 
@@ -42,7 +42,8 @@ filled fingerprints size (suc count) = inserted (filled fingerprints size count)
 abbrev pub leads : List ℕ → ℕ → ℕ → ℕ → ℕ → Bool
 leads fingerprints count from fingerprint node = not (ltb node from) && (ltb node count && eqb (getD fingerprints node 0) fingerprint)
 
--- of m places, from step j on, the first that leads to a node. An empty place ends the probe; every other place that does not lead is passed over
+-- of m places, from step j on, the first that leads to a node. An empty place ends the probe; every other place that
+-- does not lead is passed over
 unfoldable pub probeOf : List ℕ → List ℕ → ℕ → ℕ → ℕ → ℕ → ℕ → Lookup
 probeOf index fingerprints count from fingerprint j zero = none
 probeOf index fingerprints count from fingerprint j (suc m) =

@@ -1,5 +1,5 @@
--- What an index is good for, whatever the fingerprints are, equal ones among them; and what a probe comes to, said of places, whatever the part holds
--- (SPECIFICATION 7.13 to 7.15). Assumes nothing.
+-- What an index of a part leads to, whatever the fingerprints are, equal ones among them; and what a probe comes to, said of
+-- places, whatever the part holds (SPECIFICATION 7.13 to 7.15). Assumes nothing.
 use mathlib.Core.Path.{_≡_}
 use mathlib.Core.List.{List, [], _∷_}
 use mathlib.Core.Logic.{_↔_}
@@ -45,7 +45,8 @@ module _ (index fingerprints : List ℕ) (count from fingerprint : ℕ) where
 
 -- ---- either look-up
 
--- a part has room for the nodes below the count: a place for each, and no node's number is the mark. The scan wants none
+-- a part has room for the nodes below the count: a place for each, and no node's number is the mark. The scan wants
+-- none
 abbrev pub Roomy : By → ℕ → List ℕ → Type 0
 Roomy by count old = by ≡ indexed → (count ≤ length old) × (count ≤ mark)
 
@@ -57,9 +58,9 @@ pub record Indexing : Type 0 where
   pub enough : (old : List ℕ) → length old ≤ mark → Roomy indexed (length old) old
   -- the scan leaves what was lent
   pub scan-leaves : (fingerprints old : List ℕ) (count : ℕ) → kept scan fingerprints count old ≡ old
-  -- computed: node 1 meets node 0 at the last place and goes round; node 2, with node 0's fingerprint, comes after both, and is found from 1 on; a part
-  -- without an empty place, whose numbers are all past the count, leads to none; put into such a part a node is left out, and so a part with fewer places
-  -- than nodes misses one
+  -- computed: node 1 meets node 0 at the last place and goes round; node 2, with node 0's fingerprint, comes after
+  -- both, and is found from 1 on; a part without an empty place, whose numbers are all past the count, leads to none;
+  -- put into such a part a node is left out, and so a part with fewer places than nodes misses one
   pub computed : (kept indexed (7 ∷ 3 ∷ 7 ∷ []) 3 (0 ∷ 0 ∷ 0 ∷ 0 ∷ []) ≡ 1 ∷ 2 ∷ mark ∷ 0 ∷ [])
       × (lookedUp indexed (1 ∷ 2 ∷ mark ∷ 0 ∷ []) (7 ∷ 3 ∷ 7 ∷ []) 3 1 7 ≡ found 2)
       × (lookedUp indexed (5 ∷ 5 ∷ []) (7 ∷ 3 ∷ []) 2 0 3 ≡ none)
@@ -74,5 +75,6 @@ pub record Indexing : Type 0 where
   -- whatever the part holds: a node that is found has the fingerprint, is below the count and not below the start
   pub sound : (by : By) (index fingerprints : List ℕ) (count from fingerprint node : ℕ)
       → lookedUp by index fingerprints count from fingerprint ≡ found node → NodeFrom fingerprints count from fingerprint node
-  -- whatever the part holds: an empty place ends a probe, and every other place that does not lead to a node is passed over
+  -- whatever the part holds: an empty place ends a probe, and every other place that does not lead to a node is passed
+  -- over
   pub probe : (index fingerprints : List ℕ) (count from fingerprint : ℕ) → Probes index fingerprints count from fingerprint

@@ -1,4 +1,5 @@
--- The look-up of a fingerprint, whatever the array of fingerprints holds: the lowest node that has it (SPECIFICATION 7.4). Assumes nothing.
+-- The look-up of a fingerprint, whatever the array of fingerprints holds: the lowest node that has it (SPECIFICATION
+-- 7.4). Assumes nothing.
 use mathlib.Core.List.{List}
 use Prim.Native.Nat.{ℕ, zero, suc, _-_}
 use lib.Dec.{eqb}

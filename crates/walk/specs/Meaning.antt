@@ -1,5 +1,6 @@
--- What look-ups, chains, finds, writes and answers come to, said of nodes, of the way along the parents and of lists: a second form of the
--- definitions of Lookup, Chains, Finds and Answers, shown to be equivalent, so that these can be checked by reading it. Assumes nothing.
+-- What look-ups, chains, finds, writes and answers come to, said of nodes, of the way along the parents and of lists: a
+-- second form of the definitions of Lookup, Chains, Finds and Answers, shown to be equivalent, so that these can be
+-- checked by reading it. Assumes nothing.
 use mathlib.Core.Path.{_≡_}
 use mathlib.Core.Bool.{true, false}
 use mathlib.Core.List.{List, _++_}
@@ -7,7 +8,7 @@ use mathlib.Core.Logic.{_↔_}
 use Prim.Native.Nat.{ℕ, zero, suc, _-_, _≤_, _<_}
 use lib.ListN.{length, getD, drop}
 use Rattle.ints.specs.Lists.{all}
-use Rattle.circuit.specs.Codes.{validFor}
+use Rattle.circuit.specs.Codes.{validFor, mark}
 use Rattle.exact.specs.Matrix.{Exact, PowerOf}
 use Rattle.exact.specs.Lists.{product}
 use Rattle.exact.specs.Fits.{allFit, unfitAt, steps}
@@ -18,7 +19,7 @@ use Rattle.walk.specs.Lookup.{found, lowestFrom}
 use Rattle.walk.specs.Lookup as lookup
 use Rattle.walk.specs.Index.{By, scan, indexed, lookedUp}
 use Rattle.walk.specs.IndexLaws.{ComesTo, ComesToNone}
-use Rattle.walk.specs.Chains.{good, bad, marked, chainOf}
+use Rattle.walk.specs.Chains.{good, bad, chainOf}
 use Rattle.walk.specs.Finds.{WidthLimits, Part, lookedIn, findOf}
 use Rattle.walk.specs.Finds as f
 use Rattle.walk.specs.Answers.{given, none, refused, outcome, writeOf, answerOf}
@@ -62,19 +63,22 @@ abbrev pub Trail : List ℕ → ℕ → ℕ → ℕ → Type 0
 Trail parents node zero m = node ≡ m
 Trail parents node (suc i) m = (0 < node) × Trail parents (getD parents node 0) i m
 
--- the way meets a fault: one case for each reason of SPECIFICATION 7.5; limit is the gate limit
+-- the way meets a fault: one case for each reason of SPECIFICATION 7.5, and one for each of node 0's two marks; limit
+-- is the gate limit
 pub data Fault (n basis limit : ℕ) (parents codes : List ℕ) (node : ℕ) : Type 0 where
   not-below : (i m : ℕ) → Trail parents node i m → 0 < m → m ≤ getD parents m 0 → Fault n basis limit parents codes node
   not-valid : (i m : ℕ) → Trail parents node i m → 0 < m → validFor n basis (getD codes m 0) ≡ false → Fault n basis limit parents codes node
   too-many : (i m : ℕ) → Trail parents node i m → limit < i → Fault n basis limit parents codes node
-  unmarked : (i : ℕ) → Trail parents node i 0 → marked parents codes ≡ false → Fault n basis limit parents codes node
+  no-parent-mark : (i : ℕ) → Trail parents node i 0 → (getD parents 0 0 ≡ mark → ⊥) → Fault n basis limit parents codes node
+  no-code-mark : (i : ℕ) → Trail parents node i 0 → (getD codes 0 0 ≡ mark → ⊥) → Fault n basis limit parents codes node
 
 -- the list of a way that meets none: the gate passed i-th, counted from 0, is the i-th from the list's end
 pub record Gates (n basis limit : ℕ) (parents codes : List ℕ) (node : ℕ) (l : List ℕ) : Type 0 where
   pub valid : all (validFor n basis) l ≡ true
   pub short : length l ≤ limit
   pub ends : Trail parents node (length l) 0
-  pub marks : marked parents codes ≡ true
+  pub parent-mark : getD parents 0 0 ≡ mark
+  pub code-mark : getD codes 0 0 ≡ mark
   pub falls : (i m : ℕ) → Trail parents node i m → 0 < m → getD parents m 0 < m
   pub gate : (i m : ℕ) → i < length l → Trail parents node i m → getD l (length l - suc i) 0 ≡ getD codes m 0
 
@@ -86,7 +90,8 @@ pub record Chained (n basis limit : ℕ) (parents codes : List ℕ) (node : ℕ)
 -- ---- the find
 
 module _ (limits : WidthLimits) (part : Part) (x : Exact) where
-  -- the node to which the fingerprint of x leads, not below a start; that there is none; the list of the way from a node, or that the way meets a fault
+  -- the node to which the fingerprint of x leads, not below a start; that there is none; the list of the way from a
+  -- node, or that the way meets a fault
   abbrev pub FoundNode : ℕ → ℕ → Type 0
   FoundNode from node = LeadsTo (part .by) (part .index) (part .fingerprints) (part .count) from (fingerprint (limits .width) x) node
 
@@ -104,12 +109,14 @@ module _ (limits : WidthLimits) (part : Part) (x : Exact) where
     does-not-fit : (i : ℕ) (l : List ℕ) → GatesOf node l → steps (limits .width) l ≡ unfitAt i → Passed node
     not-equal : (l : List ℕ) → GatesOf node l → upToPhase (limits .width) (product (limits .width) l) x ≡ false → Passed node
 
-  -- the nodes that are looked at: that to which the fingerprint leads, and after one that is passed that to which it leads past it
+  -- the nodes that are looked at: that to which the fingerprint leads, and after one that is passed that to which it
+  -- leads past it
   pub data LookedAt : ℕ → Type 0 where
     at-first : (node : ℕ) → FoundNode 0 node → LookedAt node
     past : (before node : ℕ) → LookedAt before → Passed before → FoundNode (suc before) node → LookedAt node
 
-  -- the node is looked at; the way from it gives the list, every step fits, and the product is equal up to phase to x (SPECIFICATION 7.6)
+  -- the node is looked at; the way from it gives the list, every step fits, and the product is equal up to phase to x
+  -- (SPECIFICATION 7.6)
   pub record FoundBy (node : ℕ) (l : List ℕ) : Type 0 where
     pub leads : LookedAt node
     pub gates : GatesOf node l
@@ -145,15 +152,15 @@ module _ (limits : WidthLimits) (part : Part) (x : Exact) where
     pub has : getD (part .fingerprints) node 0 ≡ fingerprint (limits .width) x
 
   -- and every lower node that has it is passed
-  pub record Lowest (node : ℕ) : Type 0 where
+  pub record AllLowerPassed (node : ℕ) : Type 0 where
     pub print : HasPrint node
     pub passed : (m : ℕ) → m < node → HasPrint m → Passed m
 
   pub record ScanMeans : Type 0 where
     pub is-node : (k m : ℕ) → (findOf limits part x ≡ f.node k m)
-        ↔ ((l : List ℕ) × Lowest k × GatesOf k l × (steps (limits .width) l ≡ allFit) × (upToPhase (limits .width) (product (limits .width) l) x ≡ true) × (m ≡ length l))
+        ↔ ((l : List ℕ) × AllLowerPassed k × GatesOf k l × (steps (limits .width) l ≡ allFit) × (upToPhase (limits .width) (product (limits .width) l) x ≡ true) × (m ≡ length l))
     pub is-none : (findOf limits part x ≡ f.none) ↔ ((m : ℕ) → HasPrint m → Passed m)
-    pub is-refused : (a i : ℕ) → (findOf limits part x ≡ f.refused a i) ↔ (((k : ℕ) × Lowest k × FaultOf k) × (a ≡ 13) × (i ≡ 0))
+    pub is-refused : (a i : ℕ) → (findOf limits part x ≡ f.refused a i) ↔ (((k : ℕ) × AllLowerPassed k × FaultOf k) × (a ≡ 13) × (i ≡ 0))
 
   -- no two nodes have one fingerprint
   abbrev pub Distinct : Type 0
@@ -197,8 +204,8 @@ pub record WriteMeans (limits : WidthLimits) (part : Part) (node : ℕ) (out : L
 
 -- ---- what holds of a list answered and of the matrix asked, whatever the arrays hold
 
--- the product is a power of omega times the matrix, the list is one of the basis at the width and within the gate limit, and the matrix is
--- unitary, so that any other gets none (SPECIFICATION 7.8, 8.3)
+-- the product is a power of omega times the matrix, the list is one of the basis at the width and within the gate
+-- limit, and the matrix is unitary, so that any other gets none (SPECIFICATION 7.8, 8.3)
 pub record Right (n basis limit : ℕ) (x : Exact) (l : List ℕ) : Type 0 where
   pub power : PowerOf n x (product n l)
   pub valid : all (validFor n basis) l ≡ true

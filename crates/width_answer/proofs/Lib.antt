@@ -1,4 +1,1 @@
-pub mod Copies
-pub mod Rechecked
-pub mod Noded
 pub mod Widths

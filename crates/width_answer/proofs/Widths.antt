@@ -21,9 +21,10 @@ use Rattle.walk.proofs.Indexed.{looked-node}
 use Rattle.walk.specs.Answers.{outcome, writeOf, thenWrite, answerOf}
 use Rattle.walk.specs.Answers as a
 use Rattle.walk.proofs.Meaning.{no-nodes, find-means, means}
-use Rattle.width_answer.specs.Answers.{toldFind, NodeFound, PrintFound, ListFound}
-use Rattle.width_answer.specs.declared.Find.{Find}
-use Rattle.width_answer.specs.declared.Find.the-variants as d
+use Rattle.node_answer.specs.Answers.{toldFind, NodeFound}
+use Rattle.width_answer.specs.Answers.{PrintFound, ListFound}
+use Rattle.node_answer.specs.declared.Find.{Find}
+use Rattle.node_answer.specs.declared.Find.the-variants as d
 
 -- whether none is found
 abbrev pub isNone : Finding → Bool

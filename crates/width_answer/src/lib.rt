@@ -1,116 +1,30 @@
-// The node that answers a matrix in one width's part of a lent table, whatever its three arrays hold (SPECIFICATION 7.4 to 7.6). murm.rs of the
-// original, `Murm::synthesize`, below the public entries. A build that keeps clashing nodes asks it too (crate `known`).
+// The node that answers a matrix in one width's part of a lent table, whatever its three arrays hold (SPECIFICATION 7.4
+// to 7.6). murm.rs of the original, `Murm::synthesize`, below the public entries. A build that keeps clashing nodes
+// asks it too (crate `known`): it has looked the first node up already, so the search stands apart from the first
+// look-up.
 ghost use mathlib.Core.Path.{_≡_};
-ghost use mathlib.Core.Bool.{true};
-ghost use mathlib.Core.List.{_++_};
-ghost use Prim.Native.Nat.{_≤_, _<_};
-ghost use lib.ListN.{length, drop};
-ghost use Rattle.ints.specs.Lists.{all};
-ghost use Rattle.circuit.specs.Codes.{valid};
-ghost use Rattle.exact.specs.Places.{held};
-ghost use Rattle.walk.specs.Chains.{chainOf};
-ghost use Rattle.width_answer.specs.Answers.{AskedPlaces, toldFind, NodeFound, PrintFound, ListFound};
+ghost use Prim.Native.Nat.{_≤_};
+ghost use lib.ListN.{length};
 ghost use Rattle.exact.specs.Matrix.{identity};
+ghost use Rattle.exact.specs.Places.{held};
 ghost use Rattle.places.specs.Places.{places};
-ghost use Rattle.matrix.specs.Step.{Holds};
+ghost use Rattle.places.specs.Held.{Holds};
 ghost use Rattle.walk.specs.Lookup.{found};
-ghost use Rattle.walk.specs.Finds.{partWith, rechecked, lookedIn};
+ghost use Rattle.walk.specs.Finds.{partWith, lookedIn};
 ghost use Rattle.index.specs.Told.{toldBy};
 ghost use Rattle.synthesis_arena.specs.Limits.{toldLimits};
-use circuit::GateSet;
+ghost use Rattle.node_answer.specs.Answers.{AskedPlaces, toldFind};
+ghost use Rattle.width_answer.specs.Answers.{PrintFound, ListFound};
 use cyclotomic::Coefficient;
 use index::LookupBy;
-use lists::Walked;
+use node_answer::Find;
 use synthesis_arena::Found;
-use synthesis_arena::NodeCircuit;
 use synthesis_arena::WidthLimits;
 
-// What is found: a node, and how many gates its list has; none; or that a chain that was met is bad (SPECIFICATION 7.5).
-pub enum Find {
-    Node(usize, usize),
-    Nothing,
-    BadChain,
-}
-
-// The recheck: the product of the list is formed from the identity in lent places; whether every step fits, and it is equal up to phase to the matrix
-// asked (SPECIFICATION 7.6). What the places hold afterwards is not told.
-pub fn recheck(
-    codes: &[u32],
-    n: usize,
-    exponent: u16,
-    query: &[Coefficient],
-    scratch: &mut [Coefficient; 4096],
-) -> bool
-    requires { ⌜ n ≤ 5 ⌝ }
-    requires { ⌜ all (valid n) (now codes) ≡ true ⌝ }
-    requires { ⌜ AskedPlaces n (now query) ⌝ }
-    requires { ⌜ Holds n 0 (now scratch) identity ⌝ }
-    ensures passes { λ r. ⌜ r ≡ rechecked n (now (codes .entry)) (held n exponent (now (query .entry))) ⌝ }
-    ensures long { λ _. ⌜ length (now (scratch .exit)) ≡ places ⌝ }
-{
-    match lists::apply_gates(scratch, n, codes) {
-        Walked::Fits(k) => prints::equivalent_up_to_global_phase(scratch, query, n, k, exponent),
-        Walked::UnfitAt(_) => false,
-    }
-}
-
-// The places of one slice are copied to the first places of the other.
-pub fn copy_codes(to: &mut [u32], from: &[u32])
-    requires { ⌜ length (now from) ≤ length (now to) ⌝ }
-    ensures { λ _. ⌜ now (to .exit) ≡ now (from .entry) ++ drop (length (now (from .entry))) (now (to .entry)) ⌝ }
-{
-    let mut i = 0;
-    while i < from.len() {
-        to[i] = from[i];
-        i += 1;
-    }
-}
-
-// What one node is to the matrix asked. Its list is read into the first places of `list`, and its product formed in `scratch`.
-fn find_node(
-    limits: WidthLimits,
-    node: usize,
-    exponent: u16,
-    parents: &[u32],
-    codes: &[u32],
-    query: &[Coefficient],
-    list: &mut [u32],
-    scratch: &mut [Coefficient; 4096],
-) -> Find
-    requires { ⌜ (limits .width ≤ 5) × (limits .gates ≤ length (now list)) ⌝ }
-    requires { ⌜ (node < length (now parents)) × (node < length (now codes)) ⌝ }
-    requires { ⌜ AskedPlaces (limits .width) (now query) ⌝ }
-    requires { ⌜ Holds (limits .width) 0 (now scratch) identity ⌝ }
-    ensures is { λ r. ⌜ NodeFound (limits .width) (held (limits .width) exponent (now (query .entry)))
-        (chainOf (limits .width) (limits .basis) (now (parents .entry)) (now (codes .entry)) (limits .gates)) node (toldFind r) (now (list .exit)) ⌝ }
-    ensures long { λ _. ⌜ length (now (scratch .exit)) ≡ places ⌝ }
-{
-    let NodeCircuit::Length(size) = synthesis_arena::circuit(
-        parents,
-        codes,
-        limits.width,
-        GateSet(limits.basis),
-        limits.gates,
-        node,
-        list,
-    ) else {
-        return Find::BadChain; // 13
-    };
-    if !recheck(
-        &list[0..size],
-        limits.width as usize,
-        exponent,
-        query,
-        scratch,
-    ) {
-        return Find::Nothing; // its list does not pass
-    }
-    Find::Node(node, size)
-}
-
-// The node of a width's part with a fingerprint whose list passes the recheck against a matrix: by the scan the lowest (SPECIFICATION 7.4, 7.15). The caller
-// has looked the first node up, and has put the identity into `scratch`. Nodes with the fingerprint are looked at rising: one whose list does not pass is
-// passed over, and a bad chain ends the search. Each lies past the one before, so no more are looked at than there are. The list of the node found is left in
+// The node of a width's part with a fingerprint whose list passes the recheck against a matrix: by the scan the lowest
+// (SPECIFICATION 7.4, 7.15). The caller has looked the first node up, and has put the identity into `scratch`. Nodes
+// with the fingerprint are looked at rising: one whose list does not pass is passed over, and a bad chain ends the
+// search. Each lies past the one before, so no more are looked at than there are. The list of the node found is left in
 // the first places of `list`; what `list` holds where none is found, and what `scratch` holds afterwards, is not told.
 pub fn find_at(
     by: LookupBy,
@@ -142,7 +56,7 @@ pub fn find_at(
     let mut at = node;
     let mut left = count;
     while left > 0 {
-        match find_node(lim, at, exponent, parents, codes, query, list, scratch) {
+        match node_answer::find_node(lim, at, exponent, parents, codes, query, list, scratch) {
             Find::Node(k, m) => {
                 return Find::Node(k, m);
             }
@@ -155,7 +69,7 @@ pub fn find_at(
         else {
             return Find::Nothing; // none is left
         };
-        matrix::set_identity(scratch, lim.width as usize);
+        identity::set_identity(scratch, lim.width as usize);
         at = next;
         left -= 1;
     }
@@ -187,7 +101,7 @@ pub fn find_width(
         return Find::Nothing;
     };
     let mut scratch: [Coefficient; 4096] = [0; 4096]; // only here: a miss does without it
-    matrix::put_identity(&mut scratch, limits.width as usize);
+    identity::put_identity(&mut scratch, limits.width as usize);
     find_at(
         by,
         limits,

@@ -1,3 +1,1 @@
-pub mod LayerLoop
-pub mod DepthLoop
 pub mod Root

@@ -1,4 +1,5 @@
--- Node 0 in the arrays, a width without generators and one with some; and the generators, in their own array. Assumes nothing.
+-- Node 0 in the arrays, a width without generators and one with some; and the generators, in their own array. Assumes
+-- nothing.
 use mathlib.Core.Path.{_≡_, refl, sym, ap, _∙_, subst}
 use mathlib.Core.Bool.{Bool, true, false}
 use mathlib.Core.List.{List, [], _∷_}
@@ -12,10 +13,10 @@ use Rattle.walk.specs.Modes.{Mode}
 use Rattle.walk.specs.Index.{By}
 use Rattle.walk.specs.Walk.{Build, root, begin, depths, isNil, walk}
 use Rattle.synthesis_arena.specs.declared.WidthLimits.{WidthLimits}
-use Rattle.next_node.specs.Arrays.{rules, Columns, Long}
-use Rattle.width_table.specs.declared.WidthTable.{WidthTable}
-use Rattle.width_table.specs.Table.{Start, Whole}
-use Rattle.width_table.proofs.DepthLoop.{row}
+use Rattle.width_arrays.specs.Arrays.{rules, Columns, Long}
+use Rattle.width_record.specs.declared.WidthTable.{WidthTable}
+use Rattle.width_depths.specs.Depths.{Start, Whole}
+use Rattle.width_depths.proofs.DepthLoop.{row}
 
 nil : (xs : List ℕ) → length xs ≡ 0 → isNil xs ≡ true
 nil [] z = refl

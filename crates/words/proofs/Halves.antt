@@ -7,21 +7,21 @@ use native.Mathlib.Omega.{arith}
 use lib.Bits.{bitOr, or-shifted}
 use lib.Pow.{pow-pos, pow-add}
 use lib.Arith.{mod-mul}
-use Rattle.words.specs.Words.{product, rotated}
+use Rattle.words.specs.Words.{wordProduct, rotated}
 
 pub product-fits : (a b : ℕ) → a < 2 ^ 32 → b < 2 ^ 32 → a * b < 2 ^ 64
 product-fits a b ha hb = lt-of-le-of-lt (mul-le-mul-left a (le-of-lt hb)) (mul-lt-mul-of-pos-right ha (pow-pos 32))
 
 -- a's halves are h and l, b's are k and m
-halves : (h l k m x y : ℕ) → x ≡ (l * k + h * m) % 2 ^ 64 → y ≡ (l * m + (x * 4294967296) % 2 ^ 64) % 2 ^ 64 → y ≡ product (h * 4294967296 + l) (k * 4294967296 + m)
-unfolding product
+halves : (h l k m x y : ℕ) → x ≡ (l * k + h * m) % 2 ^ 64 → y ≡ (l * m + (x * 4294967296) % 2 ^ 64) % 2 ^ 64 → y ≡ wordProduct (h * 4294967296 + l) (k * 4294967296 + m)
+unfolding wordProduct
 halves h l k m x y e f = omega arith
 
-pub whole : (a b x y : ℕ) → x ≡ ((a % 4294967296) * (b / 4294967296) + (a / 4294967296) * (b % 4294967296)) % 2 ^ 64 → y ≡ ((a % 4294967296) * (b % 4294967296) + (x * 4294967296) % 2 ^ 64) % 2 ^ 64 → y ≡ product a b
+pub whole : (a b x y : ℕ) → x ≡ ((a % 4294967296) * (b / 4294967296) + (a / 4294967296) * (b % 4294967296)) % 2 ^ 64 → y ≡ ((a % 4294967296) * (b % 4294967296) + (x * 4294967296) % 2 ^ 64) % 2 ^ 64 → y ≡ wordProduct a b
 whole a b x y e f =
     let p : a / 4294967296 * 4294967296 + a % 4294967296 ≡ a = omega arith in
     let q : b / 4294967296 * 4294967296 + b % 4294967296 ≡ b = omega arith in
-    halves (a / 4294967296) (a % 4294967296) (b / 4294967296) (b % 4294967296) x y e f ∙ (λ i. product (p i) (q i))
+    halves (a / 4294967296) (a % 4294967296) (b / 4294967296) (b % 4294967296) x y e f ∙ (λ i. wordProduct (p i) (q i))
 
 -- one law for every amount: the k highest of j + k bits go to the low end
 module _ (j k a : ℕ) (h : a < 2 ^ j * 2 ^ k) where

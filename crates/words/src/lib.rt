@@ -1,11 +1,13 @@
-// Words of 64 bits: products and rotations as the fingerprint's streams use them, and a coefficient as a word. Sums that wrap are std's.
+// Words of 64 bits: products and rotations as the fingerprint's streams use them, and a coefficient as a word. The
+// language has no product that wraps and no rotation, so both are made of halves and shifts here, once; sums that wrap
+// are std's.
 ghost use mathlib.Core.Path.{_≡_};
-ghost use Rattle.words.specs.Words.{product, rotated, word};
-use cyclotomic::Coefficient;
+ghost use Rattle.words.specs.Words.{wordProduct, rotated, word};
+use coefficients::Coefficient;
 
 // The product modulo 2^64, from halves of 32 bits.
 pub fn wrapping_mul(a: u64, b: u64) -> u64
-    ensures { λ r. ⌜ r ≡ product a b ⌝ }
+    ensures { λ r. ⌜ r ≡ wordProduct a b ⌝ }
 {
     let low = a % 0x1_0000_0000;
     let high = a / 0x1_0000_0000;
@@ -27,7 +29,8 @@ pub fn rotate_left(a: u64, places: u32) -> u64
     (a << up) | (a >> down)
 }
 
-// A coefficient's 64 bits, its sign extended. It is widened first: then both arms are the widened number, and the compiler sees it.
+// A coefficient's 64 bits, its sign extended. It is widened first: then both arms are the widened number, and the
+// compiler sees it.
 pub fn sign_extended(x: Coefficient) -> u64
     ensures { λ r. ⌜ r ≡ word x ⌝ }
 {

@@ -2,7 +2,7 @@
 use native.Mathlib.Omega.{arith}
 use borrow.Author.Needs.{needs}
 use Rattle.tables.specs.Checks.{Arrays, arraysBy}
-use Rattle.murm.specs.Entries.{toldBuilding}
+use Rattle.murm_build.specs.Entries.{toldBuilding}
 use Rattle.bench.specs.Numbers.{byNumber, modeNumber}
 use Rattle.bench.proofs.Tables.{few-limits, few-numbers, enough, by-built, short-built, long-built}
 use Rattle.bench.proofs.bench_build.Statement.{statement}

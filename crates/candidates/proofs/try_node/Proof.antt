@@ -1,13 +1,15 @@
--- `try_node` meets its contract: the gates that the two tests leave, what is looked up ahead for them, and then each of them. Assumes nothing.
+-- `try_node` meets its contract: the gates that the two tests leave, what is looked up ahead for them, and then each of
+-- them. Assumes nothing.
 use mathlib.Core.Path.{refl, ap, _∙_}
 use Prim.Native.Nat.{_≤_}
 use native.Mathlib.Omega.{arith}
 use lib.ListN.{length}
 use Rattle.generators.proofs.Most.{most-enough}
-use Rattle.next_node.proofs.Tries.{live-count, live-long}
-use Rattle.candidates.specs.Tries.{unskipped}
+use Rattle.width_arrays.proofs.Live.{live-count, live-long}
+use Rattle.skip_rules.specs.Skips.{unskipped}
 use Rattle.candidates.proofs.Lists.{live-readable, node-formed}
-use Rattle.candidates.proofs.Kept.{fit-few, both-gates, both-prints, looked-first, unpruned-valid}
+use Rattle.candidates.proofs.Kept.{fit-few, both-gates, both-prints, unpruned-valid}
+use Rattle.looked_ahead.proofs.Ahead.{looked-first}
 use borrow.Author.Needs.{needs}
 use Rattle.candidates.proofs.try_node.Statement.{statement}
 use Rattle.candidates.proofs.try_node.Tie as tie

@@ -1,5 +1,5 @@
--- `t_charge` meets its contract. The loop's invariant: the sum and the charge of what is left are the charge of the list.
--- Assumes nothing.
+-- `t_charge` meets its contract. The loop's invariant: the sum and the charge of what is left are the charge of the
+-- list. Assumes nothing.
 use Prim.Native.Nat.{ℕ, _≤_, _-_, _+_}
 use native.Mathlib.Omega.{arith}
 use native.Mathlib.Numerals.{add-one}

@@ -1,9 +1,10 @@
--- `with_output` lends its array whole. The law's arguments are written out: otherwise antt would make the list. Assumes nothing.
+-- `with_output` lends its array whole. The law's arguments are written out: otherwise antt would make the list. Assumes
+-- nothing.
 use mathlib.Core.Path.{_≡_, sym}
 use Prim.Native.Nat.{ℕ, _≤_}
 use native.Mathlib.Omega.{arith}
 use lib.ListN.{length-replicate}
-use Rattle.circuits_output.specs.Output.{roomFor}
+use Rattle.circuits_built.specs.Built.{roomFor}
 use Rattle.circuits_output.proofs.Whole.{room-is}
 use Rattle.circuits.proofs.with_output.Statement.{statement}
 use Rattle.circuits.proofs.with_output.Tie as tie

@@ -6,8 +6,8 @@ use borrow.Author.Needs.{needs}
 use lib.ListN.{length, length-drop}
 use Rattle.tables.specs.Checks.{Arrays, arrays}
 use Rattle.murm_config.specs.Told.{toldConfig}
-use Rattle.circuits_output.specs.Output.{roomFor}
-use Rattle.circuits_output.proofs.Rooms.{some-room}
+use Rattle.circuits_built.specs.Built.{roomFor}
+use Rattle.circuits_built.proofs.Rooms.{some-room}
 use Rattle.circuits_output.proofs.Builds.{arrays-are, ready}
 use Rattle.circuits_output.proofs.Runs.{placed-as, later-all, built-put, program-short, program-came}
 use Rattle.circuits_output.proofs.circuits.Statement.{statement}

@@ -1,6 +1,6 @@
 -- `room` meets its contract. Assumes nothing.
 use borrow.Author.Needs.{needs}
-use Rattle.circuits_output.specs.Output.{roomFor}
+use Rattle.circuits_built.specs.Built.{roomFor}
 use Rattle.circuits_output.proofs.room.Statement.{statement}
 use Rattle.circuits_output.proofs.room.Tie as tie
 

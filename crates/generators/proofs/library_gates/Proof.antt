@@ -1,5 +1,5 @@
--- `generators::library_gates` meets its contract: its loop keeps that the codes of the kinds passed are written, and the generators have
--- room and are listed. Assumes nothing.
+-- `generators::library_gates` meets its contract: its loop keeps that the codes of the kinds passed are written, and
+-- the generators have room and are listed. Assumes nothing.
 use mathlib.Core.Path.{_≡_}
 use mathlib.Core.List.{List}
 use Prim.Native.Nat.{ℕ, _+_, _-_, _≤_}

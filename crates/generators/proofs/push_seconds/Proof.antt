@@ -1,5 +1,5 @@
--- `generators::push_seconds` meets its contract: its loop keeps that the codes of the second operands passed are written.
--- Assumes nothing.
+-- `generators::push_seconds` meets its contract: its loop keeps that the codes of the second operands passed are
+-- written. Assumes nothing.
 use Prim.Native.Nat.{_≤_, _-_}
 use native.Mathlib.Omega.{arith}
 use borrow.Author.Needs.{needs}

@@ -1,5 +1,5 @@
--- `generators::push_valid` meets its contract: a code that is not valid gives no code to write, a valid one gives itself, and has room.
--- Assumes nothing.
+-- `generators::push_valid` meets its contract: a code that is not valid gives no code to write, a valid one gives
+-- itself, and has room. Assumes nothing.
 use mathlib.Core.Path.{_≡_, refl, sym, _∙_}
 use mathlib.Core.Bool.{true, false}
 use Prim.Native.Nat.{_+_, _≤_}

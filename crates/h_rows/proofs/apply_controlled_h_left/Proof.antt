@@ -1,4 +1,5 @@
--- `apply_controlled_h_left` meets its contract: the test comes before any store, so a refusal leaves all places, and past it every result fits.
+-- `apply_controlled_h_left` meets its contract: the test comes before any store, so a refusal leaves all places, and
+-- past it every result fits.
 use borrow.Author.Needs.{needs}
 use borrow.Author.Tests.{not-true, not-false}
 use mathlib.Core.Path.{refl}

@@ -1,4 +1,5 @@
--- `apply_h_left` meets its contract: the test comes before any store, so a refusal leaves all places, and past it every sum and difference fits.
+-- `apply_h_left` meets its contract: the test comes before any store, so a refusal leaves all places, and past it every
+-- sum and difference fits.
 use borrow.Author.Needs.{needs}
 use borrow.Author.Tests.{not-true, not-false}
 use mathlib.Core.Path.{refl}

@@ -1,4 +1,5 @@
--- `controlled_h_fits` meets its contract: where every pair, tested at its lower row, fits, so does the whole result, and a pair that does not is part of it.
+-- `controlled_h_fits` meets its contract: where every pair, tested at its lower row, fits, so does the whole result,
+-- and a pair that does not is part of it.
 use Prim.Native.Nat.{_-_, _^_, _≤_}
 use native.Mathlib.Omega.{arith}
 use borrow.Author.Needs.{needs}

@@ -1,4 +1,5 @@
--- `controlled_pair_fits` meets its contract: a row without the bit and its partner lie in the array, and `sizes_fit` tests just what their sums ask.
+-- `controlled_pair_fits` meets its contract: a row without the bit and its partner lie in the array, and `sizes_fit`
+-- tests just what their sums ask.
 use native.Mathlib.Omega.{arith}
 use borrow.Author.Needs.{needs}
 use borrow.Author.Tests.{eq-eqb, ne-eqb}

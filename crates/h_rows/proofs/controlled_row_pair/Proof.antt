@@ -1,4 +1,5 @@
--- `controlled_row_pair` meets its contract: a row without the bit lies before its partner, and what is required of the pair is what `sum_row` asks.
+-- `controlled_row_pair` meets its contract: a row without the bit lies before its partner, and what is required of the
+-- pair is what `sum_row` asks.
 use native.Mathlib.Omega.{arith}
 use borrow.Author.Needs.{needs}
 use borrow.Author.Tests.{eq-eqb, ne-eqb}

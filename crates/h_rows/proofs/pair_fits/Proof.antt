@@ -1,4 +1,5 @@
--- `pair_fits` meets its contract: a row without the bit and its partner lie in the array, and `sizes_fit` tests just what their sums ask.
+-- `pair_fits` meets its contract: a row without the bit and its partner lie in the array, and `sizes_fit` tests just
+-- what their sums ask.
 use native.Mathlib.Omega.{arith}
 use borrow.Author.Needs.{needs}
 use borrow.Author.Tests.{eq-eqb, ne-eqb}

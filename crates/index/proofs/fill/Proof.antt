@@ -1,4 +1,5 @@
--- `fill` meets its contract: after i turns the nodes below i are in the part. The measure is how many nodes are left. Assumes nothing.
+-- `fill` meets its contract: after i turns the nodes below i are in the part. The measure is how many nodes are left.
+-- Assumes nothing.
 use mathlib.Core.Path.{_≡_, ap, _∙_}
 use Prim.Native.Nat.{ℕ, _≤_, _-_}
 use native.Mathlib.Omega.{arith}

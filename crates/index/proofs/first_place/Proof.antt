@@ -1,4 +1,5 @@
--- `first_place` meets its contract: by a power of two the remainder is the low bits, and a remainder by the size is below it. Assumes nothing.
+-- `first_place` meets its contract: by a power of two the remainder is the low bits, and a remainder by the size is
+-- below it. Assumes nothing.
 use mathlib.Core.Path.{_∙_}
 use borrow.Author.Needs.{needs}
 use Rattle.ints.proofs.Powers.{mask-mod}

@@ -1,4 +1,5 @@
--- `insert` meets its contract: what is left from the step reached is the whole insertion. The measure is how many steps are left. Assumes nothing.
+-- `insert` meets its contract: what is left from the step reached is the whole insertion. The measure is how many steps
+-- are left. Assumes nothing.
 use mathlib.Core.Path.{ap}
 use Prim.Native.Nat.{_-_}
 use native.Mathlib.Omega.{arith}

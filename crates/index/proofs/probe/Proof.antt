@@ -1,4 +1,5 @@
--- `probe` meets its contract: what is left from the step reached is the whole probe. The measure is how many steps are left. Assumes nothing.
+-- `probe` meets its contract: what is left from the step reached is the whole probe. The measure is how many steps are
+-- left. Assumes nothing.
 use mathlib.Core.Path.{sym, _∙_}
 use Prim.Native.Nat.{_-_}
 use native.Mathlib.Omega.{arith}

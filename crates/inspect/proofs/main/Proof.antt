@@ -1,4 +1,5 @@
--- `main` takes no more bytes than were read. The law's arguments are written out: otherwise antt would make the list. Assumes nothing.
+-- `main` takes no more bytes than were read. The law's arguments are written out: otherwise antt would make the list.
+-- Assumes nothing.
 use mathlib.Core.Path.{sym}
 use Prim.Native.Nat.{ℕ}
 use borrow.Author.Needs.{needs}

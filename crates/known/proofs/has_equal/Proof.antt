@@ -2,8 +2,8 @@
 use mathlib.Core.Path.{sym, ap, _∙_}
 use borrow.Author.Needs.{needs}
 use Rattle.walk.specs.Finds.{isNode}
-use Rattle.width_answer.specs.Answers.{toldFind}
-use Rattle.width_answer.specs.declared.Find.{Find}
+use Rattle.node_answer.specs.Answers.{toldFind}
+use Rattle.node_answer.specs.declared.Find.{Find}
 use Rattle.known.proofs.has_equal.Statement.{statement}
 use Rattle.known.proofs.has_equal.Tie as tie
 

@@ -28,9 +28,9 @@ returns-2 c =
     let s = c .before .before .before .before .before .before .before .before .before .before in
     let a = s .args in
     let part = partWith (toldBy (a .by)) (a .fingerprints .now) (a .parents .now) (a .codes .now) (a .count) (a .index .now) in
-    let x = act (a .limits .width) (gateOf (a .limits .width) (a .gate)) (held (a .limits .width) (a .exponent) (a .m .now)) in (
-      sym (ap (λ (m : BuildMode). isKnown (toldMode m) (toldLimits (a .limits)) part (a .print) x) (c .enum-told2 .given .1)
-          ∙ known-print (toldLimits (a .limits)) part (a .print) x (sym (c .before .before .before .before .before .first-node .ensures) ∙ ap toldFound (c .before .before .before .node .given .1))),
+    let x = act (a .limits .width) (gateOf (a .limits .width) (a .candidate .gate)) (held (a .limits .width) (a .exponent) (a .m .now)) in (
+      sym (ap (λ (m : BuildMode). isKnown (toldMode m) (toldLimits (a .limits)) part (a .candidate .print) x) (c .enum-told2 .given .1)
+          ∙ known-print (toldLimits (a .limits)) part (a .candidate .print) x (sym (c .before .before .before .before .before .first-node .ensures) ∙ ap toldFound (c .before .before .before .node .given .1))),
       s .pre .1 .1 .1 .1 .1,
     )
 
@@ -38,8 +38,8 @@ returns-3 : tie.Need-returns-3
 returns-3 c =
     let a = c .before .before .before .before .before .before .before .before .before .before .before .before .before .args in
     let part = partWith (toldBy (a .by)) (a .fingerprints .now) (a .parents .now) (a .codes .now) (a .count) (a .index .now) in
-    let x = act (a .limits .width) (gateOf (a .limits .width) (a .gate)) (held (a .limits .width) (a .exponent) (a .m .now)) in (
-      c .has-candidate .ensures .0 ∙ sym (ap (λ (m : BuildMode). isKnown (toldMode m) (toldLimits (a .limits)) part (a .print) x) (c .before .before .before .enum-told3 .given .1)),
+    let x = act (a .limits .width) (gateOf (a .limits .width) (a .candidate .gate)) (held (a .limits .width) (a .exponent) (a .m .now)) in (
+      c .has-candidate .ensures .0 ∙ sym (ap (λ (m : BuildMode). isKnown (toldMode m) (toldLimits (a .limits)) part (a .candidate .print) x) (c .before .before .before .enum-told3 .given .1)),
       c .has-candidate .ensures .1,
     )
 

@@ -1,5 +1,5 @@
--- `apply_gates` meets its contract: after each gate the places hold the product so far, and the rest of the list says whether all of it
--- fits. Assumes nothing.
+-- `apply_gates` meets its contract: after each gate the places hold the product so far, and the rest of the list says
+-- whether all of it fits. Assumes nothing.
 use Prim.Native.Nat.{_-_}
 use native.Mathlib.Omega.{arith}
 use lib.ListN.{length}
@@ -7,7 +7,7 @@ use borrow.Author.Needs.{needs}
 use Rattle.places.specs.Places.{Kept}
 use Rattle.places.proofs.Placed.{kept-refl, kept-trans}
 use Rattle.ints.proofs.Bools.{all-at}
-use Rattle.matrix.proofs.Steps.{at-answer}
+use Rattle.steps.proofs.Steps.{at-answer}
 use Rattle.lists.proofs.Walking.{Walking, walking-first, walking-more, walking-unfit, walking-end}
 use Rattle.lists.proofs.apply_gates.Statement.{statement}
 use Rattle.lists.proofs.apply_gates.Tie as tie

@@ -2,8 +2,8 @@
 use mathlib.Core.Path.{sym}
 use borrow.Author.Needs.{needs}
 use Rattle.exact.proofs.Coded.{valid-kind}
-use Rattle.matrix.proofs.Masks.{coded, coded-proper}
-use Rattle.matrix.proofs.Steps.{at-answer}
+use Rattle.matrix.proofs.ByKind.{coded, coded-proper}
+use Rattle.steps.proofs.Steps.{at-answer}
 use Rattle.matrix.proofs.apply_gate_left.Statement.{statement}
 use Rattle.matrix.proofs.apply_gate_left.Tie as tie
 

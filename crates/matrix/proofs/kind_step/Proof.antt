@@ -1,10 +1,11 @@
 -- `kind_step` meets its contract: each arm is the gate of its kind. Assumes nothing.
 use mathlib.Core.List.{[], _∷_}
 use borrow.Author.Needs.{needs}
-use Rattle.circuit.specs.Kinds.{kindAt}
+use Rattle.kinds.specs.Kinds.{kindAt}
 use Rattle.exact.specs.Rows.{exchange, had}
-use Rattle.cyclotomic.proofs.Number.{past}
-use Rattle.matrix.proofs.Masks.{mask-none, one-bit, two-bits, three-bits, exchange-needs, controlled-at, kind-at, proper-at, last-kind}
+use Rattle.coefficients.proofs.Number.{past}
+use Rattle.steps.proofs.Masks.{mask-none, one-bit, two-bits, three-bits, exchange-needs, controlled-at}
+use Rattle.matrix.proofs.ByKind.{kind-at, proper-at, last-kind}
 use Rattle.matrix.proofs.kind_step.Statement.{statement}
 use Rattle.matrix.proofs.kind_step.Tie as tie
 

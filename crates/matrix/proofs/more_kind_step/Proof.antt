@@ -1,9 +1,10 @@
 -- `more_kind_step` meets its contract: each arm is the gate of its kind. Assumes nothing.
 use mathlib.Core.List.{[], _∷_}
 use borrow.Author.Needs.{needs}
-use Rattle.circuit.specs.Kinds.{kindAt}
+use Rattle.kinds.specs.Kinds.{kindAt}
 use Rattle.exact.specs.Rows.{had, turnedExchange, exchanges3}
-use Rattle.matrix.proofs.Masks.{mask-none, one-bit, exchange-needs, swap-needs, controlled-at, controlled-at2, sx-at, kind-at, proper-at, last-of-six}
+use Rattle.steps.proofs.Masks.{mask-none, one-bit, exchange-needs, swap-needs, controlled-at, controlled-at2, sx-at}
+use Rattle.matrix.proofs.ByKind.{kind-at, proper-at, last-of-six}
 use Rattle.matrix.proofs.more_kind_step.Statement.{statement}
 use Rattle.matrix.proofs.more_kind_step.Tie as tie
 

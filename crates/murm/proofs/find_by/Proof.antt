@@ -1,14 +1,13 @@
 -- `find_by` meets its contract: each test that was passed decides its row. Assumes nothing.
 use borrow.Author.Needs.{needs}
-use mathlib.Core.Path.{sym, ap, _∙_}
-use Rattle.refusal.specs.Told.{toldCheck}
-use Rattle.refusal.specs.declared.Check.{Check}
+use mathlib.Core.Path.{sym, _∙_}
 use Rattle.refusal.proofs.Numbers.{passed, refused}
 use Rattle.tables.specs.Checks.{Arrays, arraysBy}
 use Rattle.tables.specs.Tables.{Table, Query, query}
 use Rattle.index.specs.Told.{toldBy}
 use Rattle.murm_config.specs.Told.{toldMurm}
-use Rattle.tables.proofs.Asked.{good-look, find-passed}
+use Rattle.tables.proofs.Asked.{find-passed}
+use Rattle.murm_find.proofs.Answered.{may-search}
 use Rattle.murm.proofs.Asked.{refused-find}
 use Rattle.murm.proofs.find_by.Statement.{statement}
 use Rattle.murm.proofs.find_by.Tie as tie
@@ -27,10 +26,7 @@ module _ (s : tie.Start) where
 find-passed-requires : tie.Need-find-passed-requires
 find-passed-requires c κs =
     let s = c .before .before .before .before .before .before .before in
-    let q = c .before .before .check-find .ensures in
-    let z = c .enum-told .given .1 in
-    let (r, m, p, e) = good-look (table s) (memory s .by) (memory s) _ (passed (q .told) z) in
-    (r, (m, (e, q .small (ap (λ (x : Check). toldCheck x .number) z))))
+    may-search (table s) (memory s) (asked s) (c .before .before .check-find .ensures) (c .enum-told .given .1)
 
 returns : tie.Need-returns
 returns c =

@@ -5,7 +5,7 @@ use Rattle.tables.specs.Checks.{arraysBy}
 use Rattle.tables.specs.Tables.{query}
 use Rattle.index.specs.Told.{toldBy}
 use Rattle.murm_config.specs.Told.{toldConfig, toldMurm}
-use Rattle.murm.proofs.Parts.{record-counted, same-count}
+use Rattle.murm_part.proofs.Parts.{record-counted, same-count}
 use Rattle.murm.proofs.find_passed.Statement.{statement}
 use Rattle.murm.proofs.find_passed.Tie as tie
 

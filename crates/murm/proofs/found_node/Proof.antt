@@ -1,7 +1,7 @@
 -- `found_node` meets its contract: each case is told on. Assumes nothing.
 use borrow.Author.Needs.{needs}
 use mathlib.Core.Path.{sym, ap}
-use Rattle.width_answer.specs.Answers.{toldFind}
+use Rattle.node_answer.specs.Answers.{toldFind}
 use Rattle.murm.proofs.found_node.Statement.{statement}
 use Rattle.murm.proofs.found_node.Tie as tie
 

@@ -4,7 +4,7 @@ use mathlib.Core.Path.{refl}
 use native.Mathlib.Omega.{arith}
 use Rattle.tables.specs.Tables.{countAt}
 use Rattle.murm_config.specs.Told.{toldConfig, toldMurm}
-use Rattle.murm.proofs.Parts.{PartBounds, counted-part, record-counted, room}
+use Rattle.murm_part.proofs.Parts.{PartBounds, counted-part, record-counted, room}
 use Rattle.murm.proofs.Asked.{told-as}
 use Prim.Native.Nat.{_-_, _*_}
 use Rattle.murm.proofs.write_part.Statement.{statement}

@@ -10,7 +10,8 @@ use Rattle.tables.proofs.Rows.{first-none}
 use Rattle.tables.proofs.Accepted.{record-limits}
 use Rattle.index.specs.Told.{toldBy}
 use Rattle.murm_config.specs.Told.{toldMurm}
-use Rattle.murm_config.proofs.Asking.{numbered-table, later-rows, first-refuses, index-refuses, index-passes}
+use Rattle.murm_config.proofs.Asking.{numbered-table}
+use Rattle.murm_limits.proofs.Asking.{later-rows, first-refuses, index-refuses, index-passes}
 use Rattle.murm_config.proofs.check_look.Statement.{statement}
 use Rattle.murm_config.proofs.check_look.Tie as tie
 

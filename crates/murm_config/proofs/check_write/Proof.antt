@@ -2,7 +2,8 @@
 use borrow.Author.Needs.{needs}
 use Rattle.tables.specs.Tables.{tableRows}
 use Rattle.murm_config.specs.Told.{toldMurm}
-use Rattle.murm_config.proofs.Asking.{numbered-table, later-rows, first-refuses}
+use Rattle.murm_config.proofs.Asking.{numbered-table}
+use Rattle.murm_limits.proofs.Asking.{later-rows, first-refuses}
 use Rattle.murm_config.proofs.check_write.Statement.{statement}
 use Rattle.murm_config.proofs.check_write.Tie as tie
 

@@ -1,7 +1,7 @@
 -- `build_widths` meets its contract: widths 1 to v are built, for v from 0 to Q. Assumes nothing.
 use Prim.Native.Nat.{ℕ, _≤_, _<_, _-_, _+_}
 use native.Mathlib.Omega.{arith}
-use mathlib.Core.Path.{_≡_, sym, ap, _∙_}
+use mathlib.Core.Path.{_≡_, refl, _∙_}
 use mathlib.Core.List.{List}
 use lib.ListN.{length}
 use borrow.Author.Needs.{needs}
@@ -9,14 +9,13 @@ use Rattle.ints.specs.Lists.{over}
 use Rattle.walk.specs.Modes.{Mode}
 use Rattle.walk.specs.Index.{By, indexed, kept}
 use Rattle.tables.specs.Tables.{walkOf, printsOf, parentsOf, codesOf}
-use Rattle.tables.specs.Checks.{Limits, limitsOf}
+use Rattle.tables.specs.Checks.{Limits}
 use Rattle.tables.proofs.Filled.{room-at}
 use Rattle.tables.proofs.Indexes.{part-fits, part-sizes, indexed-parts}
 use Rattle.index.specs.Told.{toldBy}
 use Rattle.known.specs.Known.{toldMode}
 use Rattle.murm_config.specs.Told.{toldConfig, toldWidth, toldMurm}
 use Rattle.murm_widths.proofs.Widths.{recordTo, record-none, record-more, record-all, Done, done-none, done-more, done-all}
-use Rattle.murm_widths.proofs.Widths.{prints-same, parents-same, codes-same}
 use Rattle.murm_widths.proofs.build_widths.Statement.{statement}
 use Rattle.murm_widths.proofs.build_widths.Tie as tie
 
@@ -35,22 +34,20 @@ module _ (mode : Mode) (l : Limits) where
   places by w = kept by (printsOf mode l w) (length (walkOf mode l w .nodes))
 
 abbrev Inv-loop : tie.InvT-loop
-Inv-loop fingerprints₀ parents₀ codes₀ index₀ how lookup q g e b size table₀ v₀ fingerprints₁ parents₁ codes₁ index₁ table v =
-    (v ≤ q) × (toldMurm table ≡ recordTo (toldMode how) (limitsOf q g e b) v) × Done (prints (toldMode how) (limitsOf q g e b)) e v fingerprints₀ fingerprints₁
-    × Done (parents (toldMode how) (limitsOf q g e b)) e v parents₀ parents₁ × Done (codes (toldMode how) (limitsOf q g e b)) e v codes₀ codes₁
-    × Done (places (toldMode how) (limitsOf q g e b) (toldBy lookup)) size v index₀ index₁
+Inv-loop fingerprints₀ parents₀ codes₀ index₀ how lookup limits q size table₀ v₀ fingerprints₁ parents₁ codes₁ index₁ table v =
+    (v ≤ q) × (toldMurm table ≡ recordTo (toldMode how) (toldConfig limits) v) × Done (prints (toldMode how) (toldConfig limits)) (limits .«max_entries_per_qubit») v fingerprints₀ fingerprints₁
+    × Done (parents (toldMode how) (toldConfig limits)) (limits .«max_entries_per_qubit») v parents₀ parents₁ × Done (codes (toldMode how) (toldConfig limits)) (limits .«max_entries_per_qubit») v codes₀ codes₁
+    × Done (places (toldMode how) (toldConfig limits) (toldBy lookup)) size v index₀ index₁
 
 abbrev μ-loop : tie.MeasureT-loop
-μ-loop fingerprints₀ parents₀ codes₀ index₀ how lookup q g e b size table₀ v₀ fingerprints₁ parents₁ codes₁ index₁ table v = q - v
+μ-loop fingerprints₀ parents₀ codes₀ index₀ how lookup limits q size table₀ v₀ fingerprints₁ parents₁ codes₁ index₁ table v = q - v
 
 loop-holds : tie.Need-loop-holds Inv-loop μ-loop
 loop-holds c =
-    let m = c .before .before .before .before .before .before .args .config in
-    let mode = toldMode (c .before .before .before .before .before .before .args .mode) in
-    let b = c .before .bits .ensures in (
+    let m = c .before .before .before .before .before .args .config in
+    let mode = toldMode (c .before .before .before .before .before .args .mode) in (
       search needs,
-      c .empty .ensures ∙ (record-none mode (toldConfig m)
-          ∙ ap (λ (z : ℕ). recordTo mode (limitsOf (m .«max_qubits») (m .«max_gates») (m .«max_entries_per_qubit») z) 0) (sym b)),
+      c .empty .ensures ∙ record-none mode (toldConfig m),
       done-none _ _ _,
       done-none _ _ _,
       done-none _ _ _,
@@ -59,7 +56,7 @@ loop-holds c =
 
 build-part-requires : tie.Need-build-part-requires Inv-loop μ-loop
 build-part-requires c κs =
-    let s = c .before .before .before .before .before .before .before .before .before .before .before .before in
+    let s = c .before .before .before .before .before .before .before .before .before .before .before in
     let m = s .args .config in
     let p = s .pre in
     let u = c .before .before .before .before .before .loop in
@@ -80,48 +77,42 @@ build-part-requires c κs =
 add-v : tie.Need-add-v Inv-loop μ-loop
 add-v c =
     let t = c .before .before .before .before .before .before .before .before .before .before .before .before .before .before in
-    record { fits = omega (arith, t .loop-test .taken, t .before .before .before .before .before .before .before .before .pre .0 .1) }
+    record { fits = omega (arith, t .loop-test .taken, t .before .before .before .before .before .before .before .pre .0 .1) }
 
 loop-again : tie.Need-loop-again Inv-loop μ-loop
 loop-again c =
     let p = c .before .before .before .before .before .before .before .before .before .build-part in
     let t = c .before .before .before .before .before .before .before .before .before .before .before .before .before .before in
     let u = t .before .loop in
-    let b = t .before .before .before .bits .result in
-    let s = t .before .before .before .before .before .before .before .before in
+    let s = t .before .before .before .before .before .before .before in
     let m = s .args .config in
     let mode = toldMode (s .args .mode) in
-    let l = limitsOf (m .«max_qubits») (m .«max_gates») (m .«max_entries_per_qubit») b in
+    let l = toldConfig m in
     let v = u .v in
     let h : v < 5 = omega (arith, t .loop-test .taken, s .pre .0 .1) in (
       omega (arith, t .loop-test .taken),
       c .with-width .ensures ∙ record-more mode l v (toldMurm (u .table)) (toldWidth (p .result)) h (u .inv .1) (p .ensures .row),
-      done-more (prints mode l) _ v _ _ _ (ap over (prints-same mode l (v + 1))) (p .kept .1 .1 .1 .1 .1 .1 .1 .0) (p .ensures .prints) (u .inv .2),
-      done-more (parents mode l) _ v _ _ _ (ap over (parents-same mode l (v + 1))) (p .kept .1 .1 .1 .1 .1 .1 .1 .1 .0) (p .ensures .parents) (u .inv .3),
-      done-more (codes mode l) _ v _ _ _ (ap over (codes-same mode l (v + 1))) (p .kept .1 .1 .1 .1 .1 .1 .1 .1 .1 .0) (p .ensures .codes) (u .inv .4),
-      done-more (places mode l (toldBy (s .args .by))) _ v _ _ _
-          (ap (λ (z : List ℕ). kept (toldBy (s .args .by)) z (length (walkOf mode l (v + 1) .nodes))) (prints-same mode l (v + 1)))
-          (p .kept .1 .1 .1 .1 .1 .1 .1 .1 .1 .1 .0) (p .ensures .index) (u .inv .5),
+      done-more (prints mode l) _ v _ _ _ refl (p .kept .1 .1 .1 .1 .1 .0) (p .ensures .prints) (u .inv .2),
+      done-more (parents mode l) _ v _ _ _ refl (p .kept .1 .1 .1 .1 .1 .1 .0) (p .ensures .parents) (u .inv .3),
+      done-more (codes mode l) _ v _ _ _ refl (p .kept .1 .1 .1 .1 .1 .1 .1 .0) (p .ensures .codes) (u .inv .4),
+      done-more (places mode l (toldBy (s .args .by))) _ v _ _ _ refl (p .kept .1 .1 .1 .1 .1 .1 .1 .1 .0) (p .ensures .index) (u .inv .5),
     )
 
 returns : tie.Need-returns Inv-loop μ-loop
 returns c =
     let u = c .before .loop in
-    let s = c .before .before .before .before .before .before .before .before .args in
+    let s = c .before .before .before .before .before .before .before .args in
     let m = s .config in
     let mode = toldMode (s .mode) in
-    let b = c .before .before .before .bits in
-    let e : limitsOf (m .«max_qubits») (m .«max_gates») (m .«max_entries_per_qubit») (b .result) ≡ toldConfig m =
-    ap (limitsOf (m .«max_qubits») (m .«max_gates») (m .«max_entries_per_qubit»)) (b .ensures) in
     let f : u .v ≡ m .«max_qubits» = omega arith in (
-      record-all mode _ (toldConfig m) (u .v) _ e f (u .inv .1),
+      record-all mode (toldConfig m) (u .v) _ f (u .inv .1),
       (
-        done-all _ _ _ _ _ _ _ (ap (prints mode) e) f (u .inv .2),
+        done-all _ _ _ _ _ _ f (u .inv .2),
         (
-          done-all _ _ _ _ _ _ _ (ap (parents mode) e) f (u .inv .3),
+          done-all _ _ _ _ _ _ f (u .inv .3),
           (
-            done-all _ _ _ _ _ _ _ (ap (codes mode) e) f (u .inv .4),
-            done-all _ _ _ _ _ _ _ (ap (λ (z : Limits). places mode z (toldBy (s .by))) e) f (u .inv .5),
+            done-all _ _ _ _ _ _ f (u .inv .4),
+            done-all _ _ _ _ _ _ f (u .inv .5),
           ),
         ),
       ),
@@ -133,14 +124,13 @@ build-widths-spec =
     (tie.spec
     Inv-loop
     μ-loop
-    (λ c κs. search needs)
     (λ c. search needs)
-    (λ c. c .before .before .before .before .before .pre .0 .0)
+    (λ c. c .before .before .before .before .pre .0 .0)
     (λ c κs. search needs)
     loop-holds
     build-part-requires
-    (λ c. record { fits = omega (arith, c .before .before .before .before .before .before .before .before .before .before .before .before .before .loop-test .taken, c .before .before .before .before .before .before .before .before .before .before .before .before .before .before .before .before .before .before .before .before .before .pre .0 .1) })
-    (λ c κs. (omega arith, omega (arith, c .before .before .before .before .before .before .before .before .before .before .before .before .before .loop-test .taken, c .before .before .before .before .before .before .before .before .before .before .before .before .before .before .before .before .before .before .before .before .before .pre .0 .1)))
+    (λ c. record { fits = omega (arith, c .before .before .before .before .before .before .before .before .before .before .before .before .before .loop-test .taken, c .before .before .before .before .before .before .before .before .before .before .before .before .before .before .before .before .before .before .before .before .pre .0 .1) })
+    (λ c κs. (omega arith, omega (arith, c .before .before .before .before .before .before .before .before .before .before .before .before .before .loop-test .taken, c .before .before .before .before .before .before .before .before .before .before .before .before .before .before .before .before .before .before .before .before .pre .0 .1)))
     add-v
     (λ c. omega (arith, c .before .before .before .before .before .before .before .before .before .before .before .before .before .before .loop-test .taken))
     loop-again

@@ -7,7 +7,7 @@ use lib.ListN.{take, drop}
 use borrow.Author.Needs.{needs}
 use borrow.Rule.Slice.PartMut.{midOf}
 use Rattle.walk.specs.Index.{indexed, kept}
-use Rattle.murm_widths.proofs.Parts.{lent-length, part-back}
+use Rattle.width_part.proofs.Parts.{lent-length, part-back}
 use Rattle.murm_widths.proofs.fill_part.Statement.{statement}
 use Rattle.murm_widths.proofs.fill_part.Tie as tie
 

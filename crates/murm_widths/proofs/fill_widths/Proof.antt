@@ -1,7 +1,7 @@
 -- `fill_widths` meets its contract: the parts of widths 1 to v are filled, for v from 0 to Q. Assumes nothing.
 use Prim.Native.Nat.{ℕ, _≤_, _<_, _-_, _+_, _*_}
 use native.Mathlib.Omega.{arith}
-use mathlib.Core.Path.{_≡_, refl, sym, ap, _∙_}
+use mathlib.Core.Path.{_≡_, sym, ap, _∙_}
 use mathlib.Core.List.{List}
 use lib.ListN.{length, take, drop}
 use borrow.Author.Needs.{needs}
@@ -71,7 +71,7 @@ unfolding filledIndex
 returns c =
     let u = c .before .loop in
     let f : u .v ≡ toldMurm (c .before .before .before .before .before .args .table) .limits .qubits = omega arith in
-    done-all _ _ _ _ _ _ _ refl f (u .inv .1)
+    done-all _ _ _ _ _ _ f (u .inv .1)
 
 pub fill-widths-spec : {M : Type 1} → statement M
 fill-widths-spec =

@@ -1,8 +1,9 @@
--- `append` meets its contract: each return is a case of `try`. Assumes nothing.
+-- `append` meets its contract: a known candidate is skipped, another is put. Assumes nothing.
 use mathlib.Core.Path.{sym, _∙_}
 use native.Mathlib.Omega.{arith}
 use borrow.Author.Needs.{needs}
-use Rattle.next_node.proofs.Tries.{skip-known, keep, grow, fill}
+use Rattle.width_arrays.proofs.Live.{keep}
+use Rattle.next_node.proofs.Tries.{skip-known}
 use Rattle.next_node.proofs.append.Statement.{statement}
 use Rattle.next_node.proofs.append.Tie as tie
 
@@ -19,16 +20,8 @@ returns c = let k = c .before .is-known .ensures in (λ h e q y x. keep h _ (ski
 
 returns-2 : tie.Need-returns-2
 returns-2 c =
-    let k = c .before .before .is-known .ensures in
-    (λ h e q y x. fill h _ (skip-known h _ _ y e q (c .before .before .before .before .before .before .before .before .before .before .before .before .before .pre .0) x ∙ sym (k .0) ∙ c .before .if1 .left) (omega (arith, c .if2 .taken)), k .1)
-
-returns-3 : tie.Need-returns-3
-returns-3 c =
-    let room = c .before .before .before .before .before .before .before .before .before .before .before .before .before .before .before .before .before .pre .0 in
-    let k = c .before .before .before .before .before .before .is-known .ensures in (
-      λ h e q y x. grow h _ _ y (skip-known h _ _ y e q room x ∙ sym (k .0) ∙ c .before .before .before .before .before .if1 .left) (omega (arith, room .few, c .before .before .before .before .if2 .left)) (c .before .before .keep-up .ensures),
-      k .1,
-    )
+    let k = c .before .before .before .before .before .before .before .before .before .before .before .before .before .before .is-known .ensures in
+    (λ h e q y x. c .before .before .before .before .before .before .before .before .put-node .ensures _ h y (skip-known h _ _ y e q (c .before .before .before .before .before .before .before .before .before .before .before .before .before .before .before .before .before .before .before .before .before .before .before .before .before .pre .0) x ∙ sym (k .0) ∙ c .before .before .before .before .before .before .before .before .before .before .before .before .before .if1 .left), k .1)
 
 pub append-spec : {M : Type 1} → statement M
 append-spec =
@@ -40,23 +33,9 @@ append-spec =
     (λ c. search needs)
     (λ c. search needs)
     returns
+    (λ c κs. c .before .before .before .before .before .before .before .before .before .before .before .before .before .before .before .before .pre .0)
     (λ c. search needs)
     (λ c. search needs)
     (λ c. search needs)
     (λ c. search needs)
-    returns-2
-    (λ c. search needs)
-    (λ c. search needs)
-    (λ c. search needs)
-    (λ c. search needs)
-    (λ c. search needs)
-    (λ c. search needs)
-    (λ c. search needs)
-    (λ c. search needs)
-    (λ c κs. search needs)
-    (λ c. search needs)
-    (λ c. search needs)
-    (λ c. search needs)
-    (λ c. search needs)
-    (λ c. search needs)
-    returns-3)
+    returns-2)

@@ -1,4 +1,5 @@
--- `copy_matrix` meets its contract: the first places hold the other slice's. The measure is how many places are left. Assumes nothing.
+-- `copy_matrix` meets its contract: the first places hold the other slice's. The measure is how many places are left.
+-- Assumes nothing.
 use Prim.Native.Nat.{_-_}
 use native.Mathlib.Omega.{arith}
 use borrow.Author.Needs.{needs}

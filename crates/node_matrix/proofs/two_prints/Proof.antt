@@ -1,4 +1,5 @@
--- `two_prints` meets its contract: each gate's step on its own copy, and the fingerprints of what fits. Assumes nothing.
+-- `two_prints` meets its contract: each gate's step on its own copy, and the fingerprints of what fits. Assumes
+-- nothing.
 use native.Mathlib.Omega.{arith}
 use borrow.Author.Needs.{needs}
 use Rattle.places.proofs.Placed.{area-le}

@@ -1,4 +1,5 @@
--- `mix_entries` meets its contract: before each turn the words of the entries passed are mixed in. The measure is how many entries are left.
+-- `mix_entries` meets its contract: before each turn the words of the entries passed are mixed in. The measure is how
+-- many entries are left.
 use mathlib.Core.Path.{_≡_, refl, sym, _∙_}
 use Prim.Native.Nat.{_≤_, _-_}
 use native.Mathlib.Omega.{arith}

@@ -1,10 +1,11 @@
--- `unitary_fingerprint` meets its contract: width, exponent and the entries, each turned by the phase as it is read, are mixed in and folded.
+-- `unitary_fingerprint` meets its contract: width, exponent and the entries, each turned by the phase as it is read,
+-- are mixed in and folded.
 use borrow.Author.Needs.{needs}
 use lib.Dec.{lit<}
 use native.Mathlib.Omega.{arith}
 use native.Mathlib.Nat.{lt-of-le-of-lt}
 use Rattle.places.proofs.Placed.{small-at}
-use Rattle.prints.proofs.Pivots.{phase-of}
+use Rattle.phases.proofs.Pivots.{phase-of}
 use Rattle.prints.proofs.Mixing.{print-is}
 use Rattle.prints.proofs.unitary_fingerprint.Statement.{statement}
 use Rattle.prints.proofs.unitary_fingerprint.Tie as tie

@@ -1,4 +1,5 @@
--- `number_of` meets its contract: in each arm the case is known, and the definition gives its number and its position. Assumes nothing.
+-- `number_of` meets its contract: in each arm the case is known, and the definition gives its number and its position.
+-- Assumes nothing.
 use mathlib.Core.Path.{_≡_, refl, sym, ap, _∙_}
 use Prim.Native.Nat.{ℕ, _≤_}
 use native.Mathlib.Omega.{arith}
@@ -8,7 +9,7 @@ use Rattle.refusal.proofs.number_of.Statement.{statement}
 use Rattle.refusal.proofs.number_of.Tie as tie
 
 -- what is asked of an arm that answers k and i, where the definition tells its case so
-tells : {r x : Refusal} {k i : ℕ} → r ≡ x → toldRefusal x ≡ reason k i → k ≤ 17 → (k ≡ numberOf r) × ((i ≡ positionOf r) × (k ≤ 17))
+tells : {r x : Refusal} {k i : ℕ} → r ≡ x → toldRefusal x ≡ reason k i → k ≤ 99 → (k ≡ numberOf r) × ((i ≡ positionOf r) × (k ≤ 99))
 tells e t h = let s = sym (ap toldRefusal e ∙ t) in (ap (λ (z : Reason). z .number) s, (ap (λ (z : Reason). z .position) s, h))
 
 pub number-of-spec : {M : Type 1} → statement M

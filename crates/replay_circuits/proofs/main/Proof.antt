@@ -1,4 +1,5 @@
--- `main` lends its array whole. The law's arguments are written out: otherwise antt would make the list. Assumes nothing.
+-- `main` lends its array whole. The law's arguments are written out: otherwise antt would make the list. Assumes
+-- nothing.
 use mathlib.Core.Path.{sym}
 use Prim.Native.Nat.{ℕ}
 use lib.ListN.{length-replicate}

@@ -1,4 +1,5 @@
--- `with_runs` lends its array whole. The law's arguments are written out: otherwise antt would make the list. Assumes nothing.
+-- `with_runs` lends its array whole. The law's arguments are written out: otherwise antt would make the list. Assumes
+-- nothing.
 use mathlib.Core.Path.{sym}
 use Prim.Native.Nat.{ℕ}
 use lib.ListN.{length-replicate}

@@ -1,4 +1,5 @@
--- `apply_controlled_x_left` meets its contract: the pairs whose lower row is below r are done, the others are as they were.
+-- `apply_controlled_x_left` meets its contract: the pairs whose lower row is below r are done, the others are as they
+-- were.
 use Prim.Native.Nat.{_-_, _^_}
 use native.Mathlib.Omega.{arith}
 use borrow.Author.Needs.{needs}

@@ -1,10 +1,11 @@
--- `exchange_places` meets its contract: the first i places of both runs are exchanged, and as the runs do not overlap the next two are unchanged.
+-- `exchange_places` meets its contract: the first i places of both runs are exchanged, and as the runs do not overlap
+-- the next two are unchanged.
 use Prim.Native.Nat.{_≤_, _-_, _+_}
 use native.Mathlib.Omega.{arith}
 use mathlib.Core.Path.{_≡_, refl, _∙_}
 use borrow.Author.Needs.{needs}
 use mir.Val.{toZ, ofZ}
-use Rattle.cyclotomic.specs.Zomega.{near}
+use Rattle.coefficients.specs.Coefficients.{near}
 use Rattle.rows.specs.Work.{at, Exchanged}
 use Rattle.rows.proofs.Pairs.{exchanged-none, still-low, still-high, exchanged-more, exchanged-to}
 use Rattle.rows.proofs.exchange_places.Statement.{statement}

@@ -1,4 +1,5 @@
--- `exchange_row` meets its contract: the pair of r is r and r | 2^t, both with all bits of control or neither; where r has the bit it is no lower row.
+-- `exchange_row` meets its contract: the pair of r is r and r | 2^t, both with all bits of control or neither; where r
+-- has the bit it is no lower row.
 use Prim.Native.Nat.{_+_, _*_, _≤_}
 use native.Mathlib.Omega.{arith}
 use borrow.Author.Needs.{needs}

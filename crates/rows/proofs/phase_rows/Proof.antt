@@ -1,4 +1,5 @@
--- `phase_rows` meets its contract: rows passed are turned where they have the bits, and all other rows are as they were. Assumes nothing.
+-- `phase_rows` meets its contract: rows passed are turned where they have the bits, and all other rows are as they
+-- were. Assumes nothing.
 use mathlib.Core.Logic.{⊎-elim}
 use Prim.Native.Nat.{_*_, _+_, _-_, _^_, _≤_, _<_}
 use native.Mathlib.Omega.{arith}

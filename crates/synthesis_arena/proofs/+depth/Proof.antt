@@ -1,5 +1,6 @@
--- `depth` meets its contract. The measure is the node's number, which falls because a parent lies below its node. Each refusal is a fault on
--- the way, and a node's chain is its parent's, within one gate less, and its own gate. Assumes nothing.
+-- `depth` meets its contract. The measure is the node's number, which falls because a parent lies below its node. Each
+-- refusal is a fault on the way, and a node's chain is its parent's, within one gate less, and its own gate. Assumes
+-- nothing.
 use mathlib.Core.Path.{sym, _∙_}
 use Prim.Native.Nat.{ℕ, _<_}
 use native.Mathlib.Omega.{arith}

@@ -1,5 +1,5 @@
--- `may_have` meets its contract: node by node, whether one that was passed has the fingerprint. The measure is how many nodes are left.
--- Assumes nothing.
+-- `may_have` meets its contract: node by node, whether one that was passed has the fingerprint. The measure is how many
+-- nodes are left. Assumes nothing.
 use mathlib.Core.Path.{_≡_, subst}
 use Prim.Native.Nat.{ℕ, _-_, _%_}
 use native.Mathlib.Omega.{arith}

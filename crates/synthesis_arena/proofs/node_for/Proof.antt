@@ -1,5 +1,5 @@
--- `node_for` meets its contract: the look-up from the node reached is the look-up from the start. The measure is how many nodes are left.
--- Assumes nothing.
+-- `node_for` meets its contract: the look-up from the node reached is the look-up from the start. The measure is how
+-- many nodes are left. Assumes nothing.
 use mathlib.Core.Path.{_≡_, sym, _∙_}
 use Prim.Native.Nat.{_-_}
 use native.Mathlib.Omega.{arith}

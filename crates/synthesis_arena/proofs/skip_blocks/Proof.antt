@@ -1,5 +1,5 @@
--- `skip_blocks` meets its contract: the look-up from the place reached is the look-up from the start. The measure is how many nodes are left.
--- Assumes nothing.
+-- `skip_blocks` meets its contract: the look-up from the place reached is the look-up from the start. The measure is
+-- how many nodes are left. Assumes nothing.
 use mathlib.Core.Path.{_≡_, refl, _∙_}
 use Prim.Native.Nat.{_-_, _≤_}
 use native.Mathlib.Omega.{arith}

@@ -1,15 +1,16 @@
--- `find_at` meets its contract: node after node, until one answers or has a bad chain. The measure is how many turns are left.
+-- `find_at` meets its contract: node after node, until one answers or has a bad chain. The measure is how many turns
+-- are left.
 use native.Mathlib.Omega.{arith}
 use mathlib.Core.Path.{_≡_, refl, ap}
 use lib.ListN.{length}
 use borrow.Author.Needs.{needs}
 use Rattle.exact.specs.Matrix.{identity}
 use Rattle.exact.specs.Places.{held}
-use Rattle.matrix.specs.Step.{Holds}
+use Rattle.places.specs.Held.{Holds}
 use Rattle.walk.specs.Finds.{partWith}
 use Rattle.synthesis_arena.specs.Limits.{toldLimits}
 use Rattle.index.specs.Told.{toldBy}
-use Rattle.width_answer.specs.Answers.{toldFind}
+use Rattle.node_answer.specs.Answers.{toldFind}
 use Rattle.width_answer.proofs.Widths.{Searching, search-start, search-done, search-none, search-below, search-ends, search-on, as-told}
 use Rattle.width_answer.proofs.find_at.Statement.{statement}
 use Rattle.width_answer.proofs.find_at.Tie as tie

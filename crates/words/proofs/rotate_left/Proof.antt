@@ -1,4 +1,5 @@
--- `rotate_left` meets its contract: the two shifted parts of a word share no bit, so that their or is their sum. Assumes nothing.
+-- `rotate_left` meets its contract: the two shifted parts of a word share no bit, so that their or is their sum.
+-- Assumes nothing.
 use native.Mathlib.Omega.{arith}
 use borrow.Author.Needs.{needs}
 use Rattle.words.proofs.Halves.{rotate-word, rotate-none}

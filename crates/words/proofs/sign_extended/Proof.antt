@@ -1,4 +1,5 @@
--- `sign_extended` meets its contract: below 0 the number is −(n + 1) with n = −1 − x, and its word is 2^64 − 1 − n. Assumes nothing.
+-- `sign_extended` meets its contract: below 0 the number is −(n + 1) with n = −1 − x, and its word is 2^64 − 1 − n.
+-- Assumes nothing.
 use mathlib.Core.Path.{_≡_}
 use mathlib.Core.Bool.{true, false}
 use Prim.Native.Nat.{ℕ, _-_, _<_, _^_}
@@ -11,7 +12,7 @@ use mir.Syntax.{w64}
 use mir.Val.{SFits, Fits, hbits, toZ, ofZ}
 use mir.Facts.{toZ-ofZ}
 use Rattle.ints.proofs.Machine.{minus-one-less}
-use Rattle.cyclotomic.specs.Zomega.{near}
+use Rattle.coefficients.specs.Coefficients.{near}
 use Rattle.words.specs.Words.{word}
 use Rattle.words.proofs.sign_extended.Statement.{statement}
 use Rattle.words.proofs.sign_extended.Tie as tie

@@ -1,4 +1,5 @@
--- `wrapping_mul` meets its contract: of the four products of halves, the high one's part below 2^64 is 0. Assumes nothing.
+-- `wrapping_mul` meets its contract: of the four products of halves, the high one's part below 2^64 is 0. Assumes
+-- nothing.
 use Prim.Native.Nat.{_/_, _%_}
 use native.Mathlib.Omega.{arith}
 use borrow.Author.Needs.{needs}

@@ -1,5 +1,5 @@
--- `is_subset` meets its contract: the common bits are all of the set's own exactly where it has no bit outside the other.
--- Assumes nothing.
+-- `is_subset` meets its contract: the common bits are all of the set's own exactly where it has no bit outside the
+-- other. Assumes nothing.
 use native.Mathlib.Omega.{arith}
 use Rattle.circuit.proofs.Sets.{subset-and}
 use Rattle.circuit.proofs.GateSet.is_subset.Statement.{statement}

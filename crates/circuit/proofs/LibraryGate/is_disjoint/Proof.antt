@@ -1,4 +1,5 @@
--- `is_disjoint` meets its contract: two sets of qubits share no bit exactly where the gates share no qubit. Assumes nothing.
+-- `is_disjoint` meets its contract: two sets of qubits share no bit exactly where the gates share no qubit. Assumes
+-- nothing.
 use mathlib.Core.Path.{_∙_}
 use borrow.Author.Needs.{needs}
 use lib.Bits.{bitAnd}

@@ -3,7 +3,7 @@ use mathlib.Core.Path.{_≡_, sym, ap, _∙_}
 use Prim.Native.Nat.{ℕ}
 use borrow.Author.Needs.{needs}
 use borrow.Author.Tests.{eq-eqb, ne-eqb, not-true, not-false}
-use Rattle.circuit.specs.Kinds.{kindAt, number, ofTables, dual}
+use Rattle.kinds.specs.Kinds.{kindAt, number, ofTables, dual}
 use Rattle.circuit.specs.Codes.{kindNumber, kindOf}
 use Rattle.circuit.specs.Pairs.{inverse}
 use Rattle.circuit.proofs.LibraryGate.is_inverse_of.Statement.{statement}

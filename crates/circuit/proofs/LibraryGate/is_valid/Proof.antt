@@ -1,12 +1,14 @@
--- `is_valid` meets its contract: the three tests are the definition's three parts, on the parts of the code. Assumes nothing.
+-- `is_valid` meets its contract: the three tests are the definition's three parts, on the parts of the code. Assumes
+-- nothing.
 use mathlib.Core.Path.{_≡_, sym, ap, _∙_, subst}
 use mathlib.Core.Bool.{true, false, not}
 use Prim.Native.Nat.{ℕ, _≤_, _<_}
 use borrow.Author.Needs.{needs}
 use borrow.Author.Tests.{eq-eqb, ne-eqb, not-true, not-false}
-use Rattle.circuit.specs.Kinds.{kindAt, arity, sorted, isKind}
-use Rattle.circuit.specs.Codes.{kindOf, first, second, third, placed, rises, ordered, valid}
-use Rattle.circuit.proofs.ByNumber.{kind-placed, kind-used, arity-most, one-sorted}
+use Rattle.kinds.specs.Kinds.{kindAt, arity, sorted, isKind}
+use Rattle.circuit.specs.Codes.{kindOf, first, second, third, valid}
+use Rattle.operands.specs.Operands.{placed, rises, ordered}
+use Rattle.kinds.proofs.ByNumber.{kind-placed, kind-used, arity-most, one-sorted}
 use Rattle.circuit.proofs.LibraryGate.is_valid.Statement.{statement}
 use Rattle.circuit.proofs.LibraryGate.is_valid.Tie as tie
 

@@ -3,7 +3,7 @@ use mathlib.Core.Path.{_≡_, sym, ap, _∙_}
 use Prim.Native.Nat.{ℕ}
 use borrow.Author.Needs.{needs}
 use borrow.Author.Tests.{not-true, not-false}
-use Rattle.circuit.specs.Kinds.{kindAt, ofTables}
+use Rattle.kinds.specs.Kinds.{kindAt, ofTables}
 use Rattle.circuit.specs.Sets.{member}
 use Rattle.circuit.specs.Codes.{kindNumber, kindOf, validFor}
 use Rattle.circuit.proofs.LibraryGate.is_valid_for.Statement.{statement}

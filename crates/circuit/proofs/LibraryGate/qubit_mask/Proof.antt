@@ -6,10 +6,10 @@ use native.Mathlib.Omega.{arith}
 use borrow.Author.Needs.{needs}
 use lib.Bits.{bitOr, or-zero-r}
 use lib.ListN.{take}
-use Rattle.circuit.specs.Kinds.{kindAt, arity}
+use Rattle.kinds.specs.Kinds.{kindAt, arity}
 use Rattle.circuit.specs.Codes.{kindOf, first, second, third}
 use Rattle.circuit.specs.Pairs.{qubits, maskOf}
-use Rattle.circuit.proofs.ByNumber.{arity-most}
+use Rattle.kinds.proofs.ByNumber.{arity-most}
 use Rattle.circuit.proofs.LibraryGate.qubit_mask.Statement.{statement}
 use Rattle.circuit.proofs.LibraryGate.qubit_mask.Tie as tie
 

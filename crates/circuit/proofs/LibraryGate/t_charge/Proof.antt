@@ -2,8 +2,8 @@
 use mathlib.Core.Path.{ap, _∙_}
 use Prim.Native.Nat.{ℕ}
 use borrow.Author.Needs.{needs}
-use Rattle.circuit.specs.Kinds.{kindAt}
-use Rattle.circuit.specs.Charge.{kindCharge}
+use Rattle.kinds.specs.Kinds.{kindAt}
+use Rattle.kinds.specs.Kinds.{kindCharge}
 use Rattle.circuit.proofs.LibraryGate.t_charge.Statement.{statement}
 use Rattle.circuit.proofs.LibraryGate.t_charge.Tie as tie
 

@@ -1,8 +1,9 @@
--- `add` meets its contract: each coefficient of the sum is within the limit by what is required, so narrowing keeps what `plus` gives.
-use mathlib.Core.Path.{_∙_}
-use Rattle.ints.proofs.Machine.{said}
-use Rattle.cyclotomic.specs.Zomega.{near, far, addω}
-use Rattle.cyclotomic.proofs.Number.{SizeKept, kept, each}
+-- `add` meets its contract: the four sums of coefficients are within the limit by what is required, so narrowing keeps
+-- them. Assumes nothing.
+use mathlib.Core.Path.{_≡_, sym, _∙_, subst}
+use lib.IntN.{_+ℤ_}
+use Rattle.cyclotomic.specs.Zomega.{mk, addω, Small}
+use Rattle.cyclotomic.proofs.Each.{SizeKept, kept, each, wide, formed}
 use Rattle.cyclotomic.proofs.Cyclotomic.add.Statement.{statement}
 use Rattle.cyclotomic.proofs.Cyclotomic.add.Tie as tie
 
@@ -12,50 +13,24 @@ self c = kept (c .good .0 .1 .1)
 rhs : (c : tie.Start) → SizeKept (c .args .rhs)
 rhs c = kept (c .good .1 .0 .1 .1)
 
-narrow-coefficient-requires : tie.Need-narrow-coefficient-requires
+-- what the four calls formed
+four : (c : tie.After-plus4) → mk (wide (c .before .before .before .before .before .before .before .before .before .plus .result)) (wide (c .before .before .before .before .before .before .plus2 .result)) (wide (c .before .before .before .plus3 .result)) (wide (c .plus4 .result)) ≡ addω (c .before .before .before .before .before .before .before .before .before .before .before .before .args .self) (c .before .before .before .before .before .before .before .before .before .before .before .before .args .rhs)
 unfolding addω
-narrow-coefficient-requires c κs =
-    let s = c .before .before .before in
-    rw (said far (c .plus .ok) (c .plus .ensures), self s .a-kept, rhs s .a-kept) (s .pre .a-small)
-
-narrow-coefficient-requires-2 : tie.Need-narrow-coefficient-requires-2
-unfolding addω
-narrow-coefficient-requires-2 c κs =
-    let s = c .before .before .before .before .before .before .before in
-    rw (said far (c .plus2 .ok) (c .plus2 .ensures), self s .b-kept, rhs s .b-kept) (s .pre .b-small)
-
-narrow-coefficient-requires-3 : tie.Need-narrow-coefficient-requires-3
-unfolding addω
-narrow-coefficient-requires-3 c κs =
-    let s = c .before .before .before .before .before .before .before .before .before .before .before in
-    rw (said far (c .plus3 .ok) (c .plus3 .ensures), self s .c-kept, rhs s .c-kept) (s .pre .c-small)
-
-narrow-coefficient-requires-4 : tie.Need-narrow-coefficient-requires-4
-unfolding addω
-narrow-coefficient-requires-4 c κs =
-    let s = c .before .before .before .before .before .before .before .before .before .before .before .before .before .before .before in
-    rw (said far (c .plus4 .ok) (c .plus4 .ensures), self s .d-kept, rhs s .d-kept) (s .pre .d-small)
-
-returns : tie.Need-returns
-unfolding addω
-returns c =
-    let s = c .before .before .before .before .before .before .before .before .before .before .before .before .before .before .before .before in
+four c =
+    let s = c .before .before .before .before .before .before .before .before .before .before .before .before in
     each
-    (let t = c .before .before .before .before .before .before .before .before .before .before .before .before in said near (t .narrow-coefficient .ok) (t .narrow-coefficient .ensures) ∙ rw (said far (t .before .plus .ok) (t .before .plus .ensures), self s .a-kept, rhs s .a-kept))
-    (let t = c .before .before .before .before .before .before .before .before in said near (t .narrow-coefficient2 .ok) (t .narrow-coefficient2 .ensures) ∙ rw (said far (t .before .plus2 .ok) (t .before .plus2 .ensures), self s .b-kept, rhs s .b-kept))
-    (let t = c .before .before .before .before in said near (t .narrow-coefficient3 .ok) (t .narrow-coefficient3 .ensures) ∙ rw (said far (t .before .plus3 .ok) (t .before .plus3 .ensures), self s .c-kept, rhs s .c-kept))
-    (said near (c .narrow-coefficient4 .ok) (c .narrow-coefficient4 .ensures) ∙ rw (said far (c .before .plus4 .ok) (c .before .plus4 .ensures), self s .d-kept, rhs s .d-kept))
+    (let q = c .before .before .before .before .before .before .before .before .before .plus in formed _+ℤ_ (self s .a-kept) (rhs s .a-kept) (q .ok) (q .ensures))
+    (let q = c .before .before .before .before .before .before .plus2 in formed _+ℤ_ (self s .b-kept) (rhs s .b-kept) (q .ok) (q .ensures))
+    (let q = c .before .before .before .plus3 in formed _+ℤ_ (self s .c-kept) (rhs s .c-kept) (q .ok) (q .ensures))
+    (let q = c .plus4 in formed _+ℤ_ (self s .d-kept) (rhs s .d-kept) (q .ok) (q .ensures))
 
 pub add-spec : {M : Type 1} → statement M
 add-spec =
     tie.close
     (tie.spec
     (λ c κs. tt)
-    narrow-coefficient-requires
     (λ c κs. tt)
-    narrow-coefficient-requires-2
     (λ c κs. tt)
-    narrow-coefficient-requires-3
     (λ c κs. tt)
-    narrow-coefficient-requires-4
-    returns)
+    (λ c κs. subst Small (sym (four c)) (c .before .before .before .before .before .before .before .before .before .before .before .before .pre))
+    (λ c. c .narrowed .ensures ∙ four (c .before)))

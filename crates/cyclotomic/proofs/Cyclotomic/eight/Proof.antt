@@ -3,8 +3,8 @@ use mathlib.Core.Path.{ap, _∙_}
 use mathlib.Core.List.{[], _∷_}
 use lib.IntN.{negℤ}
 use Rattle.ints.proofs.Machine.{said}
-use Rattle.cyclotomic.specs.Zomega.{near}
-use Rattle.cyclotomic.proofs.Number.{SizeKept, kept}
+use Rattle.coefficients.specs.Coefficients.{near}
+use Rattle.cyclotomic.proofs.Each.{SizeKept, kept}
 use Rattle.cyclotomic.proofs.Cyclotomic.eight.Statement.{statement}
 use Rattle.cyclotomic.proofs.Cyclotomic.eight.Tie as tie
 

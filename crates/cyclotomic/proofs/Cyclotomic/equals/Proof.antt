@@ -1,7 +1,8 @@
--- `equals` meets its contract: each return follows the comparisons made before it.
-use mathlib.Core.Path.{_≡_, _∙_}
-use Rattle.cyclotomic.specs.Zomega.{eqZ, eqω}
-use Rattle.cyclotomic.proofs.Number.{SizeKept, kept, fails, holds}
+-- `equals` meets its contract: the four tests of coefficients, each as the machine reads them. Assumes nothing.
+use mathlib.Core.Bool.{_&&_}
+use Rattle.coefficients.specs.Coefficients.{eqZ}
+use Rattle.cyclotomic.specs.Zomega.{eqω}
+use Rattle.cyclotomic.proofs.Each.{SizeKept, kept, told}
 use Rattle.cyclotomic.proofs.Cyclotomic.equals.Statement.{statement}
 use Rattle.cyclotomic.proofs.Cyclotomic.equals.Tie as tie
 
@@ -11,58 +12,16 @@ self c = kept (c .good .0 .1 .1)
 rhs : (c : tie.Start) → SizeKept (c .args .rhs)
 rhs c = kept (c .good .1 .0 .1 .1)
 
-test-a : (c : tie.After-same) → c .same .result ≡ eqZ (c .before .before .before .args .self .a) (c .before .before .before .args .rhs .a)
-test-a c = let s = c .before .before .before in c .same .ensures ∙ rw (self s .a-kept, rhs s .a-kept)
-
-test-b : (c : tie.After-same2) → c .same2 .result ≡ eqZ (c .before .before .before .before .before .before .before .args .self .b) (c .before .before .before .before .before .before .before .args .rhs .b)
-test-b c = let s = c .before .before .before .before .before .before .before in c .same2 .ensures ∙ rw (self s .b-kept, rhs s .b-kept)
-
-test-c : (c : tie.After-same3) → c .same3 .result ≡ eqZ (c .before .before .before .before .before .before .before .before .before .before .before .args .self .c) (c .before .before .before .before .before .before .before .before .before .before .before .args .rhs .c)
-test-c c = let s = c .before .before .before .before .before .before .before .before .before .before .before in c .same3 .ensures ∙ rw (self s .c-kept, rhs s .c-kept)
-
 returns : tie.Need-returns
 unfolding eqω
-returns c = rw (fails (test-a (c .before)) (c .if1 .taken))
-
-returns-2 : tie.Need-returns-2
-unfolding eqω
-returns-2 c =
-    rw (
-      let t = c .before .before .before .before in holds (test-a (t .before)) (t .if1 .left),
-      fails (test-b (c .before)) (c .if2 .taken),
-    )
-
-returns-3 : tie.Need-returns-3
-unfolding eqω
-returns-3 c =
-    rw (
-      let t = c .before .before .before .before .before .before .before .before in holds (test-a (t .before)) (t .if1 .left),
-      let t = c .before .before .before .before in holds (test-b (t .before)) (t .if2 .left),
-      fails (test-c (c .before)) (c .if3 .taken),
-    )
-
-returns-4 : tie.Need-returns-4
-unfolding eqω
-returns-4 c =
-    let s = c .before .before .before .before .before .before .before .before .before .before .before .before .before .before .before in
-    c .same4 .ensures
-    ∙ rw (
-      let t = c .before .before .before .before .before .before .before .before .before .before .before in holds (test-a (t .before)) (t .if1 .left),
-      let t = c .before .before .before .before .before .before .before in holds (test-b (t .before)) (t .if2 .left),
-      let t = c .before .before .before in holds (test-c (t .before)) (t .if3 .left),
-      self s .d-kept,
-      rhs s .d-kept,
-    )
+returns c =
+    let x = self (c .before .before .before .before .before .before .before .before .before .before .before .before) in
+    let y = rhs (c .before .before .before .before .before .before .before .before .before .before .before .before) in
+    let a = told eqZ (x .a-kept) (y .a-kept) (c .before .before .before .before .before .before .before .before .before .same .ensures) in
+    let b = told eqZ (x .b-kept) (y .b-kept) (c .before .before .before .before .before .before .same2 .ensures) in
+    let g = told eqZ (x .c-kept) (y .c-kept) (c .before .before .before .same3 .ensures) in
+    let d = told eqZ (x .d-kept) (y .d-kept) (c .same4 .ensures) in
+    λ i. a i && (b i && (g i && d i))
 
 pub equals-spec : {M : Type 1} → statement M
-equals-spec =
-    tie.close
-    (tie.spec
-    (λ c κs. tt)
-    returns
-    (λ c κs. tt)
-    returns-2
-    (λ c κs. tt)
-    returns-3
-    (λ c κs. tt)
-    returns-4)
+equals-spec = tie.close (tie.spec (λ c κs. tt) (λ c κs. tt) (λ c κs. tt) (λ c κs. tt) returns)

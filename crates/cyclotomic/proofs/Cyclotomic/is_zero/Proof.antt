@@ -2,7 +2,8 @@
 use mathlib.Core.Path.{_≡_, refl, ap, _∙_}
 use mathlib.Core.Bool.{Bool, true, false, _&&_}
 use lib.IntN.{pos}
-use Rattle.cyclotomic.specs.Zomega.{Zω, zeroω, eqZ, eqω, isZero}
+use Rattle.cyclotomic.specs.Zomega.{Zω, zeroω, eqω, isZero}
+use Rattle.coefficients.specs.Coefficients.{eqZ}
 use Rattle.cyclotomic.proofs.Cyclotomic.is_zero.Statement.{statement}
 use Rattle.cyclotomic.proofs.Cyclotomic.is_zero.Tie as tie
 

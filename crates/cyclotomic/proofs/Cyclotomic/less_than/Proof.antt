@@ -1,7 +1,10 @@
--- `less_than` meets its contract: each return follows the comparisons made before it, and the first pair that differs decides.
+-- `less_than` meets its contract: each return follows the comparisons made before it, and the first pair that differs
+-- decides. Assumes nothing.
 use mathlib.Core.Path.{_≡_, _∙_}
-use Rattle.cyclotomic.specs.Zomega.{eqZ, less}
-use Rattle.cyclotomic.proofs.Number.{SizeKept, kept, fails, holds}
+use Rattle.coefficients.specs.Coefficients.{eqZ}
+use Rattle.coefficients.proofs.Number.{fails, holds}
+use Rattle.cyclotomic.specs.Zomega.{less}
+use Rattle.cyclotomic.proofs.Each.{SizeKept, kept}
 use Rattle.cyclotomic.proofs.Cyclotomic.less_than.Statement.{statement}
 use Rattle.cyclotomic.proofs.Cyclotomic.less_than.Tie as tie
 

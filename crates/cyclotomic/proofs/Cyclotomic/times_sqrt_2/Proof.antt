@@ -1,47 +1,33 @@
--- `times_sqrt_2` meets its contract: each coefficient is within the limit by what is required, so narrowing keeps the sums and differences.
-use borrow.Author.Needs.{needs}
-use mathlib.Core.Path.{_∙_}
-use Rattle.ints.proofs.Machine.{said}
-use Rattle.cyclotomic.specs.Zomega.{near, far, sqrt2}
-use Rattle.cyclotomic.proofs.Number.{each}
+-- `times_sqrt_2` meets its contract: the sums and the differences are within the limit by what is required, so
+-- narrowing keeps them. Assumes nothing.
+use mathlib.Core.Path.{_≡_, sym, _∙_, subst}
+use lib.IntN.{_+ℤ_, _-ℤ_}
+use Rattle.cyclotomic.specs.Zomega.{mk, sqrt2, Small}
+use Rattle.cyclotomic.proofs.Each.{SizeKept, kept, each, wide, formed}
 use Rattle.cyclotomic.proofs.Cyclotomic.times_sqrt_2.Statement.{statement}
 use Rattle.cyclotomic.proofs.Cyclotomic.times_sqrt_2.Tie as tie
 
-narrow-coefficient-requires : tie.Need-narrow-coefficient-requires
-unfolding sqrt2
-narrow-coefficient-requires c κs = rw (said far (c .minus .ok) (c .minus .ensures)) (search needs)
+self : (c : tie.Start) → SizeKept (c .args .self)
+self c = kept (c .good .0 .1 .1)
 
-narrow-coefficient-requires-2 : tie.Need-narrow-coefficient-requires-2
+-- what the four calls formed
+four : (c : tie.After-minus2) → mk (wide (c .before .before .before .before .before .before .before .before .before .minus .result)) (wide (c .before .before .before .before .before .before .plus .result)) (wide (c .before .before .before .plus2 .result)) (wide (c .minus2 .result)) ≡ sqrt2 (c .before .before .before .before .before .before .before .before .before .before .before .before .args .self)
 unfolding sqrt2
-narrow-coefficient-requires-2 c κs = rw (said far (c .plus .ok) (c .plus .ensures)) (search needs)
-
-narrow-coefficient-requires-3 : tie.Need-narrow-coefficient-requires-3
-unfolding sqrt2
-narrow-coefficient-requires-3 c κs = rw (said far (c .plus2 .ok) (c .plus2 .ensures)) (search needs)
-
-narrow-coefficient-requires-4 : tie.Need-narrow-coefficient-requires-4
-unfolding sqrt2
-narrow-coefficient-requires-4 c κs = rw (said far (c .minus2 .ok) (c .minus2 .ensures)) (search needs)
-
-returns : tie.Need-returns
-unfolding sqrt2
-returns c =
+four c =
+    let s = c .before .before .before .before .before .before .before .before .before .before .before .before in
     each
-    (let t = c .before .before .before .before .before .before .before .before .before .before .before .before in said near (t .narrow-coefficient .ok) (t .narrow-coefficient .ensures) ∙ rw (said far (t .before .minus .ok) (t .before .minus .ensures)) (search needs))
-    (let t = c .before .before .before .before .before .before .before .before in said near (t .narrow-coefficient2 .ok) (t .narrow-coefficient2 .ensures) ∙ rw (said far (t .before .plus .ok) (t .before .plus .ensures)) (search needs))
-    (let t = c .before .before .before .before in said near (t .narrow-coefficient3 .ok) (t .narrow-coefficient3 .ensures) ∙ rw (said far (t .before .plus2 .ok) (t .before .plus2 .ensures)) (search needs))
-    (said near (c .narrow-coefficient4 .ok) (c .narrow-coefficient4 .ensures) ∙ rw (said far (c .before .minus2 .ok) (c .before .minus2 .ensures)) (search needs))
+    (let q = c .before .before .before .before .before .before .before .before .before .minus in formed _-ℤ_ (self s .b-kept) (self s .d-kept) (q .ok) (q .ensures))
+    (let q = c .before .before .before .before .before .before .plus in formed _+ℤ_ (self s .a-kept) (self s .c-kept) (q .ok) (q .ensures))
+    (let q = c .before .before .before .plus2 in formed _+ℤ_ (self s .b-kept) (self s .d-kept) (q .ok) (q .ensures))
+    (let q = c .minus2 in formed _-ℤ_ (self s .c-kept) (self s .a-kept) (q .ok) (q .ensures))
 
 pub times-sqrt-2-spec : {M : Type 1} → statement M
 times-sqrt-2-spec =
     tie.close
     (tie.spec
-    (λ c κs. search needs)
-    narrow-coefficient-requires
-    (λ c κs. search needs)
-    narrow-coefficient-requires-2
-    (λ c κs. search needs)
-    narrow-coefficient-requires-3
-    (λ c κs. search needs)
-    narrow-coefficient-requires-4
-    returns)
+    (λ c κs. tt)
+    (λ c κs. tt)
+    (λ c κs. tt)
+    (λ c κs. tt)
+    (λ c κs. subst Small (sym (four c)) (c .before .before .before .before .before .before .before .before .before .before .before .before .pre))
+    (λ c. c .narrowed .ensures ∙ four (c .before)))

@@ -1,15 +1,21 @@
 -- `turned` meets its contract: one turn. Assumes nothing.
-use borrow.Author.Needs.{needs}
-use mathlib.Core.Path.{_∙_}
+use mathlib.Core.Path.{ap, _∙_}
+use lib.IntN.{negℤ}
 use Rattle.ints.proofs.Machine.{said}
-use Rattle.cyclotomic.specs.Zomega.{near, turn}
-use Rattle.cyclotomic.proofs.Number.{each}
+use Rattle.coefficients.specs.Coefficients.{near}
+use Rattle.cyclotomic.specs.Zomega.{turn}
+use Rattle.cyclotomic.proofs.Each.{SizeKept, kept, each}
 use Rattle.cyclotomic.proofs.Cyclotomic.turned.Statement.{statement}
 use Rattle.cyclotomic.proofs.Cyclotomic.turned.Tie as tie
 
+self : (c : tie.Start) → SizeKept (c .args .self)
+self c = kept (c .good .0 .1 .1)
+
 returns : tie.Need-returns
 unfolding turn
-returns c = each (said near (c .negated .ok) (c .negated .ensures) ∙ search needs) (search needs) (search needs) (search needs)
+returns c =
+    let s = self (c .before .before .before .before .before) in
+    each (said near (c .negated .ok) (c .negated .ensures) ∙ ap negℤ (s .d-kept)) (s .a-kept) (s .b-kept) (s .c-kept)
 
 pub turned-spec : {M : Type 1} → statement M
-turned-spec = tie.close (tie.spec (λ c κs. search needs) returns)
+turned-spec = tie.close (tie.spec (λ c κs. let s = c .before .before .before .before in rw (self s .d-kept) (s .pre .d-small)) returns)

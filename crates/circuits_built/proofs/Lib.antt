@@ -1,0 +1,3 @@
+pub mod Rooms
+pub mod Asking
+pub mod Cases

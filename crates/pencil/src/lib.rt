@@ -1,1 +1,0 @@
-// The cases that the checker computes (SPECIFICATION 11.1): one table and one lemma, no functions.

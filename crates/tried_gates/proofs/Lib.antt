@@ -1,0 +1,4 @@
+pub mod Keeping
+pub mod Skipped
+pub mod NodeLoop
+pub mod Gates

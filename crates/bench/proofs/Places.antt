@@ -7,16 +7,16 @@ use lib.ListN.{length, set}
 use lib.Seq.{sets, sets-eq}
 use Rattle.ints.specs.Lists.{over}
 use Rattle.tables.specs.Tables.{Width}
-use Rattle.bench.specs.Tables.{widthNumbers, widthsNumbers}
+use Rattle.bench.specs.Tables.{width_numbers, widths_numbers}
 
-pub three-put : (l : List ℕ) (i a b : ℕ) {x y : ℕ} → x ≡ y → set (set (set l i a) (i + 1) b) (i + 2) x ≡ sets l i (a ∷ b ∷ y ∷ [])
-three-put l i a b e = rw (add-one, add-two) (ap (set (set (set l i a) (suc i) b) (suc (suc i))) e)
+pub three_put : (l : List ℕ) (i a b : ℕ) {x y : ℕ} → x ≡ y → set (set (set l i a) (i + 1) b) (i + 2) x ≡ sets l i (a ∷ b ∷ y ∷ [])
+three_put l i a b e = rw (add-one, add-two) (ap (set (set (set l i a) (suc i) b) (suc (suc i))) e)
 
 abbrev put : ℕ → Width → List ℕ → List ℕ
-put i w l = sets l i (widthNumbers w)
+put i w l = sets l i (width_numbers w)
 
-pub five-put : (a b c d e : Width) (o : List ℕ) {o1 o2 o3 o4 o5 : List ℕ} → 15 ≤ length o → o1 ≡ put 0 a o → o2 ≡ put 3 b o1 → o3 ≡ put 6 c o2
-    → o4 ≡ put 9 d o3 → o5 ≡ put 12 e o4 → o5 ≡ over (widthsNumbers (a ∷ b ∷ c ∷ d ∷ e ∷ [])) o
-five-put a b c d e o h h1 h2 h3 h4 h5 =
+pub five_put : (a b c d e : Width) (o : List ℕ) {o1 o2 o3 o4 o5 : List ℕ} → 15 ≤ length o → o1 ≡ put 0 a o → o2 ≡ put 3 b o1 → o3 ≡ put 6 c o2
+    → o4 ≡ put 9 d o3 → o5 ≡ put 12 e o4 → o5 ≡ over (widths_numbers (a ∷ b ∷ c ∷ d ∷ e ∷ [])) o
+five_put a b c d e o h h1 h2 h3 h4 h5 =
     h5 ∙ (ap (put 12 e) (h4 ∙ ap (put 9 d) (h3 ∙ ap (put 6 c) (h2 ∙ ap (put 3 b) h1)))
-    ∙ sets-eq (widthsNumbers (a ∷ b ∷ c ∷ d ∷ e ∷ [])) o 0 h)
+    ∙ sets-eq (widths_numbers (a ∷ b ∷ c ∷ d ∷ e ∷ [])) o 0 h)

@@ -8,60 +8,60 @@ use lib.ListN.{length}
 use Rattle.ints.specs.Lists.{over}
 use Rattle.walk.specs.Modes.{Mode}
 use Rattle.walk.specs.Index.{By}
-use Rattle.tables.specs.Checks.{Limits, Arrays, arraysBy}
-use Rattle.tables.specs.Tables.{BuildReply, Left, left, buildOf}
-use Rattle.murm_config.specs.Told.{toldMurm}
+use Rattle.tables.specs.Checks.{Limits, Arrays, arrays_by}
+use Rattle.tables.specs.Tables.{BuildReply, Left, left, build_of}
+use Rattle.murm_config.specs.Told.{told_murm}
 use Rattle.murm_config.specs.declared.Murm.{Murm}
 use Rattle.refusal.specs.Told.{number_of}
 use Rattle.refusal.specs.declared.Refusal.{Refusal}
-use Rattle.murm_build.specs.Entries.{toldBuilding}
+use Rattle.murm_build.specs.Entries.{told_building}
 use Rattle.murm_build.specs.declared.Building.{Building}
 use Rattle.murm_build.specs.declared.Building.TheVariants as b
-use Rattle.bench.specs.Tables.{limitsOfNumbers, tooFew, numbersOf, buildNumber, recorded, builtAs, builtBy, benchBuilt}
+use Rattle.bench.specs.Tables.{limits_of_numbers, too_few, numbers_of, build_number, recorded, built_as, built_by, bench_built}
 
 -- ---- too few numbers
 
 module _ (l numbers : List ℕ) where
-  pub few-limits : length l < 4 → tooFew l numbers ≡ true
-  few-limits h = rw (lt-ltb (length l) 4 h)
+  pub few_limits : length l < 4 → too_few l numbers ≡ true
+  few_limits h = rw (lt-ltb (length l) 4 h)
 
-  pub few-numbers : 4 ≤ length l → length numbers < 15 → tooFew l numbers ≡ true
-  few-numbers g h = rw (le-ltb (length l) 4 g, lt-ltb (length numbers) 15 h)
+  pub few_numbers : 4 ≤ length l → length numbers < 15 → too_few l numbers ≡ true
+  few_numbers g h = rw (le-ltb (length l) 4 g, lt-ltb (length numbers) 15 h)
 
-  pub enough : 4 ≤ length l → 15 ≤ length numbers → tooFew l numbers ≡ false
+  pub enough : 4 ≤ length l → 15 ≤ length numbers → too_few l numbers ≡ false
   enough g h = rw (le-ltb (length l) 4 g, le-ltb (length numbers) 15 h)
 
 -- ---- a build
 
-pub table-told : (old : List ℕ) (m : Murm) {t : Building} {new : List ℕ} → t ≡ b.Table m → new ≡ over (numbersOf (toldMurm m)) old
-    → (0 ≡ buildNumber (toldBuilding t)) × (new ≡ recorded (toldBuilding t) old)
-table-told old m e h = (
-  ap (λ (x : Building). buildNumber (toldBuilding x)) (sym e),
-  h ∙ ap (λ (x : Building). recorded (toldBuilding x) old) (sym e),
+pub table_told : (old : List ℕ) (m : Murm) {t : Building} {new : List ℕ} → t ≡ b.Table m → new ≡ over (numbers_of (told_murm m)) old
+    → (0 ≡ build_number (told_building t)) × (new ≡ recorded (told_building t) old)
+table_told old m e h = (
+  ap (λ (x : Building). build_number (told_building x)) (sym e),
+  h ∙ ap (λ (x : Building). recorded (told_building x) old) (sym e),
 )
 
-pub refused-told : (old : List ℕ) (r : Refusal) {t : Building} {n : ℕ} → t ≡ b.Refused r → n ≡ number_of r
-    → (n ≡ buildNumber (toldBuilding t)) × (old ≡ recorded (toldBuilding t) old)
-refused-told old r e h = (
-  h ∙ ap (λ (x : Building). buildNumber (toldBuilding x)) (sym e),
-  ap (λ (x : Building). recorded (toldBuilding x) old) (sym e),
+pub refused_told : (old : List ℕ) (r : Refusal) {t : Building} {n : ℕ} → t ≡ b.Refused r → n ≡ number_of r
+    → (n ≡ build_number (told_building t)) × (old ≡ recorded (told_building t) old)
+refused_told old r e h = (
+  h ∙ ap (λ (x : Building). build_number (told_building x)) (sym e),
+  ap (λ (x : Building). recorded (told_building x) old) (sym e),
 )
 
 -- in the same mode and by the same look-up, called otherwise
-pub by-built : (t : BuildReply) (l : Limits) (f u c i f' u' c' i' : List ℕ) {m m' : Mode} {b b' : By} → m ≡ m' → b ≡ b'
-    → left t (arraysBy b f' u' c' i') ≡ buildOf m l (arraysBy b f u c i) → left t (arraysBy b' f' u' c' i') ≡ buildOf m' l (arraysBy b' f u c i)
-by-built t l f u c i f' u' c' i' {m' = m'} {b = b} d e h =
-    subst (λ (z : By). left t (arraysBy z f' u' c' i') ≡ buildOf m' l (arraysBy z f u c i)) e
-    (h ∙ ap (λ (z : Mode). buildOf z l (arraysBy b f u c i)) d)
+pub by_built : (t : BuildReply) (l : Limits) (f u c i f' u' c' i' : List ℕ) {m m' : Mode} {b b' : By} → m ≡ m' → b ≡ b'
+    → left t (arrays_by b f' u' c' i') ≡ build_of m l (arrays_by b f u c i) → left t (arrays_by b' f' u' c' i') ≡ build_of m' l (arrays_by b' f u c i)
+by_built t l f u c i f' u' c' i' {m' = m'} {b = b} d e h =
+    subst (λ (z : By). left t (arrays_by z f' u' c' i') ≡ build_of m' l (arrays_by z f u c i)) e
+    (h ∙ ap (λ (z : Mode). build_of z l (arrays_by b f u c i)) d)
 
-pub short-built : (mode : Mode) (l : List ℕ) (a : Arrays) (numbers : List ℕ) → tooFew l numbers ≡ true → builtAs 99 a numbers ≡ benchBuilt mode l a numbers
-unfolding benchBuilt
-short-built mode l a numbers h = rw h
+pub short_built : (mode : Mode) (l : List ℕ) (a : Arrays) (numbers : List ℕ) → too_few l numbers ≡ true → built_as 99 a numbers ≡ bench_built mode l a numbers
+unfolding bench_built
+short_built mode l a numbers h = rw h
 
-pub long-built : (mode : Mode) (l : List ℕ) (a : Arrays) (numbers : List ℕ) (t : BuildReply) {l' : Limits} {a' : Arrays} {r : ℕ} {new : List ℕ} → tooFew l numbers ≡ false
-    → l' ≡ limitsOfNumbers l → left t a' ≡ buildOf mode l' a → r ≡ buildNumber t → new ≡ recorded t numbers → builtAs r a' new ≡ benchBuilt mode l a numbers
-unfolding benchBuilt
-long-built mode l a numbers t {a'} {new} h hl e hr hn =
+pub long_built : (mode : Mode) (l : List ℕ) (a : Arrays) (numbers : List ℕ) (t : BuildReply) {l' : Limits} {a' : Arrays} {r : ℕ} {new : List ℕ} → too_few l numbers ≡ false
+    → l' ≡ limits_of_numbers l → left t a' ≡ build_of mode l' a → r ≡ build_number t → new ≡ recorded t numbers → built_as r a' new ≡ bench_built mode l a numbers
+unfolding bench_built
+long_built mode l a numbers t {a'} {new} h hl e hr hn =
     rw h
-    (ap (λ (z : ℕ). builtAs z a' new) hr
-    ∙ (ap (builtAs (buildNumber t) a') hn ∙ ap (λ (o : Left). builtBy o numbers) (e ∙ ap (λ (z : Limits). buildOf mode z a) hl)))
+    (ap (λ (z : ℕ). built_as z a' new) hr
+    ∙ (ap (built_as (build_number t) a') hn ∙ ap (λ (o : Left). built_by o numbers) (e ∙ ap (λ (z : Limits). build_of mode z a) hl)))

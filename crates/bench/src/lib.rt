@@ -2,6 +2,8 @@
 // which murm_c does not export, and nothing else. `oracle/bench`, `oracle/damage` and `oracle/index` link both crates
 // beside the original, in one process; lists and answers by the scan alone they ask by murm_c. Where nodes are looked
 // up, a number says how: 0 by the scan, which leaves the lent index alone, any other through the index.
+#![tactic(auto)]
+
 ghost use Rattle.std.specs.Prelude.{◌≡◌, ◌+◌, ◌*◌, ◌^◌, ◌≤◌, length};
 ghost use Rattle.std.proofs.lemmas.List.Edits.{sets};
 ghost use Rattle.ints.specs.Lists.{over};
@@ -9,17 +11,17 @@ ghost use Rattle.exact.proofs.Words.{AllSmall};
 ghost use Rattle.exact.specs.Fingerprint.{fingerprint};
 ghost use Rattle.exact.specs.Places.{read, held};
 ghost use Rattle.walk.specs.Index.{indexed};
-ghost use Rattle.index.specs.Told.{toldBy};
-ghost use Rattle.known.specs.Known.{toldMode};
-ghost use Rattle.tables.specs.Checks.{limitsOf, arrays, arraysBy};
-ghost use Rattle.tables.specs.Tables.{query, fillOf, foundIn, writtenIn, synthesized};
-ghost use Rattle.murm_config.specs.Told.{toldConfig, toldWidth, toldMurm};
+ghost use Rattle.index.specs.Told.{told_by};
+ghost use Rattle.known.specs.Known.{told_mode};
+ghost use Rattle.tables.specs.Checks.{limits_of, arrays, arrays_by};
+ghost use Rattle.tables.specs.Tables.{query, fill_of, found_in, written_in, synthesized};
+ghost use Rattle.murm_config.specs.Told.{told_config, told_width, told_murm};
 ghost use Rattle.murm_query.specs.Fingerprints.{fingerprinted};
-ghost use Rattle.murm_build.specs.Entries.{toldBuilding, toldFilling};
-ghost use Rattle.murm.specs.Entries.{toldFoundNode, toldWritten};
-ghost use Rattle.murm_c.specs.Numbers.{replyNumber, countsTable};
-ghost use Rattle.bench.specs.Numbers.{givenOr, byNumber, modeNumber, nodeNumber, foundNumber, fillNumber};
-ghost use Rattle.bench.specs.Tables.{limitsOfNumbers, widthNumbers, numbersOf, buildNumber, recorded, builtAs, benchBuilt};
+ghost use Rattle.murm_build.specs.Entries.{told_building, told_filling};
+ghost use Rattle.murm.specs.Entries.{told_found_node, told_written};
+ghost use Rattle.murm_c.specs.Numbers.{reply_number, counts_table};
+ghost use Rattle.bench.specs.Numbers.{given_or, by_number, mode_number, node_number, found_number, fill_number};
+ghost use Rattle.bench.specs.Tables.{limits_of_numbers, width_numbers, numbers_of, build_number, recorded, built_as, bench_built};
 
 use circuit::GateSet;
 use cyclotomic::Coefficient;
@@ -32,7 +34,7 @@ use width_record::WidthTable;
 // The entry for fingerprints: the fingerprint, or 0 for every refusal.
 #[unsafe(no_mangle)]
 pub extern "C" fn bench_query(width: u32, exponent: u16, entries: &[Coefficient]) -> u64
-    ensures { result ≡ givenOr 0 (fingerprinted width exponent entries.now) }
+    ensures { result ≡ given_or 0 (fingerprinted width exponent entries.now) }
 {
     match murm::library_fingerprint(width, exponent, entries) {
         Fingerprinted::Fingerprint(p) => p,
@@ -54,7 +56,7 @@ pub extern "C" fn bench_fingerprint(m: &[Coefficient], n: usize, k: u16) -> u64
 // Q, G, E and B, in this order.
 fn config_of(limits: &[u32]) -> MurmConfig
     requires { 4 ≤ length limits.now }
-    ensures { toldConfig result ≡ limitsOfNumbers limits.now }
+    ensures { told_config result ≡ limits_of_numbers limits.now }
 {
     MurmConfig {
         max_qubits: limits[0],
@@ -68,7 +70,7 @@ fn config_of(limits: &[u32]) -> MurmConfig
 // place on.
 fn put_width(numbers: &mut [u64], at: usize, row: WidthTable)
     requires { at + 3 ≤ length numbers.old }
-    ensures { numbers.new ≡ sets numbers.old at (widthNumbers (toldWidth row)) }
+    ensures { numbers.new ≡ sets numbers.old at (width_numbers (told_width row)) }
 {
     numbers[at] = row.count as u64;
     numbers[at + 1] = row.depth as u64;
@@ -77,7 +79,7 @@ fn put_width(numbers: &mut [u64], at: usize, row: WidthTable)
 
 fn put_record(numbers: &mut [u64], table: Murm)
     requires { 15 ≤ length numbers.old }
-    ensures { numbers.new ≡ over (numbersOf (toldMurm table)) numbers.old }
+    ensures { numbers.new ≡ over (numbers_of (told_murm table)) numbers.old }
 {
     put_width(numbers, 0, table.width1);
     put_width(numbers, 3, table.width2);
@@ -89,8 +91,8 @@ fn put_record(numbers: &mut [u64], table: Murm)
 // What a build came to: 0, with the record, or the number of the refusal.
 fn built(building: Building, numbers: &mut [u64]) -> u64
     requires { 15 ≤ length numbers.old }
-    ensures value { result ≡ buildNumber (toldBuilding building) }
-    ensures numbers_after { numbers.new ≡ recorded (toldBuilding building) numbers.old }
+    ensures value { result ≡ build_number (told_building building) }
+    ensures numbers_after { numbers.new ≡ recorded (told_building building) numbers.old }
 {
     match building {
         Building::Table(table) => {
@@ -103,7 +105,7 @@ fn built(building: Building, numbers: &mut [u64]) -> u64
 
 // How nodes are looked up.
 fn lookup_by(by: u32) -> LookupBy
-    ensures { toldBy result ≡ byNumber by }
+    ensures { told_by result ≡ by_number by }
 {
     if by == 0 {
         return LookupBy::Scan;
@@ -113,7 +115,7 @@ fn lookup_by(by: u32) -> LookupBy
 
 // What makes a candidate known.
 fn mode_of(mode: u32) -> BuildMode
-    ensures { toldMode result ≡ modeNumber mode }
+    ensures { told_mode result ≡ mode_number mode }
 {
     if mode == 0 {
         return BuildMode::ByPrint;
@@ -133,10 +135,10 @@ pub extern "C" fn bench_build(
     index: &mut [u32],
     numbers: &mut [u64],
 ) -> u64
-    ensures { builtAs result
-        (arraysBy (byNumber by) fingerprints.new parents.new codes.new index.new) numbers.new
-        ≡ benchBuilt (modeNumber mode) limits.now
-        (arraysBy (byNumber by) fingerprints.old parents.old codes.old index.old) numbers.old }
+    ensures { built_as result
+        (arrays_by (by_number by) fingerprints.new parents.new codes.new index.new) numbers.new
+        ≡ bench_built (mode_number mode) limits.now
+        (arrays_by (by_number by) fingerprints.old parents.old codes.old index.old) numbers.old }
 {
     if limits.len() < 4 {
         return 99;
@@ -158,7 +160,7 @@ pub extern "C" fn bench_build(
 
 // What a fill came to: 0, or the number of the refusal.
 fn filled(filling: Filling) -> u64
-    ensures { result ≡ fillNumber (toldFilling filling) }
+    ensures { result ≡ fill_number (told_filling filling) }
 {
     match filling {
         Filling::Filled => 0,
@@ -183,10 +185,10 @@ pub extern "C" fn bench_fill(
     codes: &[u32],
     index: &mut [u32],
 ) -> u64
-    ensures number { result ≡ fillNumber (fillOf (countsTable (limitsOf q g e b) count1 count2 count3 count4 count5)
-        (arraysBy indexed fingerprints.now parents.now codes.now index.old)).reply }
-    ensures places { index.new ≡ (fillOf (countsTable (limitsOf q g e b) count1 count2 count3 count4 count5)
-        (arraysBy indexed fingerprints.now parents.now codes.now index.old)).index }
+    ensures number { result ≡ fill_number (fill_of (counts_table (limits_of q g e b) count1 count2 count3 count4 count5)
+        (arrays_by indexed fingerprints.now parents.now codes.now index.old)).reply }
+    ensures places { index.new ≡ (fill_of (counts_table (limits_of q g e b) count1 count2 count3 count4 count5)
+        (arrays_by indexed fingerprints.now parents.now codes.now index.old)).index }
 {
     let table = murm_c::counts_table(q, g, e, b, count1, count2, count3, count4, count5);
     let filling = murm::fill_index(table, fingerprints, parents, codes, index);
@@ -195,7 +197,7 @@ pub extern "C" fn bench_fill(
 
 // A node and its gate count as one number.
 fn node_number(node: usize, gates: usize) -> u64
-    ensures { result ≡ nodeNumber node gates }
+    ensures { result ≡ node_number node gates }
 {
     if node > 1000000 {
         return 4294967294;
@@ -208,7 +210,7 @@ fn node_number(node: usize, gates: usize) -> u64
 
 // What was found: a node, 4294967295 for none, or why it was refused.
 fn found_number(told: FoundNode) -> u64
-    ensures { result ≡ foundNumber (toldFoundNode told) }
+    ensures { result ≡ found_number (told_found_node told) }
 {
     match told {
         FoundNode::Node(node, gates) => node_number(node, gates),
@@ -238,8 +240,8 @@ pub extern "C" fn bench_find(
     exponent: u16,
     matrix: &[Coefficient],
 ) -> u64
-    ensures { result ≡ foundNumber (foundIn (countsTable (limitsOf q g e b) count1 count2 count3 count4 count5)
-        (arraysBy (byNumber by) fingerprints.now parents.now codes.now index.now)
+    ensures { result ≡ found_number (found_in (counts_table (limits_of q g e b) count1 count2 count3 count4 count5)
+        (arrays_by (by_number by) fingerprints.now parents.now codes.now index.now)
         (query width exponent matrix.now)) }
 {
     let table = murm_c::counts_table(q, g, e, b, count1, count2, count3, count4, count5);
@@ -279,11 +281,11 @@ pub extern "C" fn bench_synthesize(
     matrix: &[Coefficient],
     out: &mut [u32],
 ) -> u64
-    ensures number { result ≡ replyNumber (synthesized (countsTable (limitsOf q g e b) count1 count2 count3 count4 count5)
-        (arraysBy (byNumber by) fingerprints.now parents.now codes.now index.now)
+    ensures number { result ≡ reply_number (synthesized (counts_table (limits_of q g e b) count1 count2 count3 count4 count5)
+        (arrays_by (by_number by) fingerprints.now parents.now codes.now index.now)
         (query width exponent matrix.now) out.old).reply }
-    ensures places { out.new ≡ (synthesized (countsTable (limitsOf q g e b) count1 count2 count3 count4 count5)
-        (arraysBy (byNumber by) fingerprints.now parents.now codes.now index.now)
+    ensures places { out.new ≡ (synthesized (counts_table (limits_of q g e b) count1 count2 count3 count4 count5)
+        (arrays_by (by_number by) fingerprints.now parents.now codes.now index.now)
         (query width exponent matrix.now) out.old).list }
 {
     let table = murm_c::counts_table(q, g, e, b, count1, count2, count3, count4, count5);
@@ -304,7 +306,7 @@ pub extern "C" fn bench_synthesize(
 
 // What a write came to: the gate count, or why it was refused.
 fn written_number(told: Written) -> u64
-    ensures { result ≡ replyNumber (toldWritten told) }
+    ensures { result ≡ reply_number (told_written told) }
 {
     match told {
         Written::List(m) => m as u64,
@@ -331,9 +333,9 @@ pub extern "C" fn bench_write(
     node: usize,
     out: &mut [u32],
 ) -> u64
-    ensures number { result ≡ replyNumber (writtenIn (countsTable (limitsOf q g e b) count1 count2 count3 count4 count5)
+    ensures number { result ≡ reply_number (written_in (counts_table (limits_of q g e b) count1 count2 count3 count4 count5)
         (arrays fingerprints.now parents.now codes.now) width node out.old).reply }
-    ensures places { out.new ≡ (writtenIn (countsTable (limitsOf q g e b) count1 count2 count3 count4 count5)
+    ensures places { out.new ≡ (written_in (counts_table (limits_of q g e b) count1 count2 count3 count4 count5)
         (arrays fingerprints.now parents.now codes.now) width node out.old).list }
 {
     let table = murm_c::counts_table(q, g, e, b, count1, count2, count3, count4, count5);

@@ -6,18 +6,18 @@ use Rattle.generators.specs.Generators.{generators}
 use Rattle.places.specs.Places.{places}
 use Rattle.walk.specs.Modes.{Mode}
 use Rattle.walk.specs.Index.{By}
-use Rattle.walk.specs.Walk.{tryAll}
+use Rattle.walk.specs.Walk.{try_all}
 use Rattle.synthesis_arena.specs.declared.WidthLimits.{WidthLimits}
 use Rattle.width_arrays.specs.Arrays.{rules, unsaturated, Live, After}
 use Rattle.width_arrays.specs.declared.Tried.{Tried}
 
 -- every generator was tried after the node, in order: from whatever nodes the arrays held, they hold those that the
--- walk's `tryAll` leaves
+-- walk's `try_all` leaves
 abbrev pub NodeTried : Mode → By → WidthLimits → ℕ → ℕ → List ℕ → List ℕ → List ℕ → List ℕ → List ℕ → List ℕ → List ℕ → List ℕ → Tried → Type 0
 NodeTried mode by lim count node f u c i f' u' c' i' r =
     (h : Live mode by lim f u c i count node (suc node))
     → After by lim h.f0 h.u0 h.c0 h.i0
-    (tryAll (rules mode lim) lim.entries (unsaturated h.ns) node (generators lim.width lim.basis)) f' u' c' i' r.count r.saturated
+    (try_all (rules mode lim) lim.entries (unsaturated h.ns) node (generators lim.width lim.basis)) f' u' c' i' r.count r.saturated
 
 -- the places that are lent to form matrices: a node's, and two candidates' or those of a recheck
 pub record Lent (m l r : List ℤ) : Type 0 where

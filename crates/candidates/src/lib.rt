@@ -3,12 +3,14 @@
 // others are worked two by two, and all are looked up ahead through the index, so that waits for memory overlap. By the
 // scan each is looked up once, when its turn comes. Each of these steps is a function of a crate below, where the edits
 // of it stand: this crate only joins them.
+#![tactic(auto)]
+
 ghost use Rattle.std.specs.Prelude.{◌≡◌, suc, ◌≤◌, ◌<◌};
 ghost use Rattle.generators.specs.Generators.{generators};
 ghost use Rattle.exact.specs.Matrix.{identity};
 ghost use Rattle.places.specs.Held.{Holds};
-ghost use Rattle.index.specs.Told.{toldBy};
-ghost use Rattle.known.specs.Known.{toldMode};
+ghost use Rattle.index.specs.Told.{told_by};
+ghost use Rattle.known.specs.Known.{told_mode};
 ghost use Rattle.width_arrays.specs.Arrays.{Live};
 ghost use Rattle.candidates.specs.Tries.{NodeTried, Lent};
 
@@ -38,10 +40,10 @@ pub fn try_node(
 ) -> Tried
     requires bounds { (limits.width ≤ 5) × (node < count) × (limits.entries ≤ 1000000) × (limits.gates ≤ 64) }
     requires generators { gates.now ≡ generators limits.width limits.basis }
-    requires live { Live (toldMode mode) (toldBy by) limits fingerprints.old parents.old codes.old index.old count node (suc node) }
+    requires live { Live (told_mode mode) (told_by by) limits fingerprints.old parents.old codes.old index.old count node (suc node) }
     requires identity { Holds limits.width 0 one.now identity }
     requires lent { Lent m.old left.old right.old }
-    ensures tried { NodeTried (toldMode mode) (toldBy by) limits count node
+    ensures tried { NodeTried (told_mode mode) (told_by by) limits count node
         fingerprints.old parents.old codes.old index.old
         fingerprints.new parents.new codes.new index.new result }
     ensures lent { Lent m.new left.new right.new }

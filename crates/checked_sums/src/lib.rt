@@ -1,9 +1,11 @@
 // Sums and differences of any two entries: the value, or that a coefficient of it passes the limit. H, which has tested
 // all its pairs before it stores one, takes `add` and `subtract` of the ring; these are for a caller that has not.
+#![tactic(auto)]
+
 ghost use Rattle.std.specs.Prelude.{◌≡◌};
 ghost use Rattle.cyclotomic.specs.Zomega.{mk, addω, subω};
 ghost use Rattle.cyclotomic.specs.Told.{checked};
-ghost use Rattle.checked_sums.specs.Sums.{toldChecked};
+ghost use Rattle.checked_sums.specs.Sums.{told_checked};
 
 use coefficients::Wide;
 use cyclotomic::Cyclotomic;
@@ -16,7 +18,7 @@ pub enum Checked {
 }
 
 fn narrowed(a: Wide, b: Wide, c: Wide, d: Wide) -> Checked
-    ensures { toldChecked result ≡ checked (mk a b c d) }
+    ensures { told_checked result ≡ checked (mk a b c d) }
 {
     if !coefficients::in_limit(a) {
         return Checked::TooLarge;
@@ -41,7 +43,7 @@ fn narrowed(a: Wide, b: Wide, c: Wide, d: Wide) -> Checked
 // The sum, unless a coefficient of it passes the limit: the ring's sum of any two elements. H, which has tested all its
 // pairs before it stores one, takes `add`; a caller that has not takes this.
 pub fn checked_add(x: Cyclotomic, y: Cyclotomic) -> Checked
-    ensures { toldChecked result ≡ checked (addω x y) }
+    ensures { told_checked result ≡ checked (addω x y) }
 {
     narrowed(
         coefficients::plus(x.a, y.a),
@@ -53,7 +55,7 @@ pub fn checked_add(x: Cyclotomic, y: Cyclotomic) -> Checked
 
 // The difference, likewise; H takes `subtract`.
 pub fn checked_sub(x: Cyclotomic, y: Cyclotomic) -> Checked
-    ensures { toldChecked result ≡ checked (subω x y) }
+    ensures { told_checked result ≡ checked (subω x y) }
 {
     narrowed(
         coefficients::minus(x.a, y.a),

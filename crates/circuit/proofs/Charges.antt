@@ -10,21 +10,21 @@ use lib.Seq.{drop-cons}
 use Rattle.ints.specs.Lists.{all, range}
 use Rattle.kinds.specs.Kinds.{Kind, kind_at}
 use Rattle.circuit.specs.Codes.{kind_of}
-use Rattle.kinds.specs.Kinds.{kindCharge}
+use Rattle.kinds.specs.Kinds.{kind_charge}
 use Rattle.circuit.specs.Charge.{charge}
-use Rattle.kinds.proofs.ByNumber.{every-kind}
+use Rattle.kinds.proofs.ByNumber.{every_kind_lem}
 
-kind-most : (k : Kind) → kindCharge k ≤ 7
-unfolding all range kind_at kindCharge
-kind-most k = leb-true (kindCharge k) 7 (every-kind (λ k. leb (kindCharge k) 7) refl k)
+kind_most : (k : Kind) → kind_charge k ≤ 7
+unfolding all range kind_at kind_charge
+kind_most k = leb-true (kind_charge k) 7 (every_kind_lem (λ k. leb (kind_charge k) 7) refl k)
 
 -- no more than seven for each gate
-pub charge-most : (gs : List ℕ) → charge gs ≤ 7 * length gs
+pub charge_most : (gs : List ℕ) → charge gs ≤ 7 * length gs
 unfolding charge
-charge-most [] = omega arith
-charge-most (g ∷ gs) = omega (arith, kind-most (kind_of g), charge-most gs)
+charge_most [] = omega arith
+charge_most (g ∷ gs) = omega (arith, kind_most (kind_of g), charge_most gs)
 
 -- what is left from gate i on is that gate and what is left after it
-pub charge-from : (gs : List ℕ) (i : ℕ) → i < length gs → charge (drop i gs) ≡ kindCharge (kind_of (get_or gs i 0)) + charge (drop (suc i) gs)
+pub charge_from : (gs : List ℕ) (i : ℕ) → i < length gs → charge (drop i gs) ≡ kind_charge (kind_of (get_or gs i 0)) + charge (drop (suc i) gs)
 unfolding charge
-charge-from gs i h = ap charge (drop-cons gs i 0 h)
+charge_from gs i h = ap charge (drop-cons gs i 0 h)

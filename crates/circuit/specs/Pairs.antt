@@ -3,13 +3,13 @@
 use Rattle.std.specs.Prelude.{Bool, not, ◌&&◌, List, [], ◌∷◌, ℕ, ◌%◌, ◌^◌, eqb, take}
 use Rattle.std.specs.Int.Bits.{bit_or}
 use Rattle.ints.specs.Lists.{all, elem}
-use Rattle.kinds.specs.Kinds.{number, arity, ofTables, dual}
-use Rattle.circuit.specs.Codes.{kindNumber, kind_of, first, second, third}
+use Rattle.kinds.specs.Kinds.{number, arity, of_tables, dual}
+use Rattle.circuit.specs.Codes.{kind_number, kind_of, first, second, third}
 
 -- g inverts h: h is of a kind of tables, g's kind is the one that undoes it, and their operands are the same. Only
 -- tables ask this
 unfoldable pub inverse : ℕ → ℕ → Bool
-inverse g h = ofTables (kind_of h) && (eqb (kindNumber g) (number (dual (kind_of h))) && eqb (g % 4096) (h % 4096))
+inverse g h = of_tables (kind_of h) && (eqb (kind_number g) (number (dual (kind_of h))) && eqb (g % 4096) (h % 4096))
 
 -- the qubits that a gate acts on: its used operands
 unfoldable pub qubits : ℕ → List ℕ

@@ -1,10 +1,12 @@
 // Gate sets and gate codes: `GateSet` and `LibraryGate` of the original (circuit.rs, murm.rs). A gate is its code, kind
 // * 4096 + a * 256 + b * 16 + c, and every 32-bit number is decided: what is no code is not valid. What a kind has
 // stands in `kinds`, the tests of operands in `operands`; here a code is taken apart and the two are asked.
+#![tactic(auto)]
+
 ghost use Rattle.std.specs.Prelude.{◌≡◌, ◌^◌, ◌<◌, eqb};
-ghost use Rattle.kinds.specs.Kinds.{kind_at, kindCharge};
+ghost use Rattle.kinds.specs.Kinds.{kind_at, kind_charge};
 ghost use Rattle.circuit.specs.Sets.{supported, base, member, subset};
-ghost use Rattle.circuit.specs.Codes.{kindNumber, first, second, third, valid, validFor};
+ghost use Rattle.circuit.specs.Codes.{kind_number, first, second, third, valid, valid_for};
 ghost use Rattle.circuit.specs.Pairs.{inverse, qubits, disjoint, mask_of};
 ghost use Rattle.circuit.specs.Charge.{charge};
 
@@ -77,7 +79,7 @@ pub struct LibraryGate(pub u32);
 
 impl LibraryGate {
     pub fn kind(self) -> u32
-        ensures { result ≡ kindNumber self.0 }
+        ensures { result ≡ kind_number self.0 }
     {
         self.0 / 4096
     }
@@ -124,7 +126,7 @@ impl LibraryGate {
 
     // Whether the code is valid at a width, of a kind of tables, and this kind is in the basis.
     pub fn is_valid_for(self, width: u32, basis: GateSet) -> bool
-        ensures { result ≡ validFor width basis.0 self.0 }
+        ensures { result ≡ valid_for width basis.0 self.0 }
     {
         let kind = self.kind();
         if !basis.contains(kind) {
@@ -178,7 +180,7 @@ impl LibraryGate {
     }
 
     pub fn t_charge(self) -> usize
-        ensures { result ≡ kindCharge (kind_at (kindNumber self.0)) }
+        ensures { result ≡ kind_charge (kind_at (kind_number self.0)) }
     {
         kinds::charge_of(self.kind())
     }

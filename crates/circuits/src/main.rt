@@ -1,6 +1,8 @@
 // The program `circuits`: reads standard input, and writes what circuits_output::circuits makes of it (SPECIFICATION,
 // chapter 10). No contract can say what is read or written; so all that can be said stands in circuits_output and
 // circuits_spaces, and the gate runs the program on the longest input and on longer ones (tools/run-test).
+#![tactic(auto)]
+
 ghost use Rattle.std.specs.Prelude.{◌≤◌, length};
 ghost use Rattle.circuits_text.specs.Writing.{Put};
 ghost use Rattle.circuits_built.specs.Built.{room_for};

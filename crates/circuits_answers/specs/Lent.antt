@@ -11,5 +11,5 @@ Slice = Both (Bor (List ℕ)) (Bor (List ℕ))
 abbrev pub lent : Slice → Slice → Slice → Arrays
 lent fingerprints parents codes = arrays fingerprints.entry.now parents.entry.now codes.entry.now
 
-abbrev pub leftIn : Slice → Slice → Slice → Arrays
-leftIn fingerprints parents codes = arrays fingerprints.exit.now parents.exit.now codes.exit.now
+abbrev pub left_in : Slice → Slice → Slice → Arrays
+left_in fingerprints parents codes = arrays fingerprints.exit.now parents.exit.now codes.exit.now

@@ -1,14 +1,16 @@
 // Answers a query of the program `circuits`: reads its line, forms the matrix of its list and asks the table for it
 // (SPECIFICATION 10.6). The answer is a value and a lent list, and no text: what is asked and what is printed are
 // proved apart.
+#![tactic(auto)]
+
 ghost use Rattle.std.specs.Prelude.{◌≡◌, ◌≤◌, length};
 ghost use Rattle.tables.specs.Tables.{query, synthesized};
-ghost use Rattle.murm_config.specs.Told.{toldMurm};
-ghost use Rattle.murm.specs.Entries.{toldWritten};
-ghost use Rattle.murm_find.specs.Entries.{toldSynthesized};
+ghost use Rattle.murm_config.specs.Told.{told_murm};
+ghost use Rattle.murm.specs.Entries.{told_written};
+ghost use Rattle.murm_find.specs.Entries.{told_synthesized};
 ghost use Rattle.circuits_input.specs.Input.{ended};
 ghost use Rattle.circuits_answers.specs.Lent.{lent};
-ghost use Rattle.circuits_answers.specs.Replies.{told, lentCount, lentMost, listReply, lineReply};
+ghost use Rattle.circuits_answers.specs.Replies.{told, lent_count, lent_most, list_reply, line_reply};
 
 use circuits_input::Question;
 use cyclotomic::Coefficient;
@@ -17,7 +19,7 @@ use murm_config::Murm;
 
 // How many coefficients a list's matrix has; none for a width that is refused.
 pub fn coefficient_count(width: u32) -> usize
-    ensures count { result ≡ lentCount width }
+    ensures count { result ≡ lent_count width }
     ensures most { result ≤ 4096 }
 {
     if 5 < width {
@@ -28,14 +30,14 @@ pub fn coefficient_count(width: u32) -> usize
 
 // Places for the largest matrix.
 pub fn coefficient_space() -> [Coefficient; 4096]
-    ensures { result ≡ lentMost }
+    ensures { result ≡ lent_most }
 {
     [0; 4096]
 }
 
 // What the write of a node that was found comes to, as an answer.
 fn answered(written: Written) -> Synthesized
-    ensures { toldSynthesized result ≡ toldWritten written }
+    ensures { told_synthesized result ≡ told_written written }
 {
     match written {
         Written::List(size) => Synthesized::Circuit(size),
@@ -56,7 +58,7 @@ fn answer_matrix(
     list: &mut [u32],
 ) -> Synthesized
     requires { 64 ≤ length list.old }
-    ensures { told result list.new ≡ synthesized (toldMurm table) (lent fingerprints parents codes) (query width exponent matrix.now) list.old }
+    ensures { told result list.new ≡ synthesized (told_murm table) (lent fingerprints parents codes) (query width exponent matrix.now) list.old }
 {
     match murm::find(table, fingerprints, parents, codes, width, exponent, matrix) {
         FoundNode::Node(node, _) => answered(murm::write(
@@ -84,7 +86,7 @@ fn answer_list(
     list: &mut [u32],
 ) -> Synthesized
     requires { 64 ≤ length list.old }
-    ensures { told result list.new ≡ listReply (toldMurm table) (lent fingerprints parents codes) width gates.now list.old }
+    ensures { told result list.new ≡ list_reply (told_murm table) (lent fingerprints parents codes) width gates.now list.old }
 {
     let mut space = coefficient_space();
     let n = coefficient_count(width);
@@ -121,7 +123,7 @@ pub fn answer_line(
     list: &mut [u32],
 ) -> Synthesized
     requires { 64 ≤ length list.old }
-    ensures { told result list.new ≡ lineReply (toldMurm table) (lent fingerprints parents codes) (ended line.now) list.old }
+    ensures { told result list.new ≡ line_reply (told_murm table) (lent fingerprints parents codes) (ended line.now) list.old }
 {
     let mut numbers = number_space();
     match circuits_input::read_query(line, &mut numbers) {

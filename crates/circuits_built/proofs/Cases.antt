@@ -3,19 +3,19 @@ use mathlib.Core.List.{List}
 use mathlib.Core.Path.{◌≡◌, sym, ap, subst}
 use Prim.Native.Nat.{ℕ}
 use Rattle.tables.specs.Checks.{Arrays}
-use Rattle.murm_build.specs.Entries.{toldBuilding}
+use Rattle.murm_build.specs.Entries.{told_building}
 use Rattle.murm_build.specs.declared.Building.{Building}
 use Rattle.circuits_text.specs.Writing.{Put}
 use Rattle.circuits_text.proofs.Placing.{put_as}
 use Rattle.circuits_input.specs.Input.{InputLine}
 use Rattle.circuits_parts.specs.Texts.{Printable}
-use Rattle.circuits_built.specs.Built.{replyThen}
+use Rattle.circuits_built.specs.Built.{reply_then}
 
 module _ {built b : Building} (e : built ≡ b) where
-  pub ready-as : (parents codes : List ℕ) → Printable (toldBuilding built) parents codes → Printable (toldBuilding b) parents codes
-  ready-as parents codes r = subst (λ (z : Building). Printable (toldBuilding z) parents codes) e r
+  pub ready_as : (parents codes : List ℕ) → Printable (told_building built) parents codes → Printable (told_building b) parents codes
+  ready_as parents codes r = subst (λ (z : Building). Printable (told_building z) parents codes) e r
 
   pub building-as :
       {p : ℕ} {xs ys : List ℕ} (m : Arrays) (ls : List InputLine) →
-      Put 0 (replyThen (toldBuilding b) m ls) p xs ys → Put 0 (replyThen (toldBuilding built) m ls) p xs ys
-  building-as m ls d = put_as (ap (λ (z : Building). replyThen (toldBuilding z) m ls) (sym e)) d
+      Put 0 (reply_then (told_building b) m ls) p xs ys → Put 0 (reply_then (told_building built) m ls) p xs ys
+  building-as m ls d = put_as (ap (λ (z : Building). reply_then (told_building z) m ls) (sym e)) d

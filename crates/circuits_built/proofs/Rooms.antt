@@ -9,57 +9,57 @@ use native.Mathlib.Omega.{arith}
 use lib.ListN.{length, get_or, drop}
 use Rattle.ints.specs.Lists.{pick}
 use Rattle.tables.specs.Checks.{Arrays, places_of}
-use Rattle.tables.specs.Tables.{Table, recordRow}
-use Rattle.tables.proofs.Accepted.{record-limits}
-use Rattle.circuits_text.specs.Reading.{words, allNumbers, numbers}
-use Rattle.circuits_text.specs.Writing.{glyph, decimalIn, decimal}
-use Rattle.circuits_text.proofs.Split.{numbers-length}
-use Rattle.circuits_lines.specs.Lines.{refusedLine}
-use Rattle.circuits_input.specs.Input.{Read, gives, broken, ended, cut, inputMost, AskedList, askedList, isQuery, questionOf}
-use Rattle.circuits_input.proofs.InputLines.{two-words}
-use Rattle.circuits_input.proofs.LineReads.{two-numbers}
-use Rattle.circuits_input.proofs.Accepts.{cut-broken}
-use Rattle.circuits_answers.specs.Replies.{askedReply, lineReply}
-use Rattle.circuits_parts.specs.Texts.{answerText, lentList, queryText}
+use Rattle.tables.specs.Tables.{Table, record_row}
+use Rattle.tables.proofs.Accepted.{record_limits}
+use Rattle.circuits_text.specs.Reading.{words, all_numbers, numbers}
+use Rattle.circuits_text.specs.Writing.{glyph, decimal_in, decimal}
+use Rattle.circuits_text.proofs.Split.{numbers_length}
+use Rattle.circuits_lines.specs.Lines.{refused_line}
+use Rattle.circuits_input.specs.Input.{Read, gives, broken, ended, cut, input_most, AskedList, asked_list, is_query, question_of}
+use Rattle.circuits_input.proofs.InputLines.{two_words}
+use Rattle.circuits_input.proofs.LineReads.{two_numbers}
+use Rattle.circuits_input.proofs.Accepts.{cut_broken}
+use Rattle.circuits_answers.specs.Replies.{asked_reply, line_reply}
+use Rattle.circuits_parts.specs.Texts.{answer_text, lent_list, query_text}
 use Rattle.circuits_built.specs.Built.{room_for}
 
 -- `refused 14 0` and its newline
-pub broken-length : length (refusedLine 14 0) ≡ 13
-unfolding refusedLine decimal decimalIn glyph
-broken-length = refl
+pub broken_length : length (refused_line 14 0) ≡ 13
+unfolding refused_line decimal decimal_in glyph
+broken_length = refl
 
 module _ (t : Table) (m : Arrays) where
   -- a line that is not ended
-  pub cut-text : (bytes : List ℕ) → queryText t m (cut bytes) ≡ refusedLine 14 0
-  unfolding queryText lineReply
-  cut-text bytes = ap (λ (q : Read AskedList). answerText (askedReply t m lentList q)) (cut-broken bytes)
+  pub cut_text : (bytes : List ℕ) → query_text t m (cut bytes) ≡ refused_line 14 0
+  unfolding query_text line_reply
+  cut_text bytes = ap (λ (q : Read AskedList). answer_text (asked_reply t m lent_list q)) (cut_broken bytes)
 
   -- a query has 4 bytes with its newline, and prints at most 746; other lines print 13
   pub query-room :
-      (bytes : List ℕ) → length (queryText t m (ended bytes)) ≤ 746 → length (queryText t m (ended bytes)) ≤ 187 * (length bytes + 1)
-  unfolding queryText lineReply questionOf
-  query-room bytes h = by (allNumbers (words bytes)) (isQuery (numbers (words bytes))) refl refl h
+      (bytes : List ℕ) → length (query_text t m (ended bytes)) ≤ 746 → length (query_text t m (ended bytes)) ≤ 187 * (length bytes + 1)
+  unfolding query_text line_reply question_of
+  query-room bytes h = by (all_numbers (words bytes)) (is_query (numbers (words bytes))) refl refl h
     where
       text : Bool → Bool → List ℕ
-      text a b = answerText (askedReply t m lentList (pick a (pick b (gives (askedList (get_or (numbers (words bytes)) 0 0) (drop 2 (numbers (words bytes))))) broken) broken))
+      text a b = answer_text (asked_reply t m lent_list (pick a (pick b (gives (asked_list (get_or (numbers (words bytes)) 0 0) (drop 2 (numbers (words bytes))))) broken) broken))
 
       by :
-          (a b : Bool) → allNumbers (words bytes) ≡ a → isQuery (numbers (words bytes)) ≡ b → length (text a b) ≤ 746 →
+          (a b : Bool) → all_numbers (words bytes) ≡ a → is_query (numbers (words bytes)) ≡ b → length (text a b) ≤ 746 →
           length (text a b) ≤ 187 * (length bytes + 1)
       by true true e f g =
-          let two = two-numbers (numbers (words bytes)) f in
-          let three = two-words bytes e (omega (arith, two, numbers-length (words bytes) e)) in
+          let two = two_numbers (numbers (words bytes)) f in
+          let three = two_words bytes e (omega (arith, two, numbers_length (words bytes) e)) in
           omega (arith, three, g)
-      by true false e f g = omega (arith, broken-length)
-      by false b e f g = omega (arith, broken-length)
+      by true false e f g = omega (arith, broken_length)
+      by false b e f g = omega (arith, broken_length)
 
 -- a table's text, the queries' and 756 bytes more have room
 pub table-room :
-    (t : Table) (places : ℕ) → (recordRow t).holds ≡ false → places_of t.limits ≤ places →
-    t.limits.qubits * (33 * t.limits.entries + 90) + (187 * inputMost + 756) ≤ room_for places
+    (t : Table) (places : ℕ) → (record_row t).holds ≡ false → places_of t.limits ≤ places →
+    t.limits.qubits * (33 * t.limits.entries + 90) + (187 * input_most + 756) ≤ room_for places
 unfolding room_for
 table-room t places r h =
-    let l = record-limits t r in
+    let l = record_limits t r in
     let q = t.limits.qubits in
     let e = t.limits.entries in
     let most : q * e ≤ 5 * 1000000 = mul-le-mul l.widths l.entries in
@@ -67,6 +67,6 @@ table-room t places r h =
     omega (arith, l.widths, most, is, h)
 
 -- any line has room
-pub some-room : (places n : ℕ) → room_for places ≤ n → 756 ≤ n
+pub some_room : (places n : ℕ) → room_for places ≤ n → 756 ≤ n
 unfolding room_for
-some-room places n h = omega (arith, h)
+some_room places n h = omega (arith, h)

@@ -2,14 +2,14 @@
 use Rattle.std.specs.Prelude.{List, ◌++◌, ℕ, ◌+◌, ◌*◌, min}
 use Rattle.tables.specs.Checks.{Arrays}
 use Rattle.tables.specs.Tables.{BuildReply, table, refusal}
-use Rattle.circuits_lines.specs.Lines.{refusedLine}
+use Rattle.circuits_lines.specs.Lines.{refused_line}
 use Rattle.circuits_input.specs.Input.{InputLine}
-use Rattle.circuits_parts.specs.Texts.{queryTexts, tableText}
+use Rattle.circuits_parts.specs.Texts.{query_texts, table_text}
 
 -- a build's table and then the queries; a build that is refused prints its refusal alone
-abbrev pub replyThen : BuildReply → Arrays → List InputLine → List ℕ
-replyThen (table t) m ls = tableText t m.parents m.codes ++ queryTexts t m ls
-replyThen (refusal number position) m ls = refusedLine number position
+abbrev pub reply_then : BuildReply → Arrays → List InputLine → List ℕ
+reply_then (table t) m ls = table_text t m.parents m.codes ++ query_texts t m ls
+reply_then (refusal number position) m ls = refused_line number position
 
 -- as many bytes as any output takes, where the array of parents has that many places: 33 for each node, of which there
 -- are at most 5,000,000; the rest is 90 for the line of each width, 187 for each byte of the input and 756 for the last

@@ -1,14 +1,16 @@
 // What a build came to, as text: its table and a line for each later line of the input, or its refusal (SPECIFICATION
 // 10.5, 10.6). The loop over the lines and what joins them to the table carry must-fail edits, so that they stand
 // without the parts that they put.
+#![tactic(auto)]
+
 ghost use Rattle.std.specs.Prelude.{◌+◌, ◌*◌, ◌≤◌, length};
-ghost use Rattle.murm_build.specs.Entries.{toldBuilding};
-ghost use Rattle.murm_config.specs.Told.{toldMurm};
+ghost use Rattle.murm_build.specs.Entries.{told_building};
+ghost use Rattle.murm_config.specs.Told.{told_murm};
 ghost use Rattle.circuits_text.specs.Writing.{Put};
-ghost use Rattle.circuits_input.specs.Input.{lines_of, inputMost};
+ghost use Rattle.circuits_input.specs.Input.{lines_of, input_most};
 ghost use Rattle.circuits_answers.specs.Lent.{lent};
-ghost use Rattle.circuits_parts.specs.Texts.{Printable, queryTexts};
-ghost use Rattle.circuits_built.specs.Built.{replyThen, room_for};
+ghost use Rattle.circuits_parts.specs.Texts.{Printable, query_texts};
+ghost use Rattle.circuits_built.specs.Built.{reply_then, room_for};
 
 use circuits_text::NEWLINE;
 use murm::Building;
@@ -26,7 +28,7 @@ fn put_queries(
     at: usize,
 ) -> usize
     requires { at + 187 * length later.now + 756 ≤ length out.old }
-    ensures { Put at (queryTexts (toldMurm table) (lent fingerprints parents codes) (lines_of later.now)) result out.old out.new }
+    ensures { Put at (query_texts (told_murm table) (lent fingerprints parents codes) (lines_of later.now)) result out.old out.new }
 {
     let t = table;
     let mut p = at;
@@ -51,9 +53,9 @@ pub fn put_built(
     later: &[u8],
     out: &mut [u8],
 ) -> usize
-    requires printable { Printable (toldBuilding built) parents.now codes.now }
-    requires later_len_bound { (length later.now ≤ inputMost) × (room_for (length parents.now) ≤ length out.old) }
-    ensures { Put 0 (replyThen (toldBuilding built) (lent fingerprints parents codes) (lines_of later.now)) result out.old out.new }
+    requires printable { Printable (told_building built) parents.now codes.now }
+    requires later_len_bound { (length later.now ≤ input_most) × (room_for (length parents.now) ≤ length out.old) }
+    ensures { Put 0 (reply_then (told_building built) (lent fingerprints parents codes) (lines_of later.now)) result out.old out.new }
 {
     match built {
         Building::Table(table) => {

@@ -10,77 +10,77 @@ use lib.Dec.{eqb, leb, ltb}
 use lib.ListN.{length, get_or, drop}
 use Rattle.ints.specs.Lists.{pick, elem}
 use Rattle.ints.proofs.Bools.{clash, both_true, neither}
-use Rattle.tables.specs.Checks.{limitsOf}
-use Rattle.circuits_text.specs.Reading.{newline, words, allNumbers, numbers}
+use Rattle.tables.specs.Checks.{limits_of}
+use Rattle.circuits_text.specs.Reading.{newline, words, all_numbers, numbers}
 use Rattle.circuits_text.specs.Allowed.{AllowedLine}
-use Rattle.circuits_text.proofs.Accepts.{accepts, accepted, line-unbroken}
-use Rattle.circuits_input.specs.Input.{Read, gives, refused, broken, InputLine, ended, cut, longerLine, lines_of, limitsIn, lineOne, withLater}
-use Rattle.circuits_input.specs.Input.{Wanted, wanted, linesInput, input_of, askedList, isQuery, questionOf}
-use Rattle.circuits_input.specs.Allowed.{Lines, noLine, unended, newlined, FirstLine, Comes, long, asked, stopped, QueryLine}
-use Rattle.circuits_input.proofs.Inputs.{input-long}
+use Rattle.circuits_text.proofs.Accepts.{accepts, accepted, line_unbroken}
+use Rattle.circuits_input.specs.Input.{Read, gives, refused, broken, InputLine, ended, cut, longer_line, lines_of, limits_in, line_one, with_later}
+use Rattle.circuits_input.specs.Input.{Wanted, wanted, lines_input, input_of, asked_list, is_query, question_of}
+use Rattle.circuits_input.specs.Allowed.{Lines, no_line, unended, newlined, FirstLine, Comes, long, asked, stopped, QueryLine}
+use Rattle.circuits_input.proofs.Inputs.{input_long}
 
 -- ---- the lines of an input
 
-longer-unbroken : (b : ℕ) (l : List ℕ) → eqb b newline ≡ false → elem newline l ≡ false → elem newline (b ∷ l) ≡ false
+longer_unbroken : (b : ℕ) (l : List ℕ) → eqb b newline ≡ false → elem newline l ≡ false → elem newline (b ∷ l) ≡ false
 unfolding elem
-longer-unbroken b l h u = rw (ne_eqb newline b (λ e. eqb-false b newline h (sym e))) u
+longer_unbroken b l h u = rw (ne_eqb newline b (λ e. eqb-false b newline h (sym e))) u
 
-longer-lines : {bytes : List ℕ} {ls : List InputLine} (b : ℕ) → eqb b newline ≡ false → Lines bytes ls → Lines (b ∷ bytes) (longerLine b ls)
+longer_lines : {bytes : List ℕ} {ls : List InputLine} (b : ℕ) → eqb b newline ≡ false → Lines bytes ls → Lines (b ∷ bytes) (longer_line b ls)
 unfolding elem
-longer-lines b h noLine = unended {l = b ∷ []} (omega arith) (longer-unbroken b [] h refl)
-longer-lines b h (unended {l} n u) = unended {l = b ∷ l} (omega arith) (longer-unbroken b l h u)
-longer-lines b h (newlined {l} u r) = newlined (longer-unbroken b l h u) r
+longer_lines b h no_line = unended {l = b ∷ []} (omega arith) (longer_unbroken b [] h refl)
+longer_lines b h (unended {l} n u) = unended {l = b ∷ l} (omega arith) (longer_unbroken b l h u)
+longer_lines b h (newlined {l} u r) = newlined (longer_unbroken b l h u) r
 
 -- the program's lines are the input's
 pub lines_are : (bytes : List ℕ) → Lines bytes (lines_of bytes)
 unfolding lines_of elem
-lines_are [] = noLine
+lines_are [] = no_line
 lines_are (b ∷ bytes) = by (eqb b newline) refl (lines_are bytes)
   where
     by :
         (t : Bool) → eqb b newline ≡ t → Lines bytes (lines_of bytes) →
-        Lines (b ∷ bytes) (pick t (ended [] ∷ lines_of bytes) (longerLine b (lines_of bytes)))
+        Lines (b ∷ bytes) (pick t (ended [] ∷ lines_of bytes) (longer_line b (lines_of bytes)))
     by true e r = rw (eqb-true b newline e) (newlined {l = []} refl r)
-    by false e r = longer-lines b e r
+    by false e r = longer_lines b e r
 
-not-newline : (b : ℕ) (l : List ℕ) → elem newline (b ∷ l) ≡ false → (eqb b newline ≡ false) × (elem newline l ≡ false)
+not_newline : (b : ℕ) (l : List ℕ) → elem newline (b ∷ l) ≡ false → (eqb b newline ≡ false) × (elem newline l ≡ false)
 unfolding elem
-not-newline b l h =
+not_newline b l h =
     let p = neither (eqb newline b) (elem newline l) h in
     (ne_eqb b newline (λ e. eqb-false newline b p.0 (sym e)), p.1)
 
-lines-first : (l bytes : List ℕ) → elem newline l ≡ false → lines_of (l ++ (10 ∷ bytes)) ≡ ended l ∷ lines_of bytes
+lines_first : (l bytes : List ℕ) → elem newline l ≡ false → lines_of (l ++ (10 ∷ bytes)) ≡ ended l ∷ lines_of bytes
 unfolding lines_of
-lines-first [] bytes u = refl
-lines-first (b ∷ l) bytes u =
-    let p = not-newline b l u in
-    rw p.0 (ap (longerLine b) (lines-first l bytes p.1))
+lines_first [] bytes u = refl
+lines_first (b ∷ l) bytes u =
+    let p = not_newline b l u in
+    rw p.0 (ap (longer_line b) (lines_first l bytes p.1))
 
 lines_cut : (l : List ℕ) → 1 ≤ length l → elem newline l ≡ false → lines_of l ≡ cut l ∷ []
 unfolding lines_of
 lines_cut [] n u = absurd (omega arith)
-lines_cut (b ∷ []) n u = rw (not-newline b [] u).0
+lines_cut (b ∷ []) n u = rw (not_newline b [] u).0
 lines_cut (b ∷ c ∷ l) n u =
-    let p = not-newline b (c ∷ l) u in
-    rw p.0 (ap (longerLine b) (lines_cut (c ∷ l) (omega arith) p.1))
+    let p = not_newline b (c ∷ l) u in
+    rw p.0 (ap (longer_line b) (lines_cut (c ∷ l) (omega arith) p.1))
 
 -- and no others are
-pub lines-unique : {bytes : List ℕ} {ls : List InputLine} → Lines bytes ls → ls ≡ lines_of bytes
+pub lines_unique : {bytes : List ℕ} {ls : List InputLine} → Lines bytes ls → ls ≡ lines_of bytes
 unfolding lines_of
-lines-unique noLine = refl
-lines-unique (unended {l} n u) = sym (lines_cut l n u)
-lines-unique (newlined {l} {bytes} u r) = ap (λ (ls : List InputLine). ended l ∷ ls) (lines-unique r) ∙ sym (lines-first l bytes u)
+lines_unique no_line = refl
+lines_unique (unended {l} n u) = sym (lines_cut l n u)
+lines_unique (newlined {l} {bytes} u r) = ap (λ (ls : List InputLine). ended l ∷ ls) (lines_unique r) ∙ sym (lines_first l bytes u)
 
 -- ---- line one
 
 -- four numbers on line one are asked for
 first-asks :
     {q g e b : ℕ} {rest input : List ℕ} → length input ≤ 16384 → FirstLine q g e b rest input →
-    input_of input ≡ gives (wanted (limitsOf q g e b) (lines_of rest))
-unfolding input_of lineOne
+    input_of input ≡ gives (wanted (limits_of q g e b) (lines_of rest))
+unfolding input_of line_one
 first-asks {q} {g} {e} {b} {rest} {input} h f =
     let a = accepted f.says in
-    let ls = ap lines_of f.place ∙ lines-first f.line rest (line-unbroken f.says) in
+    let ls = ap lines_of f.place ∙ lines_first f.line rest (line_unbroken f.says) in
     rw (le-ltb 16384 (length input) h, ls, a.0, a.1)
 
 four : (ns : List ℕ) → length ns ≡ 4 → ns ≡ get_or ns 0 0 ∷ get_or ns 1 0 ∷ get_or ns 2 0 ∷ get_or ns 3 0 ∷ []
@@ -96,17 +96,17 @@ asks_nothing : {input : List ℕ} → length input ≤ 16384 → input_of input 
 asks_nothing h e = stopped h (λ q g n b rest f. let z : ◌≡◌ {A = ℕ} 0 1 = cc (first-asks h f) in absurd (omega arith))
 
 -- by its lines
-lines-come : {input : List ℕ} {ls : List InputLine} → length input ≤ 16384 → Lines input ls → input_of input ≡ linesInput ls → Comes input (linesInput ls)
-unfolding lineOne
-lines-come h noLine e = asks_nothing h e
-lines-come h (unended n u) e = asks_nothing h e
-lines-come h (newlined {l} {bytes} {ls} u r) e = by (allNumbers (words l)) (eqb (length (numbers (words l))) 4) refl refl e
+lines_come : {input : List ℕ} {ls : List InputLine} → length input ≤ 16384 → Lines input ls → input_of input ≡ lines_input ls → Comes input (lines_input ls)
+unfolding line_one
+lines_come h no_line e = asks_nothing h e
+lines_come h (unended n u) e = asks_nothing h e
+lines_come h (newlined {l} {bytes} {ls} u r) e = by (all_numbers (words l)) (eqb (length (numbers (words l))) 4) refl refl e
   where
     comes : Bool → Bool → Read Wanted
-    comes s t = withLater ls (pick s (pick t (gives (limitsIn (numbers (words l)))) broken) broken)
+    comes s t = with_later ls (pick s (pick t (gives (limits_in (numbers (words l)))) broken) broken)
 
     by :
-        (s t : Bool) → allNumbers (words l) ≡ s → eqb (length (numbers (words l))) 4 ≡ t → input_of (l ++ (10 ∷ bytes)) ≡ comes s t →
+        (s t : Bool) → all_numbers (words l) ≡ s → eqb (length (numbers (words l))) 4 ≡ t → input_of (l ++ (10 ∷ bytes)) ≡ comes s t →
         Comes (l ++ (10 ∷ bytes)) (comes s t)
     by true true a n d =
         let ns = four (numbers (words l)) (eqb-true (length (numbers (words l))) 4 n) in
@@ -115,19 +115,19 @@ lines-come h (newlined {l} {bytes} {ls} u r) e = by (allNumbers (words l)) (eqb 
     by false t a n d = asks_nothing h d
 
 -- what an input comes to, by the program
-pub input-comes : (input : List ℕ) → Comes input (input_of input)
+pub input_comes : (input : List ℕ) → Comes input (input_of input)
 unfolding input_of
-input-comes input = by (ltb 16384 (length input)) refl
+input_comes input = by (ltb 16384 (length input)) refl
   where
-    by : (t : Bool) → ltb 16384 (length input) ≡ t → Comes input (pick t (refused 15 0) (linesInput (lines_of input)))
+    by : (t : Bool) → ltb 16384 (length input) ≡ t → Comes input (pick t (refused 15 0) (lines_input (lines_of input)))
     by true e = long (ltb-true 16384 (length input) e)
-    by false e = lines-come (ltb-false 16384 (length input) e) (lines_are input) (rw e)
+    by false e = lines_come (ltb-false 16384 (length input) e) (lines_are input) (rw e)
 
 -- and to nothing else
-pub comes-unique : {input : List ℕ} {x : Read Wanted} → Comes input x → x ≡ input_of input
-comes-unique {input} (long h) = input-long input h
-comes-unique (asked {q} {g} {e} {b} h f r) = ap (λ (ls : List InputLine). gives (wanted (limitsOf q g e b) ls)) (lines-unique r) ∙ sym (first-asks h f)
-comes-unique {input} (stopped h f) = by (input-comes input)
+pub comes_unique : {input : List ℕ} {x : Read Wanted} → Comes input x → x ≡ input_of input
+comes_unique {input} (long h) = input_long input h
+comes_unique (asked {q} {g} {e} {b} h f r) = ap (λ (ls : List InputLine). gives (wanted (limits_of q g e b) ls)) (lines_unique r) ∙ sym (first-asks h f)
+comes_unique {input} (stopped h f) = by (input_comes input)
   where
     by : {x : Read Wanted} → Comes input x → broken ≡ x
     by (long g) = absurd (omega arith)
@@ -137,56 +137,56 @@ comes-unique {input} (stopped h f) = by (input-comes input)
 -- ---- a query
 
 -- width, count, codes
-query-shape : (ns : List ℕ) → isQuery ns ≡ true → (ns ≡ get_or ns 0 0 ∷ length (drop 2 ns) ∷ drop 2 ns) × (length (drop 2 ns) ≤ 256)
-query-shape [] h = clash h refl
-query-shape (w ∷ []) h = clash h refl
-query-shape (w ∷ c ∷ codes) h =
+query_shape : (ns : List ℕ) → is_query ns ≡ true → (ns ≡ get_or ns 0 0 ∷ length (drop 2 ns) ∷ drop 2 ns) × (length (drop 2 ns) ≤ 256)
+query_shape [] h = clash h refl
+query_shape (w ∷ []) h = clash h refl
+query_shape (w ∷ c ∷ codes) h =
     let p = both_true (leb 2 (length (w ∷ c ∷ codes))) _ h in
     let q = both_true (leb c 256) (eqb (length (w ∷ c ∷ codes)) (c + 2)) p.1 in
     let n : c ≡ length codes = omega (arith, eqb-true (length (w ∷ c ∷ codes)) (c + 2) q.1) in
     (ap (λ (k : ℕ). w ∷ k ∷ codes) n, omega (arith, leb-true c 256 q.0))
 
-shape-query : (width : ℕ) (codes : List ℕ) → length codes ≤ 256 → isQuery (width ∷ length codes ∷ codes) ≡ true
-shape-query width codes h =
+shape_query : (width : ℕ) (codes : List ℕ) → length codes ≤ 256 → is_query (width ∷ length codes ∷ codes) ≡ true
+shape_query width codes h =
     let n = length (width ∷ length codes ∷ codes) in
     rw (le-leb 2 n (omega arith), le-leb (length codes) 256 h, eq-eqb n (length codes + 2) (omega arith))
 
 -- what the program takes for a query is one
 pub query-accepts :
-    (l : List ℕ) → allNumbers (words l) ≡ true → isQuery (numbers (words l)) ≡ true →
+    (l : List ℕ) → all_numbers (words l) ≡ true → is_query (numbers (words l)) ≡ true →
     QueryLine (get_or (numbers (words l)) 0 0) (drop 2 (numbers (words l))) l
 query-accepts l h g =
-    let s = query-shape (numbers (words l)) g in
+    let s = query_shape (numbers (words l)) g in
     record { says = subst (λ (ns : List ℕ). AllowedLine ns l) s.0 (accepts l h); few = s.1 }
 
 -- a query is taken for one, with its width and its codes
 pub query-accepted :
     {width : ℕ} {codes l : List ℕ} → QueryLine width codes l →
-    (allNumbers (words l) ≡ true) × (isQuery (numbers (words l)) ≡ true) × (numbers (words l) ≡ width ∷ length codes ∷ codes)
+    (all_numbers (words l) ≡ true) × (is_query (numbers (words l)) ≡ true) × (numbers (words l) ≡ width ∷ length codes ∷ codes)
 query-accepted {width} {codes} {l} q =
     let a = accepted q.says in
-    (a.0, ap isQuery a.1 ∙ shape-query width codes q.few, a.1)
+    (a.0, ap is_query a.1 ∙ shape_query width codes q.few, a.1)
 
 -- it asks its codes at its width
-pub query-asks : {width : ℕ} {codes l : List ℕ} → QueryLine width codes l → questionOf (ended l) ≡ gives (askedList width codes)
-unfolding questionOf
-query-asks {width} {codes} {l} q =
+pub query_asks : {width : ℕ} {codes l : List ℕ} → QueryLine width codes l → question_of (ended l) ≡ gives (asked_list width codes)
+unfolding question_of
+query_asks {width} {codes} {l} q =
     let a = query-accepted q in
-    rw (a.0, a.2, shape-query width codes q.few)
+    rw (a.0, a.2, shape_query width codes q.few)
 
 -- any other line is broken
-pub other-broken : (l : List ℕ) → ((width : ℕ) (codes : List ℕ) → QueryLine width codes l → ⊥) → questionOf (ended l) ≡ broken
-unfolding questionOf
-other-broken l h = by (allNumbers (words l)) (isQuery (numbers (words l))) refl refl
+pub other_broken : (l : List ℕ) → ((width : ℕ) (codes : List ℕ) → QueryLine width codes l → ⊥) → question_of (ended l) ≡ broken
+unfolding question_of
+other_broken l h = by (all_numbers (words l)) (is_query (numbers (words l))) refl refl
   where
     by :
-        (s b : Bool) → allNumbers (words l) ≡ s → isQuery (numbers (words l)) ≡ b →
-        pick s (pick b (gives (askedList (get_or (numbers (words l)) 0 0) (drop 2 (numbers (words l))))) broken) broken ≡ broken
+        (s b : Bool) → all_numbers (words l) ≡ s → is_query (numbers (words l)) ≡ b →
+        pick s (pick b (gives (asked_list (get_or (numbers (words l)) 0 0) (drop 2 (numbers (words l))))) broken) broken ≡ broken
     by true true a g = absurd (h _ _ (query-accepts l a g))
     by true false a g = refl
     by false b a g = refl
 
 -- and so is a line that is not ended
-pub cut-broken : (l : List ℕ) → questionOf (cut l) ≡ broken
-unfolding questionOf
-cut-broken l = refl
+pub cut_broken : (l : List ℕ) → question_of (cut l) ≡ broken
+unfolding question_of
+cut_broken l = refl

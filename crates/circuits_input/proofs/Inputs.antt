@@ -6,35 +6,35 @@ use native.Mathlib.Omega.{arith}
 use borrow.Author.Tests.{lt-ltb, le-ltb}
 use lib.ListN.{length, take, drop}
 use Rattle.circuits_text.specs.Reading.{newline, before}
-use Rattle.circuits_text.proofs.Split.{before-take}
-use Rattle.circuits_input.specs.Input.{refused, broken, ended, lines_of, lineOne, withLater, linesInput, inputMost, input_of}
-use Rattle.circuits_input.proofs.InputLines.{lines_none, lines_more, lines-last}
+use Rattle.circuits_text.proofs.Split.{before_take}
+use Rattle.circuits_input.specs.Input.{refused, broken, ended, lines_of, line_one, with_later, lines_input, input_most, input_of}
+use Rattle.circuits_input.proofs.InputLines.{lines_none, lines_more, lines_last}
 
 -- too long
-pub input-long : (input : List ℕ) → inputMost < length input → refused 15 0 ≡ input_of input
+pub input_long : (input : List ℕ) → input_most < length input → refused 15 0 ≡ input_of input
 unfolding input_of
-input-long input h = rw (lt-ltb inputMost (length input) h)
+input_long input h = rw (lt-ltb input_most (length input) h)
 
 -- no newline
-pub input-cut : (input : List ℕ) → length input ≤ inputMost → length input ≤ length (before newline input) → broken ≡ input_of input
-unfolding input_of lineOne
-input-cut input h g = rw (le-ltb inputMost (length input) h) (by input g)
+pub input_cut : (input : List ℕ) → length input ≤ input_most → length input ≤ length (before newline input) → broken ≡ input_of input
+unfolding input_of line_one
+input_cut input h g = rw (le-ltb input_most (length input) h) (by input g)
   where
-    by : (bs : List ℕ) → length bs ≤ length (before newline bs) → broken ≡ linesInput (lines_of bs)
-    by [] k = ap linesInput (sym lines_none)
-    by (b ∷ bs) k = ap linesInput (sym (lines-last (b ∷ bs) (omega arith) k))
+    by : (bs : List ℕ) → length bs ≤ length (before newline bs) → broken ≡ lines_input (lines_of bs)
+    by [] k = ap lines_input (sym lines_none)
+    by (b ∷ bs) k = ap lines_input (sym (lines_last (b ∷ bs) (omega arith) k))
 
 -- line one, and the lines after it
 pub input-first :
-    (input : List ℕ) (e : ℕ) → length input ≤ inputMost → e ≡ length (before newline input) → e < length input →
-    withLater (lines_of (drop (e + 1) input)) (lineOne (ended (take e input))) ≡ input_of input
+    (input : List ℕ) (e : ℕ) → length input ≤ input_most → e ≡ length (before newline input) → e < length input →
+    with_later (lines_of (drop (e + 1) input)) (line_one (ended (take e input))) ≡ input_of input
 unfolding input_of
 input-first input e h g l =
     let n = length (before newline input) in
-    let line : take e input ≡ before newline input = ap (λ (k : ℕ). take k input) g ∙ before-take newline input in
+    let line : take e input ≡ before newline input = ap (λ (k : ℕ). take k input) g ∙ before_take newline input in
     let k : e + 1 ≡ suc n = omega arith in
     let ls : lines_of input ≡ ended (take e input) ∷ lines_of (drop (e + 1) input) =
     lines_more input (omega arith)
     ∙ (ap (λ (bs : List ℕ). ended bs ∷ lines_of (drop (suc n) input)) (sym line)
     ∙ ap (λ (j : ℕ). ended (take e input) ∷ lines_of (drop j input)) (sym k)) in
-    rw (le-ltb inputMost (length input) h) (ap linesInput (sym ls))
+    rw (le-ltb input_most (length input) h) (ap lines_input (sym ls))

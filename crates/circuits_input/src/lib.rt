@@ -1,9 +1,11 @@
 // What the program `circuits` reads: the limits on line one, and the list on each later line (SPECIFICATION 10.1 to
 // 10.4). What is read is an enum of numbers, with no table and no output in reach: a function has a way out for each
 // broken form, and each is short to prove. specs/Allowed says the same inputs a second time, of the bytes alone.
+#![tactic(auto)]
+
 ghost use Rattle.std.specs.Prelude.{◌≡◌, length};
-ghost use Rattle.circuits_input.specs.Input.{ended, lineOne, isQuery};
-ghost use Rattle.circuits_input.specs.Told.{toldLineOne, Requested, Questioned};
+ghost use Rattle.circuits_input.specs.Input.{ended, line_one, is_query};
+ghost use Rattle.circuits_input.specs.Told.{told_line_one, Requested, Questioned};
 
 use circuit::GateSet;
 use circuits_text::{Line, NEWLINE};
@@ -40,7 +42,7 @@ fn limit_space() -> [u32; 4]
 
 // Line one, given without its newline.
 pub fn read_line_one(line: &[u8]) -> LineOne
-    ensures { toldLineOne result ≡ lineOne (ended line.now) }
+    ensures { told_line_one result ≡ line_one (ended line.now) }
 {
     let mut numbers = limit_space();
     match circuits_text::numbers(line, &mut numbers) {
@@ -78,7 +80,7 @@ pub fn read_input(input: &[u8]) -> Request
 
 // Whether numbers are a width, a count up to 256, and that many codes.
 fn is_query(numbers: &[u32]) -> bool
-    ensures { result ≡ isQuery numbers.now }
+    ensures { result ≡ is_query numbers.now }
 {
     if numbers.len() < 2 {
         return false;

@@ -8,55 +8,55 @@ use borrow.Author.Tests.{lt-ltb, le-ltb}
 use lib.ListN.{length, take, drop, length-drop}
 use lib.Seq.{take_all}
 use Rattle.ints.specs.Lists.{over}
-use Rattle.walk.specs.Modes.{byPrint}
+use Rattle.walk.specs.Modes.{by_print}
 use Rattle.tables.specs.Checks.{Limits, Arrays}
-use Rattle.tables.specs.Tables.{BuildReply, left, buildOf}
+use Rattle.tables.specs.Tables.{BuildReply, left, build_of}
 use Rattle.circuits_text.specs.Writing.{Put}
 use Rattle.circuits_text.proofs.Placing.{put_as}
 use Rattle.circuits_input.specs.Input.{Read, lines_of, Wanted, input_of}
-use Rattle.circuits_input.specs.Told.{toldRequest, Placed}
+use Rattle.circuits_input.specs.Told.{told_request, Placed}
 use Rattle.circuits_input.specs.declared.Request.{Request}
-use Rattle.circuits_output.proofs.Builds.{text-is}
-use Rattle.circuits_built.specs.Built.{replyThen, room_for}
-use Rattle.circuits_output.specs.Output.{builtText, inputText, inputArrays, outputWith, arraysAfter, run, program_of}
+use Rattle.circuits_output.proofs.Builds.{text_is}
+use Rattle.circuits_built.specs.Built.{reply_then, room_for}
+use Rattle.circuits_output.specs.Output.{built_text, input_text, input_arrays, output_with, arrays_after, run, program_of}
 
 -- ---- the later lines
 
 -- they begin within the input
-pub placed-as : (input : List ℕ) {r s : Request} → r ≡ s → Placed input r → Placed input s
-placed-as input e p = subst (Placed input) e p
+pub placed_as : (input : List ℕ) {r s : Request} → r ≡ s → Placed input r → Placed input s
+placed_as input e p = subst (Placed input) e p
 
 -- they are all that stands from there on
-pub later-all : (input : List ℕ) (from : ℕ) → take (length input - from) (drop from input) ≡ drop from input
-later-all input from = take_all (length input - from) (drop from input) (omega (arith, length-drop from input))
+pub later_all : (input : List ℕ) (from : ℕ) → take (length input - from) (drop from input) ≡ drop from input
+later_all input from = take_all (length input - from) (drop from input) (omega (arith, length-drop from input))
 
 -- what a build came to, and they, are put
 pub built-put :
     (l : Limits) (lent : Arrays) (input : List ℕ) (from : ℕ) {after : Arrays} {reply : BuildReply} {p : ℕ} {xs ys : List ℕ} →
-    left reply after ≡ buildOf byPrint l lent → Put 0 (replyThen reply after (lines_of (take (length input - from) (drop from input)))) p xs ys →
-    Put 0 (builtText lent (lines_of (drop from input)) l) p xs ys
+    left reply after ≡ build_of by_print l lent → Put 0 (reply_then reply after (lines_of (take (length input - from) (drop from input)))) p xs ys →
+    Put 0 (built_text lent (lines_of (drop from input)) l) p xs ys
 built-put l lent input from {after} {reply} e d =
-    put_as (ap (λ (bs : List ℕ). replyThen reply after (lines_of bs)) (later-all input from) ∙ text-is l lent (lines_of (drop from input)) e) d
+    put_as (ap (λ (bs : List ℕ). reply_then reply after (lines_of bs)) (later_all input from) ∙ text_is l lent (lines_of (drop from input)) e) d
 
 -- ---- the whole
 
 -- what is put for an input, and what the arrays then hold
 abbrev pub Came : Arrays → Arrays → ℕ → List ℕ → List ℕ → Read Wanted → Type 0
-Came lent after p old xs x = Put 0 (inputText lent x) p old xs × (after ≡ inputArrays lent x)
+Came lent after p old xs x = Put 0 (input_text lent x) p old xs × (after ≡ input_arrays lent x)
 
 module _ (input : List ℕ) (lent : Arrays) (old : List ℕ) where
-  pub program-short : length old < room_for (length lent.parents) → run none old lent ≡ program_of input lent old
+  pub program_short : length old < room_for (length lent.parents) → run none old lent ≡ program_of input lent old
   unfolding program_of
-  program-short h = rw (lt-ltb (length old) (room_for (length lent.parents)) h)
+  program_short h = rw (lt-ltb (length old) (room_for (length lent.parents)) h)
 
   -- what was read of the input is the case s
   pub program-came :
       {after : Arrays} {p : ℕ} {xs : List ℕ} {r s : Request} → room_for (length lent.parents) ≤ length old → r ≡ s →
-      toldRequest input r ≡ input_of input → Came lent after p old xs (toldRequest input s) → run (some p) xs after ≡ program_of input lent old
-  unfolding program_of outputWith arraysAfter
+      told_request input r ≡ input_of input → Came lent after p old xs (told_request input s) → run (some p) xs after ≡ program_of input lent old
+  unfolding program_of output_with arrays_after
   program-came {after} {p} {xs} {r} {s} h e is came =
-      let d = subst (λ (x : Request). Came lent after p old xs (toldRequest input x)) (sym e) came in
-      let text = inputText lent (toldRequest input r) in
+      let d = subst (λ (x : Request). Came lent after p old xs (told_request input x)) (sym e) came in
+      let text = input_text lent (told_request input r) in
       let n : p ≡ length text = omega (arith, d.0.after) in
       let z : 0 + length text ≡ length text = omega arith in
       let x : xs ≡ over text old = d.0.is ∙ ap (λ (k : ℕ). text ++ drop k old) z in

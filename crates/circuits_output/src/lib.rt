@@ -1,10 +1,12 @@
 // The output of the program `circuits`, made in a lent array of bytes: the table of line one, then a line for each
 // later line (SPECIFICATION 10.5, 10.6, 10.10). Here only what is common to all inputs: room, the input read, the
 // build; circuits_built puts what the build came to.
+#![tactic(auto)]
+
 ghost use Rattle.std.specs.Prelude.{◌≡◌, length};
-ghost use Rattle.circuits_answers.specs.Lent.{lent, leftIn};
+ghost use Rattle.circuits_answers.specs.Lent.{lent, left_in};
 ghost use Rattle.circuits_built.specs.Built.{room_for};
-ghost use Rattle.circuits_output.specs.Output.{toldPrinted, run, program_of};
+ghost use Rattle.circuits_output.specs.Output.{told_printed, run, program_of};
 
 use circuits_input::Request;
 
@@ -34,7 +36,7 @@ pub fn circuits(
     codes: &mut [u32],
     out: &mut [u8],
 ) -> Printed
-    ensures { run (toldPrinted result) out.new (leftIn fingerprints parents codes) ≡ program_of input.now (lent fingerprints parents codes) out.old }
+    ensures { run (told_printed result) out.new (left_in fingerprints parents codes) ≡ program_of input.now (lent fingerprints parents codes) out.old }
 {
     if out.len() < room(parents.len()) {
         return Printed::NoRoom;

@@ -1,14 +1,16 @@
 // The parts of the output of the program `circuits`: a width's lines, and the line of a query (SPECIFICATION 10.5,
 // 10.6). They stand apart from what joins them (circuits_built, circuits_output), which carries must-fail edits and is
 // proved again for each of these.
+#![tactic(auto)]
+
 ghost use Rattle.std.specs.Prelude.{◌≡◌, ◌+◌, ◌*◌, ◌<◌, ◌≤◌, length};
 ghost use Rattle.tables.specs.Tables as t;
-ghost use Rattle.murm_find.specs.Entries.{toldSynthesized};
-ghost use Rattle.murm_config.specs.Told.{toldMurm};
+ghost use Rattle.murm_find.specs.Entries.{told_synthesized};
+ghost use Rattle.murm_config.specs.Told.{told_murm};
 ghost use Rattle.circuits_text.specs.Writing.{Put};
 ghost use Rattle.circuits_input.specs.Input.{ended};
 ghost use Rattle.circuits_answers.specs.Lent.{lent};
-ghost use Rattle.circuits_parts.specs.Texts.{widthText, tableText, Printable, replyText, lentList, queryText};
+ghost use Rattle.circuits_parts.specs.Texts.{width_text, table_text, Printable, reply_text, lent_list, query_text};
 
 use murm::Synthesized;
 use murm_config::Murm;
@@ -23,9 +25,9 @@ fn put_width(
     at: usize,
 ) -> usize
     requires width_nonzero { (0 < width) × (width ≤ table.config.max_qubits) }
-    requires printable { Printable (t.table (toldMurm table)) parents.now codes.now }
+    requires printable { Printable (t.table (told_murm table)) parents.now codes.now }
     requires max_entries_per_qubit_in_bounds { at + 33 * table.config.max_entries_per_qubit + 100 ≤ length out.old }
-    ensures text { Put at (widthText (toldMurm table) parents.now codes.now width) result out.old out.new }
+    ensures text { Put at (width_text (told_murm table) parents.now codes.now width) result out.old out.new }
     ensures most { result ≤ at + 33 * table.config.max_entries_per_qubit + 90 }
 {
     let e = table.config.max_entries_per_qubit as usize;
@@ -37,9 +39,9 @@ fn put_width(
 
 // The widths of a table, rising.
 pub fn put_widths(table: Murm, parents: &[u32], codes: &[u32], out: &mut [u8]) -> usize
-    requires printable { Printable (t.table (toldMurm table)) parents.now codes.now }
+    requires printable { Printable (t.table (told_murm table)) parents.now codes.now }
     requires max_entries_per_qubit_in_bounds { table.config.max_qubits * (33 * table.config.max_entries_per_qubit + 90) + 10 ≤ length out.old }
-    ensures text { Put 0 (tableText (toldMurm table) parents.now codes.now) result out.old out.new }
+    ensures text { Put 0 (table_text (told_murm table) parents.now codes.now) result out.old out.new }
     ensures most { result ≤ table.config.max_qubits * (33 * table.config.max_entries_per_qubit + 90) }
 {
     let t = table;
@@ -56,7 +58,7 @@ pub fn put_widths(table: Murm, parents: &[u32], codes: &[u32], out: &mut [u8]) -
 // What a table answered, with the list lent to it: at most 746 bytes, where 756 are left.
 fn put_reply(answer: Synthesized, list: &[u32], out: &mut [u8], at: usize) -> usize
     requires { (at + 756 ≤ length out.old) × (length list.now ≤ 64) }
-    ensures text { Put at (replyText (toldSynthesized answer) list.now) result out.old out.new }
+    ensures text { Put at (reply_text (told_synthesized answer) list.now) result out.old out.new }
     ensures most { result ≤ at + 746 }
 {
     match answer {
@@ -73,7 +75,7 @@ fn put_reply(answer: Synthesized, list: &[u32], out: &mut [u8], at: usize) -> us
 
 // The list lent to an answer.
 fn list_space() -> [u32; 64]
-    ensures { result ≡ lentList }
+    ensures { result ≡ lent_list }
 {
     [0; 64]
 }
@@ -89,7 +91,7 @@ pub fn put_query(
     at: usize,
 ) -> usize
     requires { at + 756 ≤ length out.old }
-    ensures text { Put at (queryText (toldMurm table) (lent fingerprints parents codes) (ended line.now)) result out.old out.new }
+    ensures text { Put at (query_text (told_murm table) (lent fingerprints parents codes) (ended line.now)) result out.old out.new }
     ensures most { result ≤ at + 746 }
 {
     let mut list = list_space();

@@ -36,30 +36,30 @@ module _ {c : ℕ} {s : List ℕ} {at p : ℕ} (h : Searching c s at p) where
       let z : length (before c (drop p s)) ≡ 0 = rw (drop_of_length-le s {i = p} l) in
       omega arith
 
-  pub search-on : p < length s → (get_or s p 0 ≡ c → ⊥) → Searching c s at (p + 1)
+  pub search_on : p < length s → (get_or s p 0 ≡ c → ⊥) → Searching c s at (p + 1)
   unfolding before
-  search-on l e =
+  search_on l e =
       let z : length (before c (drop p s)) ≡ suc (length (before c (drop (p + 1) s))) = rw (add-one, drop-cons s p 0, ne_eqb _ _ e) in
       record { within = omega arith; past = omega arith; same = omega arith }
 
 -- ---- words compared
 
 -- only lists of bytes that are the same are told so
-pub same-no : (a b : List ℕ) → sameBytes a b ≡ true → a ≡ b
+pub same_no : (a b : List ℕ) → sameBytes a b ≡ true → a ≡ b
 unfolding sameBytes
-same-no [] [] e = refl
-same-no [] (y ∷ b) e = clash e refl
-same-no (x ∷ a) [] e = clash e refl
-same-no (x ∷ a) (y ∷ b) e =
+same_no [] [] e = refl
+same_no [] (y ∷ b) e = clash e refl
+same_no (x ∷ a) [] e = clash e refl
+same_no (x ∷ a) (y ∷ b) e =
     let h : x ≡ y = eqb-true x y (and_left (eqb x y) (sameBytes a b) e) in
-    let t : a ≡ b = same-no a b (and_right (eqb x y) (sameBytes a b) e) in
+    let t : a ≡ b = same_no a b (and_right (eqb x y) (sameBytes a b) e) in
     cc
 
 same_length : (a b : List ℕ) → sameBytes a b ≡ true → length a ≡ length b
-same_length a b e = ap length (same-no a b e)
+same_length a b e = ap length (same_no a b e)
 
-pub same-lengths : (a b : List ℕ) → (length a ≡ length b → ⊥) → sameBytes a b ≡ false
-same-lengths a b h = by (sameBytes a b) refl
+pub same_lengths : (a b : List ℕ) → (length a ≡ length b → ⊥) → sameBytes a b ≡ false
+same_lengths a b h = by (sameBytes a b) refl
   where
     by : (t : Bool) → sameBytes a b ≡ t → t ≡ false
     by true e = absurd (h (same_length a b e))
@@ -72,9 +72,9 @@ pub record Comparing (a b : List ℕ) (i : ℕ) : Type 0 where
   pub same : sameBytes a b ≡ sameBytes (drop i a) (drop i b)
 
 module _ {a b : List ℕ} {i : ℕ} (h : Comparing a b i) where
-  pub same-done : length a ≤ i → true ≡ sameBytes a b
+  pub same_done : length a ≤ i → true ≡ sameBytes a b
   unfolding sameBytes
-  same-done l = sym (h.same ∙ rw (drop_of_length-le a {i = i} l, drop_of_length-le b {i = i} (omega (arith, h.lengths))))
+  same_done l = sym (h.same ∙ rw (drop_of_length-le a {i = i} l, drop_of_length-le b {i = i} (omega (arith, h.lengths))))
 
   module _ (l : i < length a) where
     same_at : sameBytes a b ≡ eqb (get_or a i 0) (get_or b i 0) && sameBytes (drop (i + 1) a) (drop (i + 1) b)
@@ -84,33 +84,33 @@ module _ {a b : List ℕ} {i : ℕ} (h : Comparing a b i) where
     pub same_differs : (get_or a i 0 ≡ get_or b i 0 → ⊥) → false ≡ sameBytes a b
     same_differs e = sym (same_at ∙ rw (ne_eqb _ _ e))
 
-    pub same-on : get_or a i 0 ≡ get_or b i 0 → Comparing a b (i + 1)
-    same-on e = record { lengths = h.lengths; within = omega arith; same = same_at ∙ rw (eq-eqb _ _ e) }
+    pub same_on : get_or a i 0 ≡ get_or b i 0 → Comparing a b (i + 1)
+    same_on e = record { lengths = h.lengths; within = omega arith; same = same_at ∙ rw (eq-eqb _ _ e) }
 
 -- ---- a number
-more-digits : (k v d : ℕ) → v < 10 ^ k → d ≤ 9 → v * 10 + d < 10 ^ (k + 1)
-more-digits k v d h e = rw (add-one, pow-suc 10 k) (omega arith)
+more_digits : (k v d : ℕ) → v < 10 ^ k → d ≤ 9 → v * 10 + d < 10 ^ (k + 1)
+more_digits k v d h e = rw (add-one, pow-suc 10 k) (omega arith)
 
 pub power : (k n : ℕ) → k ≤ n → 10 ^ k ≤ 10 ^ n
 power k n h = pow-le-pow_right (omega arith) h
 
 module _ (w : List ℕ) (v i : ℕ) (in-word : i < length w) where
-  value-more : valueFrom v (drop i w) ≡ valueFrom (v * 10 + (get_or w i 0 - 48)) (drop (i + 1) w)
+  value_more : valueFrom v (drop i w) ≡ valueFrom (v * 10 + (get_or w i 0 - 48)) (drop (i + 1) w)
   unfolding valueFrom
-  value-more = rw (add-one, drop-cons w i 0)
+  value_more = rw (add-one, drop-cons w i 0)
 
-  digits-at : all isDigit (drop i w) ≡ isDigit (get_or w i 0) && all isDigit (drop (i + 1) w)
+  digits_at : all isDigit (drop i w) ≡ isDigit (get_or w i 0) && all isDigit (drop (i + 1) w)
   unfolding all
-  digits-at = rw (add-one, drop-cons w i 0)
+  digits_at = rw (add-one, drop-cons w i 0)
 
   pub digit_low : get_or w i 0 < 48 → all isDigit (drop i w) ≡ false
-  digit_low h = digits-at ∙ rw (lt-leb 48 _ h)
+  digit_low h = digits_at ∙ rw (lt-leb 48 _ h)
 
-  pub digit-high : 48 ≤ get_or w i 0 → 57 < get_or w i 0 → all isDigit (drop i w) ≡ false
-  digit-high g h = digits-at ∙ rw (le-leb 48 _ g, lt-leb _ 57 h)
+  pub digit_high : 48 ≤ get_or w i 0 → 57 < get_or w i 0 → all isDigit (drop i w) ≡ false
+  digit_high g h = digits_at ∙ rw (le-leb 48 _ g, lt-leb _ 57 h)
 
-  digit-more : 48 ≤ get_or w i 0 → get_or w i 0 ≤ 57 → all isDigit (drop i w) ≡ all isDigit (drop (i + 1) w)
-  digit-more g h = digits-at ∙ rw (le-leb 48 _ g, le-leb _ 57 h)
+  digit_more : 48 ≤ get_or w i 0 → get_or w i 0 ≤ 57 → all isDigit (drop i w) ≡ all isDigit (drop (i + 1) w)
+  digit_more g h = digits_at ∙ rw (le-leb 48 _ g, le-leb _ 57 h)
 
 -- what the loop over a word's bytes keeps
 pub record Numbering (w : List ℕ) (v i : ℕ) : Type 0 where
@@ -121,51 +121,51 @@ pub record Numbering (w : List ℕ) (v i : ℕ) : Type 0 where
   pub same : value w ≡ valueFrom v (drop i w)
   pub digits : all isDigit w ≡ all isDigit (drop i w)
 
-pub word-short : (w : List ℕ) → length w < 1 → word_of w ≡ none
+pub word_short : (w : List ℕ) → length w < 1 → word_of w ≡ none
 unfolding word_of is_number
-word-short w h = rw (lt-leb 1 (length w) h)
+word_short w h = rw (lt-leb 1 (length w) h)
 
-pub word-long : (w : List ℕ) → 1 ≤ length w → 10 < length w → word_of w ≡ none
+pub word_long : (w : List ℕ) → 1 ≤ length w → 10 < length w → word_of w ≡ none
 unfolding word_of is_number
-word-long w g h = rw (le-leb 1 (length w) g, lt-leb (length w) 10 h)
+word_long w g h = rw (le-leb 1 (length w) g, lt-leb (length w) 10 h)
 
 module _ {w : List ℕ} {v i : ℕ} (n : Numbering w v i) where
-  pub word-other : all isDigit (drop i w) ≡ false → word_of w ≡ none
+  pub word_other : all isDigit (drop i w) ≡ false → word_of w ≡ none
   unfolding word_of is_number
-  word-other h = rw (le-leb 1 (length w) n.some, le-leb (length w) 10 n.few, n.digits, h)
+  word_other h = rw (le-leb 1 (length w) n.some, le-leb (length w) 10 n.few, n.digits, h)
 
   all_digits : length w ≤ i → all isDigit w ≡ true
   unfolding all
   all_digits h = n.digits ∙ rw (drop_of_length-le w {i = i} h)
 
-  is-value : length w ≤ i → value w ≡ v
+  is_value : length w ≤ i → value w ≡ v
   unfolding valueFrom
-  is-value h = n.same ∙ rw (drop_of_length-le w {i = i} h)
+  is_value h = n.same ∙ rw (drop_of_length-le w {i = i} h)
 
-  pub word-large : length w ≤ i → 4294967295 < v → word_of w ≡ none
+  pub word_large : length w ≤ i → 4294967295 < v → word_of w ≡ none
   unfolding word_of is_number
-  word-large h g = rw (le-leb 1 (length w) n.some, le-leb (length w) 10 n.few, all_digits h, is-value h, lt-leb v 4294967295 g)
+  word_large h g = rw (le-leb 1 (length w) n.some, le-leb (length w) 10 n.few, all_digits h, is_value h, lt-leb v 4294967295 g)
 
-  pub number-on : i < length w → 48 ≤ get_or w i 0 → get_or w i 0 ≤ 57 → Numbering w (v * 10 + (get_or w i 0 - 48)) (i + 1)
-  number-on h lo hi =
+  pub number_on : i < length w → 48 ≤ get_or w i 0 → get_or w i 0 ≤ 57 → Numbering w (v * 10 + (get_or w i 0 - 48)) (i + 1)
+  number_on h lo hi =
       record {
         some = n.some;
         few = n.few;
         within = omega arith;
-        small = more-digits i v (get_or w i 0 - 48) n.small (omega arith);
-        same = n.same ∙ value-more w v i h;
-        digits = n.digits ∙ digit-more w v i h lo hi;
+        small = more_digits i v (get_or w i 0 - 48) n.small (omega arith);
+        same = n.same ∙ value_more w v i h;
+        digits = n.digits ∙ digit_more w v i h lo hi;
       }
 
   pub word_number : length w ≤ i → v ≤ 4294967295 → word_of w ≡ some v
   unfolding word_of is_number
-  word_number h g = rw (le-leb 1 (length w) n.some, le-leb (length w) 10 n.few, all_digits h, is-value h, le-leb v 4294967295 g)
+  word_number h g = rw (le-leb 1 (length w) n.some, le-leb (length w) 10 n.few, all_digits h, is_value h, le-leb v 4294967295 g)
 
 -- ---- words
-pub before-take : (c : ℕ) (bs : List ℕ) → take (length (before c bs)) bs ≡ before c bs
+pub before_take : (c : ℕ) (bs : List ℕ) → take (length (before c bs)) bs ≡ before c bs
 unfolding before
-before-take c [] = refl
-before-take c (b ∷ bs) = by (eqb b c) (before-take c bs)
+before_take c [] = refl
+before_take c (b ∷ bs) = by (eqb b c) (before_take c bs)
   where
     by :
         (t : Bool) → take (length (before c bs)) bs ≡ before c bs →
@@ -199,10 +199,10 @@ words_more (b ∷ bs) h = by (eqb b space) (λ g. words_more bs g) h
     by true rest g = refl
     by false rest g = ap (longer b) (rest (omega arith))
 
-pub words-some : (bs : List ℕ) → 1 ≤ length (words bs)
+pub words_some : (bs : List ℕ) → 1 ≤ length (words bs)
 unfolding words
-words-some [] = omega arith
-words-some (b ∷ bs) = by (eqb b space) (words bs)
+words_some [] = omega arith
+words_some (b ∷ bs) = by (eqb b space) (words bs)
   where
     by : (t : Bool) (ws : List (List ℕ)) → 1 ≤ length (pick t ([] ∷ ws) (longer b ws))
     by true ws = omega arith
@@ -217,9 +217,9 @@ number_is w v h = by (is_number w) h
     by true g = (refl, cc)
     by false g = let z : ◌≡◌ {A = ℕ} 0 1 = cc in absurd (omega arith)
 
-other-is : (w : List ℕ) → word_of w ≡ none → is_number w ≡ false
+other_is : (w : List ℕ) → word_of w ≡ none → is_number w ≡ false
 unfolding word_of
-other-is w h = by (is_number w) h
+other_is w h = by (is_number w) h
   where
     by : (t : Bool) → pick t (some (value w)) none ≡ none → t ≡ false
     by true g = let z : ◌≡◌ {A = ℕ} 0 1 = cc in absurd (omega arith)
@@ -232,23 +232,23 @@ all_append (w ∷ a) b h =
     let p = both_true (is_number w) (allNumbers a) h in
     rw p.0 (all_append a b p.1)
 
-numbers-append : (a b : List (List ℕ)) → allNumbers a ≡ true → numbers (a ++ b) ≡ numbers a ++ numbers b
+numbers_append : (a b : List (List ℕ)) → allNumbers a ≡ true → numbers (a ++ b) ≡ numbers a ++ numbers b
 unfolding allNumbers numbers
-numbers-append [] b h = refl
-numbers-append (w ∷ a) b h =
+numbers_append [] b h = refl
+numbers_append (w ∷ a) b h =
     let p = both_true (is_number w) (allNumbers a) h in
-    rw p.0 (ap (λ (l : List ℕ). value w ∷ l) (numbers-append a b p.1))
+    rw p.0 (ap (λ (l : List ℕ). value w ∷ l) (numbers_append a b p.1))
 
-pub numbers-length : (a : List (List ℕ)) → allNumbers a ≡ true → length (numbers a) ≡ length a
+pub numbers_length : (a : List (List ℕ)) → allNumbers a ≡ true → length (numbers a) ≡ length a
 unfolding allNumbers numbers
-numbers-length [] h = refl
-numbers-length (w ∷ a) h =
+numbers_length [] h = refl
+numbers_length (w ∷ a) h =
     let p = both_true (is_number w) (allNumbers a) h in
-    rw p.0 (ap suc (numbers-length a p.1))
+    rw p.0 (ap suc (numbers_length a p.1))
 
 -- one place more
-over-more : (l : List ℕ) (v : ℕ) (old : List ℕ) → length l < length old → set (over l old) (length l) v ≡ over (l ++ (v ∷ [])) old
-over-more l v old h =
+over_more : (l : List ℕ) (v : ℕ) (old : List ℕ) → length l < length old → set (over l old) (length l) v ≡ over (l ++ (v ∷ [])) old
+over_more l v old h =
     let m : length (l ++ (v ∷ [])) ≡ suc (length l) = length-append l (v ∷ []) ∙ add-one (length l) in
     rw (m, drop-cons old (length l) 0, set_at l (get_or old (length l) 0) (drop (suc (length l)) old) v (length l) refl, append_assoc)
 
@@ -256,15 +256,15 @@ all_first : (w : List ℕ) (ws : List (List ℕ)) → is_number w ≡ false → 
 unfolding allNumbers
 all_first w ws h = rw h
 
-numbers-first : (w : List ℕ) (ws : List (List ℕ)) → is_number w ≡ false → numbers (w ∷ ws) ≡ []
+numbers_first : (w : List ℕ) (ws : List (List ℕ)) → is_number w ≡ false → numbers (w ∷ ws) ≡ []
 unfolding numbers
-numbers-first w ws h = rw h
+numbers_first w ws h = rw h
 
 -- the first word is what stands before the first space
-words-first : (bs : List ℕ) → (later : List (List ℕ)) × (words bs ≡ before space bs ∷ later)
+words_first : (bs : List ℕ) → (later : List (List ℕ)) × (words bs ≡ before space bs ∷ later)
 unfolding before words
-words-first [] = ([], refl)
-words-first (b ∷ bs) = by (eqb b space) (words-first bs)
+words_first [] = ([], refl)
+words_first (b ∷ bs) = by (eqb b space) (words_first bs)
   where
     by :
         (t : Bool) → ((later : List (List ℕ)) × (words bs ≡ before space bs ∷ later)) →
@@ -290,50 +290,50 @@ unfolding allNumbers numbers
 read_none bytes old =
     record { passed = []; splits = refl; good = refl; count = refl; holds = refl; place = omega arith; room = omega arith; size = refl }
 
-line-whole : (n : ℕ) (ws : List (List ℕ)) → allNumbers ws ≡ true → length ws ≤ n → line_of n ws ≡ some (length ws)
+line_whole : (n : ℕ) (ws : List (List ℕ)) → allNumbers ws ≡ true → length ws ≤ n → line_of n ws ≡ some (length ws)
 unfolding line_of
-line-whole n ws h l = rw (h, le-leb (length ws) n l)
+line_whole n ws h l = rw (h, le-leb (length ws) n l)
 
 line_other : (n : ℕ) (ws : List (List ℕ)) → allNumbers ws ≡ false → line_of n ws ≡ none
 unfolding line_of
 line_other n ws h = rw h
 
-line-long : (n : ℕ) (ws : List (List ℕ)) → n < length ws → line_of n ws ≡ none
+line_long : (n : ℕ) (ws : List (List ℕ)) → n < length ws → line_of n ws ≡ none
 unfolding line_of
-line-long n ws l = rw (lt-leb (length ws) n l, and-false)
+line_long n ws l = rw (lt-leb (length ws) n l, and-false)
 
-line-fits-for : (n m k : ℕ) (t : Bool) → pick (t && leb m n) (some m) none ≡ some k → k ≤ n
-line-fits-for n m k true h = by (leb m n) refl h
+line_fits_for : (n m k : ℕ) (t : Bool) → pick (t && leb m n) (some m) none ≡ some k → k ≤ n
+line_fits_for n m k true h = by (leb m n) refl h
   where
     by : (s : Bool) → leb m n ≡ s → pick s (some m) none ≡ some k → k ≤ n
     by true e g = let z : m ≡ k = cc in omega (arith, leb-true m n e)
     by false e g = let z : ◌≡◌ {A = ℕ} 0 1 = cc in absurd (omega arith)
-line-fits-for n m k false h = let z : ◌≡◌ {A = ℕ} 0 1 = cc in absurd (omega arith)
+line_fits_for n m k false h = let z : ◌≡◌ {A = ℕ} 0 1 = cc in absurd (omega arith)
 
 -- as many numbers as were read had places
-pub line-fits : {bytes old now : List ℕ} {r : Option ℕ} {k : ℕ} → ReadInto bytes old now r → r ≡ some k → k ≤ length old
+pub line_fits : {bytes old now : List ℕ} {r : Option ℕ} {k : ℕ} → ReadInto bytes old now r → r ≡ some k → k ≤ length old
 unfolding line_of
-line-fits {bytes} {old} {now} {r} {k} h e = line-fits-for (length old) (length (words bytes)) k (allNumbers (words bytes)) (sym h.is ∙ e)
+line_fits {bytes} {old} {now} {r} {k} h e = line_fits_for (length old) (length (words bytes)) k (allNumbers (words bytes)) (sym h.is ∙ e)
 
 module _ {bytes old xs : List ℕ} {p k : ℕ} (r : Reading bytes old xs p k) where
   held : length (numbers r.passed) ≡ k
-  held = numbers-length r.passed r.good ∙ r.count
+  held = numbers_length r.passed r.good ∙ r.count
 
   -- no place is left
-  pub read-full : length xs ≤ k → ReadInto bytes old xs none
-  read-full h =
-      let s = words-some (drop p bytes) in
+  pub read_full : length xs ≤ k → ReadInto bytes old xs none
+  read_full h =
+      let s = words_some (drop p bytes) in
       let n : length (words bytes) ≡ length r.passed + length (words (drop p bytes)) =
       ap length r.splits ∙ length-append r.passed (words (drop p bytes)) in
       let l : length old < length (words bytes) = omega (arith, r.count, r.size) in
       let e : length (numbers r.passed) ≡ length old = omega (arith, held, r.room, r.size) in
       record {
-        is = sym (line-long (length old) (words bytes) l);
+        is = sym (line_long (length old) (words bytes) l);
         holds =
             r.holds
             ∙ ap (λ (m : List ℕ). over m old)
             (sym (ap (λ (ws : List (List ℕ)). take (length old) (numbers ws)) r.splits
-            ∙ (ap (take (length old)) (numbers-append r.passed (words (drop p bytes)) r.good)
+            ∙ (ap (take (length old)) (numbers_append r.passed (words (drop p bytes)) r.good)
             ∙ take_at (numbers r.passed) (numbers (words (drop p bytes))) (length old) e)));
       }
 
@@ -341,21 +341,21 @@ module _ {bytes old xs : List ℕ} {p k : ℕ} (r : Reading bytes old xs p k) wh
     part : take (e - p) (drop p bytes) ≡ before space (drop p bytes)
     part =
         let m : e - p ≡ length (before space (drop p bytes)) = omega arith in
-        ap (λ (n : ℕ). take n (drop p bytes)) m ∙ before-take space (drop p bytes)
+        ap (λ (n : ℕ). take n (drop p bytes)) m ∙ before_take space (drop p bytes)
 
     -- the next word is no number
-    pub read-other : word_of (take (e - p) (drop p bytes)) ≡ none → ReadInto bytes old xs none
-    read-other h =
+    pub read_other : word_of (take (e - p) (drop p bytes)) ≡ none → ReadInto bytes old xs none
+    read_other h =
         let w = before space (drop p bytes) in
-        let o : is_number w ≡ false = other-is w (sym (ap word_of part) ∙ h) in
-        let f = words-first (drop p bytes) in
+        let o : is_number w ≡ false = other_is w (sym (ap word_of part) ∙ h) in
+        let f = words_first (drop p bytes) in
         let a : allNumbers (words bytes) ≡ false =
         ap allNumbers r.splits ∙ (all_append r.passed (words (drop p bytes)) r.good ∙ (ap allNumbers f.1 ∙ all_first w f.0 o)) in
         let m : numbers (words bytes) ≡ numbers r.passed =
         ap numbers r.splits
-        ∙ (numbers-append r.passed (words (drop p bytes)) r.good
+        ∙ (numbers_append r.passed (words (drop p bytes)) r.good
         ∙ (ap (λ (ws : List (List ℕ)). numbers r.passed ++ numbers ws) f.1
-        ∙ (ap (λ (l : List ℕ). numbers r.passed ++ l) (numbers-first w f.0 o) ∙ append-nil (numbers r.passed)))) in
+        ∙ (ap (λ (l : List ℕ). numbers r.passed ++ l) (numbers_first w f.0 o) ∙ append-nil (numbers r.passed)))) in
         record {
           is = sym (line_other (length old) (words bytes) a);
           holds =
@@ -371,41 +371,41 @@ module _ {bytes old xs : List ℕ} {p k : ℕ} (r : Reading bytes old xs p k) wh
       number : (is_number (before space (drop p bytes)) ≡ true) × (value (before space (drop p bytes)) ≡ v)
       number = number_is (before space (drop p bytes)) v (sym (ap word_of part) ∙ is)
 
-      read-good : allNumbers read ≡ true
+      read_good : allNumbers read ≡ true
       unfolding allNumbers
-      read-good = all_append r.passed (before space (drop p bytes) ∷ []) r.good ∙ rw number.0
+      read_good = all_append r.passed (before space (drop p bytes) ∷ []) r.good ∙ rw number.0
 
       read_count : length read ≡ k + 1
       read_count = length-append r.passed (before space (drop p bytes) ∷ []) ∙ ap (λ (n : ℕ). n + 1) r.count
 
-      read-numbers : numbers read ≡ numbers r.passed ++ (v ∷ [])
+      read_numbers : numbers read ≡ numbers r.passed ++ (v ∷ [])
       unfolding numbers
-      read-numbers = numbers-append r.passed (before space (drop p bytes) ∷ []) r.good ∙ rw (number.0, number.1)
+      read_numbers = numbers_append r.passed (before space (drop p bytes) ∷ []) r.good ∙ rw (number.0, number.1)
 
-      read-holds : set xs k v ≡ over (numbers read) old
-      read-holds =
+      read_holds : set xs k v ≡ over (numbers read) old
+      read_holds =
           ap (λ (l : List ℕ). set l k v) r.holds
           ∙ (ap (λ (n : ℕ). set (over (numbers r.passed) old) n v) (sym held)
-          ∙ (over-more (numbers r.passed) v old (omega (arith, held, r.size)) ∙ ap (λ (l : List ℕ). over l old) (sym read-numbers)))
+          ∙ (over_more (numbers r.passed) v old (omega (arith, held, r.size)) ∙ ap (λ (l : List ℕ). over l old) (sym read_numbers)))
 
       -- it is a number, and the line ends
-      pub read-last : length bytes ≤ e → ReadInto bytes old (set xs k v) (some (k + 1))
-      read-last h =
+      pub read_last : length bytes ≤ e → ReadInto bytes old (set xs k v) (some (k + 1))
+      read_last h =
           let l : words (drop p bytes) ≡ before space (drop p bytes) ∷ [] = words_last (drop p bytes) (omega (arith, length-drop p bytes)) in
           let s : words bytes ≡ read = r.splits ∙ ap (λ (ws : List (List ℕ)). r.passed ++ ws) l in
           let n : k + 1 ≤ length old = omega (arith, r.size) in
           record {
-            is = sym (ap (line_of (length old)) s ∙ (line-whole (length old) read read-good (omega (arith, read_count)) ∙ ap some read_count));
+            is = sym (ap (line_of (length old)) s ∙ (line_whole (length old) read read_good (omega (arith, read_count)) ∙ ap some read_count));
             holds =
-                read-holds
+                read_holds
                 ∙ ap (λ (l : List ℕ). over l old)
                 (sym (ap (λ (ws : List (List ℕ)). take (length old) (numbers ws)) s
-                ∙ take_all (length old) (numbers read) (omega (arith, numbers-length read read-good, read_count))));
+                ∙ take_all (length old) (numbers read) (omega (arith, numbers_length read read_good, read_count))));
           }
 
       -- it is a number, and a space follows
-      pub read-on : e < length bytes → Reading bytes old (set xs k v) (e + 1) (k + 1)
-      read-on h =
+      pub read_on : e < length bytes → Reading bytes old (set xs k v) (e + 1) (k + 1)
+      read_on h =
           let n = length (before space (drop p bytes)) in
           let l : words (drop p bytes) ≡ before space (drop p bytes) ∷ words (drop (suc n) (drop p bytes)) =
           words_more (drop p bytes) (omega (arith, length-drop p bytes)) in
@@ -417,9 +417,9 @@ module _ {bytes old xs : List ℕ} {p k : ℕ} (r : Reading bytes old xs p k) wh
                 r.splits
                 ∙ (ap (λ (ws : List (List ℕ)). r.passed ++ ws) (l ∙ ap (λ (bs : List ℕ). before space (drop p bytes) ∷ words bs) d)
                 ∙ sym (append_assoc r.passed (before space (drop p bytes) ∷ []) (words (drop (e + 1) bytes))));
-            good = read-good;
+            good = read_good;
             count = read_count;
-            holds = read-holds;
+            holds = read_holds;
             place = omega arith;
             room = omega (arith, r.size);
             size = length-set xs k v ∙ r.size;

@@ -26,11 +26,11 @@ before c [] = []
 before c (b ∷ bs) = pick (eqb b c) [] (b ∷ before c bs)
 
 -- two lists of bytes are the same
-unfoldable pub sameBytes : List ℕ → List ℕ → Bool
-sameBytes [] [] = true
-sameBytes [] (y ∷ ys) = false
-sameBytes (x ∷ xs) [] = false
-sameBytes (x ∷ xs) (y ∷ ys) = eqb x y && sameBytes xs ys
+unfoldable pub same_bytes : List ℕ → List ℕ → Bool
+same_bytes [] [] = true
+same_bytes [] (y ∷ ys) = false
+same_bytes (x ∷ xs) [] = false
+same_bytes (x ∷ xs) (y ∷ ys) = eqb x y && same_bytes xs ys
 
 -- a byte more at the start of the first word
 abbrev pub longer : ℕ → List (List ℕ) → List (List ℕ)
@@ -44,36 +44,36 @@ words [] = [] ∷ []
 words (b ∷ bs) = pick (eqb b space) ([] ∷ words bs) (longer b (words bs))
 
 -- the bytes of 0 to 9
-abbrev pub isDigit : ℕ → Bool
-isDigit b = leb 48 b && leb b 57
+abbrev pub is_digit : ℕ → Bool
+is_digit b = leb 48 b && leb b 57
 
 -- what digits write after a number v
-unfoldable pub valueFrom : ℕ → List ℕ → ℕ
-valueFrom v [] = v
-valueFrom v (b ∷ bs) = valueFrom (v * 10 + (b - 48)) bs
+unfoldable pub value_from : ℕ → List ℕ → ℕ
+value_from v [] = v
+value_from v (b ∷ bs) = value_from (v * 10 + (b - 48)) bs
 
 -- what digits write
 abbrev pub value : List ℕ → ℕ
-value = valueFrom 0
+value = value_from 0
 
 -- a word that is a number: it has one to ten bytes, all of them digits, and its value is below 2^32 (SPECIFICATION
 -- 10.2)
 unfoldable pub is_number : List ℕ → Bool
-is_number w = leb 1 (length w) && (leb (length w) 10 && (all isDigit w && leb (value w) 4294967295))
+is_number w = leb 1 (length w) && (leb (length w) 10 && (all is_digit w && leb (value w) 4294967295))
 
 -- what a word says: its number; none where it is anything else
 unfoldable pub word_of : List ℕ → Option ℕ
 word_of w = pick (is_number w) (some (value w)) none
 
 -- the number of each case
-abbrev pub toldWord : Word → Option ℕ
-toldWord (Number n) = some n
-toldWord Other = none
+abbrev pub told_word : Word → Option ℕ
+told_word (Number n) = some n
+told_word Other = none
 
 -- every word is a number
-unfoldable pub allNumbers : List (List ℕ) → Bool
-allNumbers [] = true
-allNumbers (w ∷ ws) = is_number w && allNumbers ws
+unfoldable pub all_numbers : List (List ℕ) → Bool
+all_numbers [] = true
+all_numbers (w ∷ ws) = is_number w && all_numbers ws
 
 -- the numbers that words write, up to the first word that is none
 unfoldable pub numbers : List (List ℕ) → List ℕ
@@ -83,12 +83,12 @@ numbers (w ∷ ws) = pick (is_number w) (value w ∷ numbers ws) []
 -- how many numbers a line is, for a list with that many places: as many as it has words; none where a word is no
 -- number, or a place lacks
 unfoldable pub line_of : ℕ → List (List ℕ) → Option ℕ
-line_of places ws = pick (allNumbers ws && leb (length ws) places) (some (length ws)) none
+line_of places ws = pick (all_numbers ws && leb (length ws) places) (some (length ws)) none
 
 -- how many numbers each case has
-abbrev pub toldLine : Line → Option ℕ
-toldLine (Numbers n) = some n
-toldLine Broken = none
+abbrev pub told_line : Line → Option ℕ
+told_line (Numbers n) = some n
+told_line Broken = none
 
 -- a line's bytes were read into a list: it holds the numbers up to the first word that is none, as far as it has places
 pub record ReadInto (bytes old now : List ℕ) (line : Option ℕ) : Type 0 where

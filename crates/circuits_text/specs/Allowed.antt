@@ -4,7 +4,7 @@ use Rattle.std.specs.Prelude.{List, [], ◌∷◌, ◌++◌, ℕ, ◌+◌, ◌*�
 
 -- the bytes are decimal digits, 48 to 57, and n is what they say: a digit d written behind n makes n × 10 + d
 pub data Digits : ℕ → List ℕ → Type 0 where
-  noDigit : Digits 0 []
+  no_digit : Digits 0 []
   behind : {n : ℕ} {w : List ℕ} (d : ℕ) → d ≤ 9 → Digits n w → Digits (n * 10 + d) (w ++ ((48 + d) ∷ []))
 
 -- a word that is the number n: one to ten digits whose value is below 2^32 (SPECIFICATION 10.2)

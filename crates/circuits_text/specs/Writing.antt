@@ -7,17 +7,17 @@ unfoldable pub glyph : ℕ → ℕ
 glyph d = pick (ltb d 10) (48 + d) (87 + d)
 
 -- no is 0, yes is 1
-abbrev pub digitOf : Bool → ℕ
-digitOf b = pick b 1 0
+abbrev pub digit_of : Bool → ℕ
+digit_of b = pick b 1 0
 
 -- the decimal digits of a number below 10^m, the most significant first and no zero before them
-unfoldable pub decimalIn : ℕ → ℕ → List ℕ
-decimalIn zero n = []
-decimalIn (suc m) n = pick (ltb n 10) (glyph n ∷ []) (decimalIn m (n / 10) ++ (glyph (n % 10) ∷ []))
+unfoldable pub decimal_in : ℕ → ℕ → List ℕ
+decimal_in zero n = []
+decimal_in (suc m) n = pick (ltb n 10) (glyph n ∷ []) (decimal_in m (n / 10) ++ (glyph (n % 10) ∷ []))
 
 -- the decimal digits of a number
 unfoldable pub decimal : ℕ → List ℕ
-decimal n = decimalIn (suc n) n
+decimal n = decimal_in (suc n) n
 
 -- a signed number: its size, after a minus sign where it is below 0
 unfoldable pub signed : ℤ → List ℕ
@@ -25,13 +25,13 @@ signed (pos n) = decimal n
 signed (negsuc n) = 45 ∷ decimal (suc n)
 
 -- the last k hexadecimal digits of a number, the most significant first
-unfoldable pub hexIn : ℕ → ℕ → List ℕ
-hexIn zero n = []
-hexIn (suc k) n = hexIn k (n / 16) ++ (glyph (n % 16) ∷ [])
+unfoldable pub hex_in : ℕ → ℕ → List ℕ
+hex_in zero n = []
+hex_in (suc k) n = hex_in k (n / 16) ++ (glyph (n % 16) ∷ [])
 
 -- a 64-bit word as sixteen hexadecimal digits
 abbrev pub hex : ℕ → List ℕ
-hex = hexIn 16
+hex = hex_in 16
 
 -- new in the places from at on; the others keep what they held
 abbrev pub bytes_at : ℕ → List ℕ → List ℕ → List ℕ

@@ -2,9 +2,11 @@
 // hexadecimal digits. What a number and a line are: SPECIFICATION 10.2. It knows nothing of gates and tables, so that
 // the program `circuits` and the test programs read and write by the same functions, and what is written can be read
 // back (proofs/Back).
+#![tactic(auto)]
+
 ghost use Rattle.std.specs.Prelude.{[], ◌∷◌, ◌≡◌, ◌+◌, ◌<◌, ◌≤◌, nat_abs, length, drop};
-ghost use Rattle.circuits_text.specs.Reading.{before, sameBytes, word_of, toldWord, toldLine, ReadInto};
-ghost use Rattle.circuits_text.specs.Writing.{digitOf, decimal, signed, hex, Put};
+ghost use Rattle.circuits_text.specs.Reading.{before, same_bytes, word_of, told_word, told_line, ReadInto};
+ghost use Rattle.circuits_text.specs.Writing.{digit_of, decimal, signed, hex, Put};
 ghost use Rattle.circuits_text.specs.Writing.{glyph as glyphOf};
 
 pub const SPACE: u8 = 32;
@@ -43,7 +45,7 @@ pub fn find(s: &[u8], at: usize, c: u8) -> usize
 
 // Whether two words are the same.
 pub fn same_bytes(a: &[u8], b: &[u8]) -> bool
-    ensures { result ≡ sameBytes a.now b.now }
+    ensures { result ≡ same_bytes a.now b.now }
 {
     if a.len() != b.len() {
         return false;
@@ -60,7 +62,7 @@ pub fn same_bytes(a: &[u8], b: &[u8]) -> bool
 
 // The number that a word writes.
 pub fn number(word: &[u8]) -> Word
-    ensures { toldWord result ≡ word_of word.now }
+    ensures { told_word result ≡ word_of word.now }
 {
     if word.len() < 1 {
         return Word::Other;
@@ -90,7 +92,7 @@ pub fn number(word: &[u8]) -> Word
 // Reads the numbers of a line, given without its newline, into the lent list, from its first place on. Of a broken line
 // it has the numbers before the first other word, as far as there are places.
 pub fn numbers(line: &[u8], list: &mut [u32]) -> Line
-    ensures { ReadInto line.now list.old list.new (toldLine result) }
+    ensures { ReadInto line.now list.old list.new (told_line result) }
 {
     let mut p = 0;
     let mut k = 0;
@@ -137,7 +139,7 @@ pub fn put_bytes(out: &mut [u8], at: usize, bytes: &[u8]) -> usize
 
 // 0 or 1.
 pub fn digit(b: bool) -> u64
-    ensures { result ≡ digitOf b }
+    ensures { result ≡ digit_of b }
 {
     if b {
         return 1;

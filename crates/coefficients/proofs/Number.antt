@@ -15,18 +15,18 @@ use mir.Val.{bits, hbits, SFits, to_z, of_z}
 use mir.Facts.{to_z-of_z, sfits_widen}
 use Rattle.ints.proofs.Int.{◌⊕◌, ◌⊖◌, A, B, up, dn, add_is}
 use Rattle.ints.proofs.Machine.{fit, range, read_wide, abs_is, abs_neg}
-use Rattle.coefficients.specs.Coefficients.{limit, near, far, eqZ, within, half, parity, sameParity}
+use Rattle.coefficients.specs.Coefficients.{limit, near, far, eq_z, within, half, parity, same_parity}
 
-mag-abs : (z : ℤ) → mag z ≤ nat_abs z
-mag-abs (pos n) = omega arith
-mag-abs (negsuc n) = omega arith
+mag_abs : (z : ℤ) → mag z ≤ nat_abs z
+mag_abs (pos n) = omega arith
+mag_abs (negsuc n) = omega arith
 
 abs_mag : (z : ℤ) → nat_abs z ≤ mag z + 1
 abs_mag (pos n) = omega arith
 abs_mag (negsuc n) = omega arith
 
-pub fits-near : (z : ℤ) → nat_abs z ≤ limit → SFits near z
-fits-near z h = record { sfits = omega (arith, mag-abs z) }
+pub fits_near : (z : ℤ) → nat_abs z ≤ limit → SFits near z
+fits_near z h = record { sfits = omega (arith, mag_abs z) }
 
 -- ---- a coefficient in the wide type, and what is formed of two there
 
@@ -42,8 +42,8 @@ sum_fits {x} {y} f g =
     let q = range g in
     fit far (x ∷ y ∷ []) (A ⊕ B) (omega arith) (omega arith)
 
-pub difference-fits : {x y : ℤ} → SFits near x → SFits near y → SFits far (x -ℤ y)
-difference-fits {x} {y} f g =
+pub difference_fits : {x y : ℤ} → SFits near x → SFits near y → SFits far (x -ℤ y)
+difference_fits {x} {y} f g =
     let p = range f in
     let q = range g in
     fit far (x ∷ y ∷ []) (A ⊖ B) (omega arith) (omega arith)
@@ -59,38 +59,38 @@ pub high : (z : ℤ) → lt_z z (neg_ℤ (pos limit)) ≡ false → le_z z (pos 
 high (pos n) h = refl
 high (negsuc n) h = sym (le-leb (suc n) limit (omega (arith, ltb-false (limit - 1) n h)))
 
-pub half-abs : (z : ℤ) → nat_abs (half z) ≡ nat_abs z / 2
-half-abs (pos n) = refl
-half-abs (negsuc n) = abs_neg (pos (suc n / 2))
+pub half_abs : (z : ℤ) → nat_abs (half z) ≡ nat_abs z / 2
+half_abs (pos n) = refl
+half_abs (negsuc n) = abs_neg (pos (suc n / 2))
 
-pub half-fits : {w : Width} {z : ℤ} → SFits w z → SFits w (half z)
-half-fits {w} {z} f = record { sfits = omega (arith, mag-abs (half z), half-abs z, abs_mag z) }
+pub half_fits : {w : Width} {z : ℤ} → SFits w z → SFits w (half z)
+half_fits {w} {z} f = record { sfits = omega (arith, mag_abs (half z), half_abs z, abs_mag z) }
 
-odd-neg : (r : ℕ) → r < 2 → eqb (of_z far (neg_ℤ (pos r))) 0 ≡ eqb r 0
-odd-neg zero h = refl
-odd-neg (suc zero) h = refl
-odd-neg (suc (suc r)) h = absurd (omega arith)
+odd_neg : (r : ℕ) → r < 2 → eqb (of_z far (neg_ℤ (pos r))) 0 ≡ eqb r 0
+odd_neg zero h = refl
+odd_neg (suc zero) h = refl
+odd_neg (suc (suc r)) h = absurd (omega arith)
 
-rem-parity : (z : ℤ) → eqb (of_z far (rem_z z (pos 2))) 0 ≡ eqb (parity z) 0
-rem-parity (pos n) = refl
-rem-parity (negsuc n) = odd-neg (suc n % 2) (mod-lt (suc n) (omega arith))
+rem_parity : (z : ℤ) → eqb (of_z far (rem_z z (pos 2))) 0 ≡ eqb (parity z) 0
+rem_parity (pos n) = refl
+rem_parity (negsuc n) = odd_neg (suc n % 2) (mod-lt (suc n) (omega arith))
 
 -- two tests of equality that stand for each other
-eqb-iff : (a b c d : ℕ) → (a ≡ b → c ≡ d) → (c ≡ d → a ≡ b) → eqb a b ≡ eqb c d
-eqb-iff a b c d f g = by (eqb c d) refl
+eqb_iff : (a b c d : ℕ) → (a ≡ b → c ≡ d) → (c ≡ d → a ≡ b) → eqb a b ≡ eqb c d
+eqb_iff a b c d f g = by (eqb c d) refl
   where
     by : (t : Bool) → eqb c d ≡ t → eqb a b ≡ eqb c d
     by true e = eq-eqb a b (g (eqb-true c d e)) ∙ sym e
     by false e = ne_eqb a b (λ q. eqb-false c d e (f q)) ∙ sym e
 
 -- the machine's remainder by 2 of a sum is 0 exactly where the parities are equal
-pub rem-same : (x y : ℤ) → eqb (of_z far (rem_z (x +ℤ y) (pos 2))) 0 ≡ sameParity x y
-rem-same x y =
+pub rem_same : (x y : ℤ) → eqb (of_z far (rem_z (x +ℤ y) (pos 2))) 0 ≡ same_parity x y
+rem_same x y =
     let z = abs_is (x +ℤ y) in
     let p = abs_is x in
     let q = abs_is y in
     let s = add_is x y in
-    rem-parity (x +ℤ y) ∙ eqb-iff (parity (x +ℤ y)) 0 (parity x) (parity y) (λ e. omega arith) (λ e. omega arith)
+    rem_parity (x +ℤ y) ∙ eqb_iff (parity (x +ℤ y)) 0 (parity x) (parity y) (λ e. omega arith) (λ e. omega arith)
 
 -- what a test answered, t, says of what it stands for, s, where the code returned from `if !t`, and where it went on
 module _ {t s : Bool} (e : t ≡ s) where
@@ -121,18 +121,18 @@ pub add_small : (x y : ℤ) → nat_abs x ≤ limit → nat_abs y ≤ limit → 
 add_small x y h k =
     let p = abs_is x in
     let q = abs_is y in
-    sum-le (x +ℤ y) (up x + up y) (dn x + dn y) (add_is x y) (omega arith) (omega arith)
+    sum_le (x +ℤ y) (up x + up y) (dn x + dn y) (add_is x y) (omega arith) (omega arith)
   where
-    sum-le : (z : ℤ) (p n : ℕ) → up z + n ≡ p + dn z → p ≤ n + (limit + limit) → n ≤ p + (limit + limit) → nat_abs z ≤ (limit + limit)
-    sum-le (pos k) p n e h g = omega arith
-    sum-le (negsuc k) p n e h g = omega arith
+    sum_le : (z : ℤ) (p n : ℕ) → up z + n ≡ p + dn z → p ≤ n + (limit + limit) → n ≤ p + (limit + limit) → nat_abs z ≤ (limit + limit)
+    sum_le (pos k) p n e h g = omega arith
+    sum_le (negsuc k) p n e h g = omega arith
 
 pub sub_small : (x y : ℤ) → nat_abs x ≤ limit → nat_abs y ≤ limit → nat_abs (x -ℤ y) ≤ (limit + limit)
 sub_small x y h k = add_small x (neg_ℤ y) h (omega (arith, abs_neg y))
 
 -- the machine's test of two coefficients is that of the integers
-pub same_bits : (x y : ℤ) → SFits near x → SFits near y → eqb (of_z near x) (of_z near y) ≡ eqZ x y
+pub same_bits : (x y : ℤ) → SFits near x → SFits near y → eqb (of_z near x) (of_z near y) ≡ eq_z x y
 same_bits (pos a) (pos b) f g = refl
 same_bits (pos a) (negsuc b) f g = ne_eqb a (2 ^ bits near - suc b) (λ e. omega arith)
 same_bits (negsuc a) (pos b) f g = ne_eqb (2 ^ bits near - suc a) b (λ e. omega arith)
-same_bits (negsuc a) (negsuc b) f g = eqb-iff (2 ^ bits near - suc a) (2 ^ bits near - suc b) a b (λ e. omega arith) (λ e. omega arith)
+same_bits (negsuc a) (negsuc b) f g = eqb_iff (2 ^ bits near - suc a) (2 ^ bits near - suc b) a b (λ e. omega arith) (λ e. omega arith)

@@ -25,8 +25,8 @@ pub size_above : (z : ℤ) → lt_z z (pos 0) ≡ false → z ≡ pos (nat_abs z
 size_above (pos n) h = refl
 size_above (negsuc n) h = clash refl h
 
-pub size-range : {w : Width} {z : ℤ} → SFits w z → nat_abs z ≤ 2 ^ hbits w
-size-range {w} {z} f = by z (range f).below (range f).above
+pub size_range : {w : Width} {z : ℤ} → SFits w z → nat_abs z ≤ 2 ^ hbits w
+size_range {w} {z} f = by z (range f).below (range f).above
   where
     by : (z : ℤ) → suc (up z) ≤ 2 ^ hbits w → dn z ≤ 2 ^ hbits w → nat_abs z ≤ 2 ^ hbits w
     by (pos n) h k = omega arith
@@ -38,17 +38,17 @@ at_most : (z : ℤ) (u d m : ℕ) → Is z u d → u ≤ m → d ≤ m → nat_a
 at_most (pos a) u d m i h k = omega arith
 at_most (negsuc a) u d m i h k = omega arith
 
-pub abs-sum : (x y : ℤ) → nat_abs (x +ℤ y) ≤ nat_abs x + nat_abs y
-abs-sum x y =
+pub abs_sum : (x y : ℤ) → nat_abs (x +ℤ y) ≤ nat_abs x + nat_abs y
+abs_sum x y =
     let p = abs_is x in
     let q = abs_is y in
     at_most (x +ℤ y) (up x + up y) (dn x + dn y) (nat_abs x + nat_abs y) (add_is x y) (omega arith) (omega arith)
 
-pub abs-difference : (x y : ℤ) → nat_abs (x -ℤ y) ≤ nat_abs x + nat_abs y
-abs-difference x y = omega (arith, abs-sum x (neg_ℤ y), abs_neg y)
+pub abs_difference : (x y : ℤ) → nat_abs (x -ℤ y) ≤ nat_abs x + nat_abs y
+abs_difference x y = omega (arith, abs_sum x (neg_ℤ y), abs_neg y)
 
-pub sizes-of : (m : ℕ) (x y : ℤ) → nat_abs (x +ℤ y) ≤ m → nat_abs (x -ℤ y) ≤ m → nat_abs x + nat_abs y ≤ m
-sizes-of m x y h k = by x y (x +ℤ y) (x -ℤ y) (neg_ℤ y) (abs_is (x +ℤ y)) (abs_is (x -ℤ y)) (add_is x y) (add_is x (neg_ℤ y)) (neg_is y) h k
+pub sizes_of : (m : ℕ) (x y : ℤ) → nat_abs (x +ℤ y) ≤ m → nat_abs (x -ℤ y) ≤ m → nat_abs x + nat_abs y ≤ m
+sizes_of m x y h k = by x y (x +ℤ y) (x -ℤ y) (neg_ℤ y) (abs_is (x +ℤ y)) (abs_is (x -ℤ y)) (add_is x y) (add_is x (neg_ℤ y)) (neg_is y) h k
   where
     by : (x y p q n : ℤ) → nat_abs p ≡ up p + dn p → nat_abs q ≡ up q + dn q → Is p (up x + up y) (dn x + dn y) → Is q (up x + up n) (dn x + dn n)
         → Is n (dn y) (up y) → nat_abs p ≤ m → nat_abs q ≤ m → nat_abs x + nat_abs y ≤ m
@@ -58,6 +58,6 @@ sizes-of m x y h k = by x y (x +ℤ y) (x -ℤ y) (neg_ℤ y) (abs_is (x +ℤ y)
     by (negsuc a) (negsuc b) p q n ep eq ip iq im h k = omega arith
 
 -- sizes that add up within the limit are a sum and a difference within the limit, and conversely
-pub sums-fit-exactly : (x y : ℤ) → (nat_abs x + nat_abs y ≤ limit) ↔ ((nat_abs (x +ℤ y) ≤ limit) × (nat_abs (x -ℤ y) ≤ limit))
-sums-fit-exactly x y =
-    (λ h. (omega (arith, abs-sum x y), omega (arith, abs-difference x y)), λ h. sizes-of limit x y h.0 h.1)
+pub sums_fit_exactly : (x y : ℤ) → (nat_abs x + nat_abs y ≤ limit) ↔ ((nat_abs (x +ℤ y) ≤ limit) × (nat_abs (x -ℤ y) ≤ limit))
+sums_fit_exactly x y =
+    (λ h. (omega (arith, abs_sum x y), omega (arith, abs_difference x y)), λ h. sizes_of limit x y h.0 h.1)

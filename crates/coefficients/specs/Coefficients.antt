@@ -17,24 +17,24 @@ far = w32
 abbrev pub parity : ℤ → ℕ
 parity z = nat_abs z % 2
 
-abbrev pub sameParity : ℤ → ℤ → Bool
-sameParity x y = eqb (parity x) (parity y)
+abbrev pub same_parity : ℤ → ℤ → Bool
+same_parity x y = eqb (parity x) (parity y)
 
 -- half of an even number
 abbrev pub half : ℤ → ℤ
 half z = quot_z z (pos 2)
 
 -- two coefficients are the same
-abbrev pub eqZ : ℤ → ℤ → Bool
-eqZ (pos a) (pos b) = eqb a b
-eqZ (pos a) (ℤ.negsuc b) = false
-eqZ (ℤ.negsuc a) (pos b) = false
-eqZ (ℤ.negsuc a) (ℤ.negsuc b) = eqb a b
+abbrev pub eq_z : ℤ → ℤ → Bool
+eq_z (pos a) (pos b) = eqb a b
+eq_z (pos a) (ℤ.negsuc b) = false
+eq_z (ℤ.negsuc a) (pos b) = false
+eq_z (ℤ.negsuc a) (ℤ.negsuc b) = eqb a b
 
 -- the coefficient is within the limit
 abbrev pub within : ℤ → Bool
 within z = leb (nat_abs z) limit
 
 -- the sizes of two coefficients add up past the limit
-abbrev pub sizesPass : ℤ → ℤ → Bool
-sizesPass x y = ltb limit (nat_abs x + nat_abs y)
+abbrev pub sizes_pass : ℤ → ℤ → Bool
+sizes_pass x y = ltb limit (nat_abs x + nat_abs y)

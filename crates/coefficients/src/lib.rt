@@ -1,9 +1,11 @@
 // One coefficient of an entry, between -32767 and 32767: so its negative is one too, and a sum or a difference of two
 // is formed one width wider and narrowed after a test. All that the machine's signed numbers ask (ranges, casts,
 // comparisons) is proved here, function by function, and the ring above speaks of integers alone.
+#![tactic(auto)]
+
 ghost use Rattle.std.specs.Prelude.{◌≡◌, ◌+◌, ◌≤◌, pos, nat_abs, neg_ℤ, ◌+ℤ◌, ◌-ℤ◌};
 ghost use Rattle.std.specs.Int.Signed.{lt_z};
-ghost use Rattle.coefficients.specs.Coefficients.{limit, sameParity, half, eqZ, within, sizesPass};
+ghost use Rattle.coefficients.specs.Coefficients.{limit, same_parity, half, eq_z, within, sizes_pass};
 
 // A coefficient's type, and the type in which sums are formed.
 pub type Coefficient = i16;
@@ -49,7 +51,7 @@ pub fn in_limit(x: Wide) -> bool
 }
 
 pub fn same(x: Coefficient, y: Coefficient) -> bool
-    ensures { result ≡ eqZ x y }
+    ensures { result ≡ eq_z x y }
 {
     x == y
 }
@@ -61,7 +63,7 @@ pub fn below(x: Coefficient, y: Coefficient) -> bool
 }
 
 pub fn same_parity(x: Coefficient, y: Coefficient) -> bool
-    ensures { result ≡ sameParity x y }
+    ensures { result ≡ same_parity x y }
 {
     plus(x, y) % 2 == 0
 }
@@ -87,7 +89,7 @@ fn size(x: Coefficient) -> Wide
 
 // Whether the sizes of two coefficients add up past the limit: then their sum or their difference does, and only then.
 pub fn sizes_pass(x: Coefficient, y: Coefficient) -> bool
-    ensures { result ≡ sizesPass x y }
+    ensures { result ≡ sizes_pass x y }
 {
     size(x) + size(y) > LIMIT
 }

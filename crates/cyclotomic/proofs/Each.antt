@@ -17,10 +17,10 @@ each p q r s = λ i. mk (p i) (q i) (r i) (s i)
 -- an element's coefficients as the machine reads them back; `kept c.good.0.1.1` is this of a function's first
 -- argument
 pub record SizeKept (x : Zω) : Type 0 where
-  pub a-kept : to_z near (of_z near x.a) ≡ x.a
-  pub b-kept : to_z near (of_z near x.b) ≡ x.b
-  pub c-kept : to_z near (of_z near x.c) ≡ x.c
-  pub d-kept : to_z near (of_z near x.d) ≡ x.d
+  pub a_kept : to_z near (of_z near x.a) ≡ x.a
+  pub b_kept : to_z near (of_z near x.b) ≡ x.b
+  pub c_kept : to_z near (of_z near x.c) ≡ x.c
+  pub d_kept : to_z near (of_z near x.d) ≡ x.d
 
 abbrev InRange : ℤ → Type 0
 InRange z = mag z < 2 ^ hbits near
@@ -29,7 +29,7 @@ back : {z : ℤ} → InRange z → to_z near (of_z near z) ≡ z
 back g = to_z-of_z (record { sfits = g })
 
 pub kept : {A B C D E : Type 0} {x : Zω} → (A × InRange x.a) × ((B × InRange x.b) × ((C × InRange x.c) × ((D × InRange x.d) × E))) → SizeKept x
-kept g = record { a-kept = back g.0.1; b-kept = back g.1.0.1; c-kept = back g.1.1.0.1; d-kept = back g.1.1.1.0.1 }
+kept g = record { a_kept = back g.0.1; b_kept = back g.1.0.1; c_kept = back g.1.1.0.1; d_kept = back g.1.1.1.0.1 }
 
 -- what a callee told of two coefficients as the machine reads them is told of the coefficients
 pub told : {A : Type 0} (f : ℤ → ℤ → A) {x y : ℤ} {r : A} → to_z near (of_z near x) ≡ x → to_z near (of_z near y) ≡ y

@@ -21,32 +21,32 @@ abbrev pub at : List ℤ → Four → Zω
 at ρ x = mk (value ρ x.a) (value ρ x.b) (value ρ x.c) (value ρ x.d)
 
 -- ---- the operations, each as specs/Zomega has it
-abbrev pub zeroE : Four
-zeroE = record { a = int 0; b = int 0; c = int 0; d = int 0 }
+abbrev pub zero_e : Four
+zero_e = record { a = int 0; b = int 0; c = int 0; d = int 0 }
 
-abbrev pub oneE : Four
-oneE = record { a = int 1; b = int 0; c = int 0; d = int 0 }
+abbrev pub one_e : Four
+one_e = record { a = int 1; b = int 0; c = int 0; d = int 0 }
 
-abbrev pub addE : Four → Four → Four
-addE x y = record { a = x.a ⊕ y.a; b = x.b ⊕ y.b; c = x.c ⊕ y.c; d = x.d ⊕ y.d }
+abbrev pub add_e : Four → Four → Four
+add_e x y = record { a = x.a ⊕ y.a; b = x.b ⊕ y.b; c = x.c ⊕ y.c; d = x.d ⊕ y.d }
 
-abbrev pub subE : Four → Four → Four
-subE x y = record { a = x.a ⊖ y.a; b = x.b ⊖ y.b; c = x.c ⊖ y.c; d = x.d ⊖ y.d }
+abbrev pub sub_e : Four → Four → Four
+sub_e x y = record { a = x.a ⊖ y.a; b = x.b ⊖ y.b; c = x.c ⊖ y.c; d = x.d ⊖ y.d }
 
-abbrev pub mulE : Four → Four → Four
-mulE x y = record {
+abbrev pub mul_e : Four → Four → Four
+mul_e x y = record {
   a = x.a ⊗ y.a ⊖ x.b ⊗ y.d ⊖ x.c ⊗ y.c ⊖ x.d ⊗ y.b;
   b = x.a ⊗ y.b ⊕ x.b ⊗ y.a ⊖ x.c ⊗ y.d ⊖ x.d ⊗ y.c;
   c = x.a ⊗ y.c ⊕ x.b ⊗ y.b ⊕ x.c ⊗ y.a ⊖ x.d ⊗ y.d;
   d = x.a ⊗ y.d ⊕ x.b ⊗ y.c ⊕ x.c ⊗ y.b ⊕ x.d ⊗ y.a;
 }
 
-abbrev pub turnE : ℕ → Four → Four
-turnE zero x = x
-turnE (suc p) x = let y = turnE p x in record { a = ⊝ y.d; b = y.a; c = y.b; d = y.c }
+abbrev pub turn_e : ℕ → Four → Four
+turn_e zero x = x
+turn_e (suc p) x = let y = turn_e p x in record { a = ⊝ y.d; b = y.a; c = y.b; d = y.c }
 
-abbrev pub sqrt2E : Four → Four
-sqrt2E x = record { a = x.b ⊖ x.d; b = x.a ⊕ x.c; c = x.b ⊕ x.d; d = x.c ⊖ x.a }
+abbrev pub sqrt2_e : Four → Four
+sqrt2_e x = record { a = x.b ⊖ x.d; b = x.a ⊕ x.c; c = x.b ⊕ x.d; d = x.c ⊖ x.a }
 
 -- ---- elements that are unknown, and the lists of their coefficients
 abbrev vars : ℕ → ℕ → ℕ → ℕ → Four

@@ -9,10 +9,10 @@ pub data Told : Type 0 where
   refused : ℕ → Told
 
 -- the number of the refusal of what does not fit (SPECIFICATION 9.1)
-abbrev pub doesNotFit : ℕ
-doesNotFit = 8
+abbrev pub does_not_fit : ℕ
+does_not_fit = 8
 
 -- what is to be said of the exact result x: it does not fit where a coefficient of it is past the limit (SPECIFICATION
 -- 1.3)
 unfoldable pub checked : Zω → Told
-checked x = pick (fits x) (entry x) (refused doesNotFit)
+checked x = pick (fits x) (entry x) (refused does_not_fit)

@@ -5,7 +5,7 @@
 use Rattle.std.specs.Prelude.{◌≡◌, Bool, true, false, ◌&&◌, List, [], ◌∷◌, ℕ, zero, suc, ◌+◌, ◌*◌, ◌%◌, ◌<◌, ◌≤◌, ℤ, pos, nat_abs, neg_ℤ, ◌+ℤ◌, ◌-ℤ◌, ◌*ℤ◌}
 use Rattle.std.specs.Int.Signed.{lt_z}
 use Rattle.ints.specs.Lists.{pick}
-use Rattle.coefficients.specs.Coefficients.{limit, sameParity, half, eqZ, within}
+use Rattle.coefficients.specs.Coefficients.{limit, same_parity, half, eq_z, within}
 use Rattle.cyclotomic.specs.declared.Cyclotomic.{Cyclotomic}
 
 -- an entry, by its four coefficients; it stands for a + b omega + c omega² + d omega³ (SPECIFICATION 1.1)
@@ -55,11 +55,11 @@ sqrt2 x = mk (x.b -ℤ x.d) (x.a +ℤ x.c) (x.b +ℤ x.d) (x.c -ℤ x.a)
 
 -- a and c are both even or both odd, and so are b and d: x is √2 times an entry (SPECIFICATION 1.4)
 unfoldable pub divisible : Zω → Bool
-divisible x = sameParity x.a x.c && sameParity x.b x.d
+divisible x = same_parity x.a x.c && same_parity x.b x.d
 
 -- the quotient of a divisible x by √2 (SPECIFICATION 1.4)
-unfoldable pub overSqrt2 : Zω → Zω
-overSqrt2 x = mk (half (x.b -ℤ x.d)) (half (x.a +ℤ x.c)) (half (x.b +ℤ x.d)) (half (x.c -ℤ x.a))
+unfoldable pub over_sqrt2 : Zω → Zω
+over_sqrt2 x = mk (half (x.b -ℤ x.d)) (half (x.a +ℤ x.c)) (half (x.b +ℤ x.d)) (half (x.c -ℤ x.a))
 
 -- the sum of the squares of the coefficients
 abbrev pub square : ℤ → ℕ
@@ -70,10 +70,10 @@ squares x = square x.a + square x.b + square x.c + square x.d
 
 -- two entries are the same
 unfoldable pub eqω : Zω → Zω → Bool
-eqω x y = eqZ x.a y.a && (eqZ x.b y.b && (eqZ x.c y.c && eqZ x.d y.d))
+eqω x y = eq_z x.a y.a && (eq_z x.b y.b && (eq_z x.c y.c && eq_z x.d y.d))
 
-unfoldable pub isZero : Zω → Bool
-isZero x = eqZ x.a (pos 0) && eqZ x.b (pos 0) && eqZ x.c (pos 0) && eqZ x.d (pos 0)
+unfoldable pub is_zero : Zω → Bool
+is_zero x = eq_z x.a (pos 0) && eq_z x.b (pos 0) && eq_z x.c (pos 0) && eq_z x.d (pos 0)
 
 -- the order of entries, by a, then b, then c, then d as signed numbers: the first pair that differs decides
 -- (SPECIFICATION 1.11)
@@ -83,18 +83,18 @@ or_else false less next = less
 
 unfoldable pub less : Zω → Zω → Bool
 less x y =
-    or_else (eqZ x.a y.a) (lt_z x.a y.a)
-    (or_else (eqZ x.b y.b) (lt_z x.b y.b)
-    (or_else (eqZ x.c y.c) (lt_z x.c y.c) (lt_z x.d y.d)))
+    or_else (eq_z x.a y.a) (lt_z x.a y.a)
+    (or_else (eq_z x.b y.b) (lt_z x.b y.b)
+    (or_else (eq_z x.c y.c) (lt_z x.c y.c) (lt_z x.d y.d)))
 
 -- the phase of an entry: the power from 0 to 7 whose turn of it is least. A nonzero entry has one such power
 -- (SPECIFICATION 1.11, proofs/Order)
-unfoldable pub leastUpTo : ℕ → Zω → ℕ
-leastUpTo zero x = 0
-leastUpTo (suc k) x = pick (less (turn (suc k) x) (turn (leastUpTo k x) x)) (suc k) (leastUpTo k x)
+unfoldable pub least_up_to : ℕ → Zω → ℕ
+least_up_to zero x = 0
+least_up_to (suc k) x = pick (less (turn (suc k) x) (turn (least_up_to k x) x)) (suc k) (least_up_to k x)
 
 abbrev pub phase : Zω → ℕ
-phase x = leastUpTo 7 x
+phase x = least_up_to 7 x
 
 -- ---- what fits
 unfoldable pub fits : Zω → Bool
@@ -103,8 +103,8 @@ fits x = within x.a && within x.b && within x.c && within x.d
 -- every coefficient is within a bound
 pub record WithinBound (bound : ℕ) (x : Zω) : Type 0 where
   pub a_small : nat_abs x.a ≤ bound
-  pub b-small : nat_abs x.b ≤ bound
-  pub c-small : nat_abs x.c ≤ bound
+  pub b_small : nat_abs x.b ≤ bound
+  pub c_small : nat_abs x.c ≤ bound
   pub d_small : nat_abs x.d ≤ bound
 
 -- every coefficient is within the limit
@@ -113,5 +113,5 @@ Small x = WithinBound limit x
 
 -- ---- the eight coefficients of an entry's turns
 -- the coefficients at places 0 to 3, their negatives at places 4 to 7
-abbrev pub eightOf : Zω → List ℤ
-eightOf x = x.a ∷ x.b ∷ x.c ∷ x.d ∷ neg_ℤ x.a ∷ neg_ℤ x.b ∷ neg_ℤ x.c ∷ neg_ℤ x.d ∷ []
+abbrev pub eight_of : Zω → List ℤ
+eight_of x = x.a ∷ x.b ∷ x.c ∷ x.d ∷ neg_ℤ x.a ∷ neg_ℤ x.b ∷ neg_ℤ x.c ∷ neg_ℤ x.d ∷ []

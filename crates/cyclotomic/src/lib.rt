@@ -1,8 +1,10 @@
 // An element of Z[omega], a + b omega + c omega^2 + d omega^3 with omega^4 = -1: an entry of a matrix, before its
 // division by sqrt(2)^k. matrix.rs of the original, `Cyclotomic`. Each function says a ring operation coefficient by
 // coefficient; what the machine's numbers ask of a coefficient is in `coefficients`, below.
+#![tactic(auto)]
+
 ghost use Rattle.std.specs.Prelude.{◌≡◌};
-ghost use Rattle.cyclotomic.specs.Zomega.{mk, zeroω, oneω, addω, subω, turn, sqrt2, divisible, overSqrt2, eqω, isZero, less, fits, Small, eightOf};
+ghost use Rattle.cyclotomic.specs.Zomega.{mk, zeroω, oneω, addω, subω, turn, sqrt2, divisible, over_sqrt2, eqω, is_zero, less, fits, Small, eight_of};
 
 pub use coefficients::{Coefficient, LIMIT, Wide, sizes_pass};
 
@@ -57,7 +59,7 @@ impl Cyclotomic {
     }
 
     pub fn is_zero(self) -> bool
-        ensures { result ≡ isZero self }
+        ensures { result ≡ is_zero self }
     {
         self.equals(Cyclotomic::zero())
     }
@@ -134,7 +136,7 @@ impl Cyclotomic {
     // The four coefficients and their negatives, among which are those of every turn of this.
     pub fn eight(self) -> [Coefficient; 8]
         requires { Small self }
-        ensures { result ≡ eightOf self }
+        ensures { result ≡ eight_of self }
     {
         let a = self.a;
         let b = self.b;
@@ -160,7 +162,7 @@ impl Cyclotomic {
     // This over sqrt(2), where it is divisible. The halves never pass the limit.
     pub fn divide_by_sqrt_2(self) -> Cyclotomic
         requires { Small self }
-        ensures { result ≡ overSqrt2 self }
+        ensures { result ≡ over_sqrt2 self }
     {
         Cyclotomic {
             a: coefficients::halved(coefficients::minus(self.b, self.d)),

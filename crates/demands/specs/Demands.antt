@@ -1,6 +1,6 @@
 -- The demands (SPECIFICATION 8.1 to 8.5), stated of what the public entries answer: `library_circuit_matrix` answers
--- `listed`, `library_fingerprint` answers `fingerprinted`, `build` and `build_by` answer `buildOf`, `fill_index`
--- answers `fillOf`, `find` and `find_by` answer `foundIn`, `write` answers `writtenIn`, `synthesize` and
+-- `listed`, `library_fingerprint` answers `fingerprinted`, `build` and `build_by` answer `build_of`, `fill_index`
+-- answers `fill_of`, `find` and `find_by` answer `found_in`, `write` answers `written_in`, `synthesize` and
 -- `synthesize_by` answer `synthesized`, for every input; those without `_by` have the scan, and `build` the mode
 -- byPrint. Demand 1 is what the proofs of the functions say: every entry comes to an end whatever goes in, no step of
 -- it is undefined, and the clauses name each refusal and what the lent places then hold; where each refusal is told is
@@ -9,7 +9,7 @@ use Rattle.std.specs.Prelude.{◌≡◌, List, ℕ, ◌+◌, ◌%◌, ◌<◌, �
 use Rattle.cyclotomic.specs.Zomega.{TurnsAdd}
 use Rattle.exact.specs.Matrix.{SameValue, Lowest}
 use Rattle.exact.specs.Lists.{product}
-use Rattle.exact.specs.Paper.{paperProduct}
+use Rattle.exact.specs.Paper.{paper_product}
 use Rattle.walk.specs.Finds.{WidthLimits, Part}
 use Rattle.walk.specs.Index.{place_of}
 use Rattle.walk.specs.IndexLaws.{Probes}
@@ -25,7 +25,7 @@ use Rattle.murm_query.specs.Fingerprints.{FingerprintExactly}
 -- the product of every list, accepted or not, is the paper's product of its gates by value, and is in lowest
 -- denominator (SPECIFICATION 3.5)
 pub record PaperProduct : Type 0 where
-  pub value : (n : ℕ) (codes : List ℕ) → SameValue n (paperProduct n codes) (product n codes)
+  pub value : (n : ℕ) (codes : List ℕ) → SameValue n (paper_product n codes) (product n codes)
   pub lowest : (n : ℕ) (codes : List ℕ) → Lowest n (product n codes)
 
 -- where each refusal is told: `refusals` and `fingerprints`. Demand 2: `products` of every list, and of what is

@@ -4,12 +4,12 @@ use mathlib.Core.Path.{◌≡◌}
 use mathlib.Core.List.{List, [], ◌∷◌, ◌++◌}
 use Prim.Native.Nat.{ℕ, ◌+◌, ◌%◌, ◌^◌, ◌<◌}
 use Rattle.ints.specs.Lists.{pick}
-use Rattle.cyclotomic.specs.Told.{doesNotFit}
+use Rattle.cyclotomic.specs.Told.{does_not_fit}
 use Rattle.cyclotomic.specs.Zomega.{Zω, WithinBound}
 use Rattle.coefficients.specs.Coefficients.{limit}
 use Rattle.exact.specs.Matrix.{Exact}
 use Rattle.exact.specs.Rows.{Gate, phase, exchange, had, then, act}
-use Rattle.exact.specs.Fits.{stepFits}
+use Rattle.exact.specs.Fits.{step_fits}
 use Rattle.exact.specs.Answers.{Answer, given, refused}
 
 -- ---- matrices
@@ -30,8 +30,8 @@ AllSmall n e = AllWithin n limit e
 -- ---- one gate
 
 -- one gate: the exponent of the exact step where it fits, and otherwise 8
-unfoldable pub stepAnswer : ℕ → Gate → Exact → Answer
-stepAnswer n g x = pick (stepFits n g x) (given (act n g x).k) (refused doesNotFit 0)
+unfoldable pub step_answer : ℕ → Gate → Exact → Answer
+step_answer n g x = pick (step_fits n g x) (given (act n g x).k) (refused does_not_fit 0)
 
 -- where a gate does not fit: what its row operations before the first that does not fit have made. Of Sx it may be its
 -- first H and its S; a gate of one operation has made nothing
@@ -39,7 +39,7 @@ abbrev pub made : ℕ → Gate → Exact → Exact
 made n (phase ks p) x = x
 made n (exchange ks k) x = x
 made n (had ks k) x = x
-made n (then g h) x = pick (stepFits n g x) (made n h (act n g x)) (made n g x)
+made n (then g h) x = pick (step_fits n g x) (made n h (act n g x)) (made n g x)
 
 -- ---- gates of a width, gates with no common bit, gates that undo each other
 

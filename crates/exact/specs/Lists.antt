@@ -2,12 +2,12 @@
 -- not. Assumes nothing.
 use Rattle.std.specs.Prelude.{List, [], ◌∷◌, ℕ}
 use Rattle.exact.specs.Matrix.{Exact, identity}
-use Rattle.exact.specs.Rows.{gateOf, act}
+use Rattle.exact.specs.Rows.{gate_of, act}
 
 -- what the steps of a list make of the matrix x, the oldest gate first (SPECIFICATION 3.3)
 abbrev pub after : ℕ → Exact → List ℕ → Exact
 after n x [] = x
-after n x (g ∷ l) = after n (act n (gateOf n g) x) l
+after n x (g ∷ l) = after n (act n (gate_of n g) x) l
 
 -- the product: what they make of the identity. It is in lowest denominator, since each step ends with lowering
 -- (SPECIFICATION 3.5)

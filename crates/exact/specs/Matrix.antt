@@ -3,7 +3,7 @@
 -- is Places.antt. Assumes nothing.
 use Rattle.std.specs.Prelude.{◌≡◌, Bool, false, ℕ, zero, suc, ◌^◌, ◌<◌, eqb}
 use Rattle.ints.specs.Lists.{pick, range, all}
-use Rattle.cyclotomic.specs.Zomega.{Zω, zeroω, oneω, turn, sqrt2, divisible, overSqrt2}
+use Rattle.cyclotomic.specs.Zomega.{Zω, zeroω, oneω, turn, sqrt2, divisible, over_sqrt2}
 
 -- a matrix: its value at row r and column c is the entry e r c over √2 to the k (SPECIFICATION 1.5). The width n stands
 -- beside it; rows and columns from 2^n on are no part of it
@@ -21,21 +21,21 @@ pub record SameValue (n : ℕ) (x y : Exact) : Type 0 where
   pub at : (r c : ℕ) → r < 2 ^ n → c < 2 ^ n → sqrt2s y.k (x.e r c) ≡ sqrt2s x.k (y.e r c)
 
 -- a test of every entry
-abbrev pub allEntries : ℕ → (ℕ → ℕ → Bool) → Bool
-allEntries n f = all (λ r. all (f r) (range 0 (2 ^ n))) (range 0 (2 ^ n))
+abbrev pub all_entries : ℕ → (ℕ → ℕ → Bool) → Bool
+all_entries n f = all (λ r. all (f r) (range 0 (2 ^ n))) (range 0 (2 ^ n))
 
 -- every entry is divisible by √2 (SPECIFICATION 1.4)
-unfoldable pub allDivisible : ℕ → (ℕ → ℕ → Zω) → Bool
-allDivisible n e = allEntries n (λ r c. divisible (e r c))
+unfoldable pub all_divisible : ℕ → (ℕ → ℕ → Zω) → Bool
+all_divisible n e = all_entries n (λ r c. divisible (e r c))
 
 -- lowest denominator: k is 0, or some entry is not divisible (SPECIFICATION 1.9)
 pub record Lowest (n : ℕ) (x : Exact) : Type 0 where
-  pub lowest : 0 < x.k → allDivisible n x.e ≡ false
+  pub lowest : 0 < x.k → all_divisible n x.e ≡ false
 
 -- entries e over √2 to the k, lowered: divided by √2 as often as k allows and all are divisible (SPECIFICATION 1.9)
 abbrev pub lowered : ℕ → ℕ → (ℕ → ℕ → Zω) → Exact
 lowered n zero e = record { k = 0; e = e }
-lowered n (suc k) e = pick (allDivisible n e) (lowered n k (λ r c. overSqrt2 (e r c))) (record { k = suc k; e = e })
+lowered n (suc k) e = pick (all_divisible n e) (lowered n k (λ r c. over_sqrt2 (e r c))) (record { k = suc k; e = e })
 
 -- the same of a matrix
 unfoldable pub lower : ℕ → Exact → Exact

@@ -20,34 +20,34 @@ abbrev pub hadamard : Single
 hadamard = record { k = 1; u = λ i j. pick (i && j) (turn 4 oneω) oneω }
 
 -- X = (0 1; 1 0)
-abbrev pub pauliXEntry : Bool → Bool → Zω
-pauliXEntry true true = zeroω
-pauliXEntry true false = oneω
-pauliXEntry false true = oneω
-pauliXEntry false false = zeroω
+abbrev pub pauli_xEntry : Bool → Bool → Zω
+pauli_xEntry true true = zeroω
+pauli_xEntry true false = oneω
+pauli_xEntry false true = oneω
+pauli_xEntry false false = zeroω
 
-abbrev pub pauliX : Single
-pauliX = record { k = 0; u = pauliXEntry }
+abbrev pub pauli_x : Single
+pauli_x = record { k = 0; u = pauli_xEntry }
 
 -- Y = (0 -i; i 0), with i = omega²
-abbrev pub pauliYEntry : Bool → Bool → Zω
-pauliYEntry true true = zeroω
-pauliYEntry true false = turn 2 oneω
-pauliYEntry false true = turn 6 oneω
-pauliYEntry false false = zeroω
+abbrev pub pauli_yEntry : Bool → Bool → Zω
+pauli_yEntry true true = zeroω
+pauli_yEntry true false = turn 2 oneω
+pauli_yEntry false true = turn 6 oneω
+pauli_yEntry false false = zeroω
 
-abbrev pub pauliY : Single
-pauliY = record { k = 0; u = pauliYEntry }
+abbrev pub pauli_y : Single
+pauli_y = record { k = 0; u = pauli_yEntry }
 
 -- Sx = 1/2 (1+i 1-i; 1-i 1+i): the square root of X
-abbrev pub rootEntry : Bool → Bool → Zω
-rootEntry true true = addω oneω (turn 2 oneω)
-rootEntry true false = addω oneω (turn 6 oneω)
-rootEntry false true = addω oneω (turn 6 oneω)
-rootEntry false false = addω oneω (turn 2 oneω)
+abbrev pub root_entry : Bool → Bool → Zω
+root_entry true true = addω oneω (turn 2 oneω)
+root_entry true false = addω oneω (turn 6 oneω)
+root_entry false true = addω oneω (turn 6 oneω)
+root_entry false false = addω oneω (turn 2 oneω)
 
-abbrev pub rootX : Single
-rootX = record { k = 2; u = rootEntry }
+abbrev pub root_x : Single
+root_x = record { k = 2; u = root_entry }
 
 -- (1 0; 0 omega^p): T by 1, S by 2, Z by 4, Sdg by 6, Tdg by 7
 abbrev pub diagonal : ℕ → Bool → Bool → Zω
@@ -56,8 +56,8 @@ diagonal p true false = zeroω
 diagonal p false true = zeroω
 diagonal p false false = oneω
 
-abbrev pub phaseGate : ℕ → Single
-phaseGate p = record { k = 0; u = diagonal p }
+abbrev pub phase_gate : ℕ → Single
+phase_gate p = record { k = 0; u = diagonal p }
 
 -- the two bits differ
 abbrev pub differs : Bool → Bool → Bool
@@ -74,8 +74,8 @@ unfoldable pub controlled : Single → List ℕ → ℕ → ℕ → ℕ → Zω
 controlled g ks t r s =
     pick (agree t r s) (pick (ones ks r) (g.u (bit r t) (bit s t)) (pick (eqb s r) (sqrt2s g.k oneω) zeroω)) zeroω
 
-abbrev pub paperMatrix : Single → List ℕ → ℕ → Exact
-paperMatrix g ks t = record { k = g.k; e = controlled g ks t }
+abbrev pub paper_matrix : Single → List ℕ → ℕ → Exact
+paper_matrix g ks t = record { k = g.k; e = controlled g ks t }
 
 -- the row with its bits j and k exchanged, where the bits ks are 1; otherwise the row itself
 unfoldable pub swapped : List ℕ → ℕ → ℕ → ℕ → ℕ
@@ -87,29 +87,29 @@ permutation f = record { k = 0; e = λ r s. pick (eqb s (f r)) oneω zeroω }
 
 -- the matrix of each kind: the last operand is the target, of Swap and Cswap the last two are the pair, and the others
 -- are controls
-abbrev pub paperGate : ℕ → Kind → ℕ → ℕ → ℕ → Exact
-paperGate n H a b c = paperMatrix hadamard [] (bit_of n a)
-paperGate n X a b c = paperMatrix pauliX [] (bit_of n a)
-paperGate n Z a b c = paperMatrix (phaseGate 4) [] (bit_of n a)
-paperGate n S a b c = paperMatrix (phaseGate 2) [] (bit_of n a)
-paperGate n Sdg a b c = paperMatrix (phaseGate 6) [] (bit_of n a)
-paperGate n T a b c = paperMatrix (phaseGate 1) [] (bit_of n a)
-paperGate n Tdg a b c = paperMatrix (phaseGate 7) [] (bit_of n a)
-paperGate n Cx a b c = paperMatrix pauliX (bit_of n a ∷ []) (bit_of n b)
-paperGate n Cz a b c = paperMatrix (phaseGate 4) (bit_of n a ∷ []) (bit_of n b)
-paperGate n Ccx a b c = paperMatrix pauliX (bit_of n a ∷ bit_of n b ∷ []) (bit_of n c)
-paperGate n Ccz a b c = paperMatrix (phaseGate 4) (bit_of n a ∷ bit_of n b ∷ []) (bit_of n c)
-paperGate n Y a b c = paperMatrix pauliY [] (bit_of n a)
-paperGate n Sx a b c = paperMatrix rootX [] (bit_of n a)
-paperGate n Swap a b c = permutation (swapped [] (bit_of n a) (bit_of n b))
-paperGate n Cy a b c = paperMatrix pauliY (bit_of n a ∷ []) (bit_of n b)
-paperGate n Ch a b c = paperMatrix hadamard (bit_of n a ∷ []) (bit_of n b)
-paperGate n Cswap a b c = permutation (swapped (bit_of n a ∷ []) (bit_of n b) (bit_of n c))
-paperGate n Other a b c = identity
+abbrev pub paper_gate : ℕ → Kind → ℕ → ℕ → ℕ → Exact
+paper_gate n H a b c = paper_matrix hadamard [] (bit_of n a)
+paper_gate n X a b c = paper_matrix pauli_x [] (bit_of n a)
+paper_gate n Z a b c = paper_matrix (phase_gate 4) [] (bit_of n a)
+paper_gate n S a b c = paper_matrix (phase_gate 2) [] (bit_of n a)
+paper_gate n Sdg a b c = paper_matrix (phase_gate 6) [] (bit_of n a)
+paper_gate n T a b c = paper_matrix (phase_gate 1) [] (bit_of n a)
+paper_gate n Tdg a b c = paper_matrix (phase_gate 7) [] (bit_of n a)
+paper_gate n Cx a b c = paper_matrix pauli_x (bit_of n a ∷ []) (bit_of n b)
+paper_gate n Cz a b c = paper_matrix (phase_gate 4) (bit_of n a ∷ []) (bit_of n b)
+paper_gate n Ccx a b c = paper_matrix pauli_x (bit_of n a ∷ bit_of n b ∷ []) (bit_of n c)
+paper_gate n Ccz a b c = paper_matrix (phase_gate 4) (bit_of n a ∷ bit_of n b ∷ []) (bit_of n c)
+paper_gate n Y a b c = paper_matrix pauli_y [] (bit_of n a)
+paper_gate n Sx a b c = paper_matrix root_x [] (bit_of n a)
+paper_gate n Swap a b c = permutation (swapped [] (bit_of n a) (bit_of n b))
+paper_gate n Cy a b c = paper_matrix pauli_y (bit_of n a ∷ []) (bit_of n b)
+paper_gate n Ch a b c = paper_matrix hadamard (bit_of n a ∷ []) (bit_of n b)
+paper_gate n Cswap a b c = permutation (swapped (bit_of n a ∷ []) (bit_of n b) (bit_of n c))
+paper_gate n Other a b c = identity
 
 -- the matrix of a code; one that is not valid at the width stands for the identity
-unfoldable pub paperOf : ℕ → ℕ → Exact
-paperOf n g = pick (valid n g) (paperGate n (kind_of g) (first g) (second g) (third g)) identity
+unfoldable pub paper_of : ℕ → ℕ → Exact
+paper_of n g = pick (valid n g) (paper_gate n (kind_of g) (first g) (second g) (third g)) identity
 
 -- the sum of f s for s below m
 abbrev pub sumω : ℕ → (ℕ → Zω) → Zω
@@ -122,9 +122,9 @@ multiply n x y = record { k = x.k + y.k; e = λ r c. sumω (2 ^ n) (λ s. mulω 
 
 -- the paper's product of a list: the oldest gate is first in the list, the newest leftmost in the product
 -- (SPECIFICATION 3.5)
-abbrev pub paperAfter : ℕ → Exact → List ℕ → Exact
-paperAfter n x [] = x
-paperAfter n x (g ∷ l) = paperAfter n (multiply n (paperOf n g) x) l
+abbrev pub paper_after : ℕ → Exact → List ℕ → Exact
+paper_after n x [] = x
+paper_after n x (g ∷ l) = paper_after n (multiply n (paper_of n g) x) l
 
-abbrev pub paperProduct : ℕ → List ℕ → Exact
-paperProduct n l = paperAfter n identity l
+abbrev pub paper_product : ℕ → List ℕ → Exact
+paper_product n l = paper_after n identity l

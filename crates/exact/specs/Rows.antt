@@ -59,8 +59,8 @@ bit_of n q = n - suc q
 
 -- Y and Cy: the target's one-rows are turned by 6, the rows exchanged where the controls are 1, the one-rows turned by
 -- 2
-abbrev pub turnedExchange : List ℕ → ℕ → Gate
-turnedExchange ks k = then (phase (k ∷ []) 6) (then (exchange ks k) (phase (k ∷ []) 2))
+abbrev pub turned_exchange : List ℕ → ℕ → Gate
+turned_exchange ks k = then (phase (k ∷ []) 6) (then (exchange ks k) (phase (k ∷ []) 2))
 
 -- Swap and Cswap: the rows whose bits j and k differ change places, where the controls are 1
 abbrev pub exchanges3 : List ℕ → ℕ → ℕ → Gate
@@ -79,14 +79,14 @@ gate n Cx a b c = exchange (bit_of n a ∷ []) (bit_of n b)
 gate n Cz a b c = phase (bit_of n a ∷ bit_of n b ∷ []) 4
 gate n Ccx a b c = exchange (bit_of n a ∷ bit_of n b ∷ []) (bit_of n c)
 gate n Ccz a b c = phase (bit_of n a ∷ bit_of n b ∷ bit_of n c ∷ []) 4
-gate n Y a b c = turnedExchange [] (bit_of n a)
+gate n Y a b c = turned_exchange [] (bit_of n a)
 gate n Sx a b c = then (had [] (bit_of n a)) (then (phase (bit_of n a ∷ []) 2) (had [] (bit_of n a)))
 gate n Swap a b c = exchanges3 [] (bit_of n a) (bit_of n b)
-gate n Cy a b c = turnedExchange (bit_of n a ∷ []) (bit_of n b)
+gate n Cy a b c = turned_exchange (bit_of n a ∷ []) (bit_of n b)
 gate n Ch a b c = had (bit_of n a ∷ []) (bit_of n b)
 gate n Cswap a b c = exchanges3 (bit_of n a ∷ []) (bit_of n b) (bit_of n c)
 gate n Other a b c = phase [] 0
 
 -- the gate of a code; a code that is not valid at the width does nothing
-unfoldable pub gateOf : ℕ → ℕ → Gate
-gateOf n g = pick (valid n g) (gate n (kind_of g) (first g) (second g) (third g)) (phase [] 0)
+unfoldable pub gate_of : ℕ → ℕ → Gate
+gate_of n g = pick (valid n g) (gate n (kind_of g) (first g) (second g) (third g)) (phase [] 0)

@@ -12,9 +12,9 @@ use Rattle.exact.specs.Matrix.{Exact}
 use Rattle.node_matrix.specs.declared.Candidate.{Candidate}
 use Rattle.node_matrix.specs.declared.Candidate.TheVariants.{Print, DoesNotFit}
 use Rattle.node_matrix.specs.Matrices.{FormedAs}
-use Rattle.node_matrix.proofs.Prints.{print-given, print-refused}
-use Rattle.skip_rules.proofs.Sifting.{Sifted, sifted-none, sifted-skip, sifted-in, sifted-all, map_same}
-use Rattle.fitting_gates.specs.Fitting.{unfit, candidatePrint, LeftOf, Room105, placedGate, placedPrint, placedCount}
+use Rattle.node_matrix.proofs.Prints.{print_given, print_refused}
+use Rattle.skip_rules.proofs.Sifting.{Sifted, sifted_none, sifted_skip, sifted_in, sifted_all, map_same}
+use Rattle.fitting_gates.specs.Fitting.{unfit, candidate_print, LeftOf, Room105, placed_gate, placed_print, placed_count}
 
 -- both arrays after i of the gates
 pub record TwoSifted (skip : ℕ → Bool) (y : ℕ → ℕ) (gs kept₀ prints₀ kept prints : List ℕ) (size i : ℕ) : Type 0 where
@@ -22,60 +22,60 @@ pub record TwoSifted (skip : ℕ → Bool) (y : ℕ → ℕ) (gs kept₀ prints�
   pub words : Sifted skip y gs prints₀ prints size i
 
 pub two_none : (skip : ℕ → Bool) (y : ℕ → ℕ) (gs kept prints : List ℕ) → TwoSifted skip y gs kept prints kept prints 0 0
-two_none skip y gs kept prints = record { gates = sifted-none skip (λ g. g) gs kept; words = sifted-none skip y gs prints }
+two_none skip y gs kept prints = record { gates = sifted_none skip (λ g. g) gs kept; words = sifted_none skip y gs prints }
 
 module _ {skip : ℕ → Bool} {y : ℕ → ℕ} {m : ℕ} {kept₀ prints₀ kept prints : List ℕ} {size i : ℕ} (room : Room105 m kept₀ prints₀)
     (w : TwoSifted skip y (take m kept₀) kept₀ prints₀ kept prints size i) where
-  pub source-long : length (take m kept₀) ≡ m
-  source-long = length-take-le m kept₀ (omega (arith, room.few, room.long-gates))
+  pub source_long : length (take m kept₀) ≡ m
+  source_long = length-take-le m kept₀ (omega (arith, room.few, room.long_gates))
 
   -- the gates that are still to be read are the array's
-  pub source-at : (j : ℕ) → i ≤ j → j < m → get_or kept j 0 ≡ get_or (take m kept₀) j 0
-  source-at j l r = w.gates.after j l ∙ sym (get_or-take m kept₀ j 0 r)
+  pub source_at : (j : ℕ) → i ≤ j → j < m → get_or kept j 0 ≡ get_or (take m kept₀) j 0
+  source_at j l r = w.gates.after j l ∙ sym (get_or-take m kept₀ j 0 r)
 
-  pub two-room : i < m → (size < length kept) × (size < length prints) × (length kept ≡ 105)
-  two-room l = (
-    omega (arith, w.gates.few, w.gates.long, room.few, room.long-gates),
-    omega (arith, w.words.few, w.words.long, room.few, room.long-prints),
-    w.gates.long ∙ room.long-gates,
+  pub two_room : i < m → (size < length kept) × (size < length prints) × (length kept ≡ 105)
+  two_room l = (
+    omega (arith, w.gates.few, w.gates.long, room.few, room.long_gates),
+    omega (arith, w.words.few, w.words.long, room.few, room.long_prints),
+    w.gates.long ∙ room.long_gates,
   )
 
-  pub two-all : m ≤ i → i ≤ m → LeftOf skip y (take m kept₀) kept prints size
-  two-all l r = record {
-    gates-are = sifted-all w.gates (omega (arith, source-long)) ∙ map_same _;
-    prints-are = sifted-all w.words (omega (arith, source-long));
-    few = omega (arith, w.gates.few, source-long);
-    long-gates = w.gates.long ∙ room.long-gates;
-    long-prints = w.words.long ∙ room.long-prints;
+  pub two_all : m ≤ i → i ≤ m → LeftOf skip y (take m kept₀) kept prints size
+  two_all l r = record {
+    gates_are = sifted_all w.gates (omega (arith, source_long)) ∙ map_same _;
+    prints_are = sifted_all w.words (omega (arith, source_long));
+    few = omega (arith, w.gates.few, source_long);
+    long_gates = w.gates.long ∙ room.long_gates;
+    long_prints = w.words.long ∙ room.long_prints;
   }
 
 -- ---- the loop that keeps the gates whose steps fit: one candidate more
 
 module _ (n : ℕ) (x : Exact) {m : ℕ} {kept₀ prints₀ kept prints : List ℕ} {size i : ℕ} (room : Room105 m kept₀ prints₀)
-    (w : TwoSifted (unfit n x) (candidatePrint n x) (take m kept₀) kept₀ prints₀ kept prints size i) (l : i < m) where
+    (w : TwoSifted (unfit n x) (candidate_print n x) (take m kept₀) kept₀ prints₀ kept prints size i) (l : i < m) where
   abbrev gs : List ℕ
   gs = take m kept₀
 
   in_source : i < length gs
-  in_source = omega (arith, source-long room w)
+  in_source = omega (arith, source_long room w)
 
   put : {g : ℕ} {p : List ℤ} (r : Candidate) → g ≡ get_or gs i 0 → FormedAs n g x p r
-      → TwoSifted (unfit n x) (candidatePrint n x) gs kept₀ prints₀ (placedGate r g kept size) (placedPrint r prints size) (placedCount r size) (i + 1)
+      → TwoSifted (unfit n x) (candidate_print n x) gs kept₀ prints₀ (placed_gate r g kept size) (placed_print r prints size) (placed_count r size) (i + 1)
   put {g} (Print v k) q f =
-      let a = print-given n g x f.print in
+      let a = print_given n g x f.print in
       let e = ap (unfit n x) (sym q) ∙ ap not a.0 in record {
-        gates = sifted-in w.gates in_source q e (omega (arith, w.gates.few, room.few, room.long-gates));
-        words = sifted-in w.words in_source (a.1 ∙ ap (candidatePrint n x) q) e (omega (arith, w.words.few, room.few, room.long-prints));
+        gates = sifted_in w.gates in_source q e (omega (arith, w.gates.few, room.few, room.long_gates));
+        words = sifted_in w.words in_source (a.1 ∙ ap (candidate_print n x) q) e (omega (arith, w.words.few, room.few, room.long_prints));
       }
   put {g} DoesNotFit q f =
-      let e = ap (unfit n x) (sym q) ∙ ap not (print-refused n g x f.print) in
-      record { gates = sifted-skip w.gates in_source e; words = sifted-skip w.words in_source e }
+      let e = ap (unfit n x) (sym q) ∙ ap not (print_refused n g x f.print) in
+      record { gates = sifted_skip w.gates in_source e; words = sifted_skip w.words in_source e }
 
   -- by what the code returned and left
-  pub two-put : {g next : ℕ} {p : List ℤ} {kept' prints' : List ℕ} (r : Candidate) → g ≡ get_or gs i 0 → FormedAs n g x p r → next ≡ placedCount r size
-      → kept' ≡ placedGate r g kept size → prints' ≡ placedPrint r prints size
-      → TwoSifted (unfit n x) (candidatePrint n x) gs kept₀ prints₀ kept' prints' next (i + 1)
-  two-put {g} {next} {p} {kept'} {prints'} r q f a b c =
-      subst (λ (z : ℕ). TwoSifted (unfit n x) (candidatePrint n x) gs kept₀ prints₀ kept' prints' z (i + 1)) (sym a)
-      (subst (λ (z : List ℕ). TwoSifted (unfit n x) (candidatePrint n x) gs kept₀ prints₀ z prints' (placedCount r size) (i + 1)) (sym b)
-      (subst (λ (z : List ℕ). TwoSifted (unfit n x) (candidatePrint n x) gs kept₀ prints₀ (placedGate r g kept size) z (placedCount r size) (i + 1)) (sym c) (put r q f)))
+  pub two_put : {g next : ℕ} {p : List ℤ} {kept' prints' : List ℕ} (r : Candidate) → g ≡ get_or gs i 0 → FormedAs n g x p r → next ≡ placed_count r size
+      → kept' ≡ placed_gate r g kept size → prints' ≡ placed_print r prints size
+      → TwoSifted (unfit n x) (candidate_print n x) gs kept₀ prints₀ kept' prints' next (i + 1)
+  two_put {g} {next} {p} {kept'} {prints'} r q f a b c =
+      subst (λ (z : ℕ). TwoSifted (unfit n x) (candidate_print n x) gs kept₀ prints₀ kept' prints' z (i + 1)) (sym a)
+      (subst (λ (z : List ℕ). TwoSifted (unfit n x) (candidate_print n x) gs kept₀ prints₀ z prints' (placed_count r size) (i + 1)) (sym b)
+      (subst (λ (z : List ℕ). TwoSifted (unfit n x) (candidate_print n x) gs kept₀ prints₀ (placed_gate r g kept size) z (placed_count r size) (i + 1)) (sym c) (put r q f)))

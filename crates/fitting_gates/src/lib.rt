@@ -1,11 +1,13 @@
 // Of some gates after a matrix those whose step fits, with the fingerprints of the candidates, worked two by two. What
 // does not fit is left out here, before any candidate is looked up: whether a step fits depends on the node's matrix
 // and the gate alone, not on the nodes that a width has.
+#![tactic(auto)]
+
 ghost use Rattle.std.specs.Prelude.{◌≡◌, ◌≤◌, ◌<◌, length, take};
 ghost use Rattle.exact.specs.Places.{held};
 ghost use Rattle.places.specs.Places.{places};
 ghost use Rattle.places.specs.Held.{Ready};
-ghost use Rattle.fitting_gates.specs.Fitting.{unfit, candidatePrint, LeftOf, ValidTo, Room105, placedGate, placedPrint, placedCount};
+ghost use Rattle.fitting_gates.specs.Fitting.{unfit, candidate_print, LeftOf, ValidTo, Room105, placed_gate, placed_print, placed_count};
 
 use cyclotomic::Coefficient;
 use node_matrix::Candidate;
@@ -20,9 +22,9 @@ fn put_formed(
     prints: &mut [u64; 105],
 ) -> usize
     requires room { (place < length kept.old) × (place < length prints.old) × (length kept.old ≡ 105) }
-    ensures next { result ≡ placedCount formed place }
-    ensures gates { kept.new ≡ placedGate formed gate kept.old place }
-    ensures prints { prints.new ≡ placedPrint formed prints.old place }
+    ensures next { result ≡ placed_count formed place }
+    ensures gates { kept.new ≡ placed_gate formed gate kept.old place }
+    ensures prints { prints.new ≡ placed_print formed prints.old place }
 {
     let Candidate::Print(print, _) = formed else {
         return place;
@@ -51,7 +53,7 @@ pub fn fitting(
     requires room { Room105 size kept.old prints.old }
     requires valid { ValidTo n kept.old size }
     requires long { (length left.old ≡ places) × (length right.old ≡ places) }
-    ensures fitting { LeftOf (unfit n (held n exponent m.now)) (candidatePrint n (held n exponent m.now))
+    ensures fitting { LeftOf (unfit n (held n exponent m.now)) (candidate_print n (held n exponent m.now))
         (take size kept.old) kept.new prints.new result }
     ensures long { (length left.new ≡ places) × (length right.new ≡ places) }
 {

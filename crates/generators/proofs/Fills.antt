@@ -7,7 +7,7 @@ use native.Mathlib.Omega.{arith}
 use lib.ListN.{length, length-append}
 use lib.Seq.{sets}
 use Rattle.ints.specs.Lists.{range, each}
-use Rattle.ints.proofs.Runs.{each_none, each_more, each-prefix-length, sets-append}
+use Rattle.ints.proofs.Runs.{each_none, each_more, each_prefix_length, sets-append}
 
 -- of the old places those from start on hold what f gives for the first i numbers, and at is the place after them
 pub record Filled (f : ℕ → List ℕ) (old : List ℕ) (start i at : ℕ) (new : List ℕ) : Type 0 where
@@ -24,8 +24,8 @@ filled_more h p q = record {
 }
 
 -- what the next number gives has room, if all have
-pub filled-room : {f : ℕ → List ℕ} {old : List ℕ} {start i at : ℕ} {new : List ℕ} (n m : ℕ) → Filled f old start i at new → i < n → start + length (each (range 0 n) f) ≤ m → at + length (f i) ≤ m
-filled-room {f} {i = i} n m h l r = omega (arith, h.next, each-prefix-length i n f l)
+pub filled_room : {f : ℕ → List ℕ} {old : List ℕ} {start i at : ℕ} {new : List ℕ} (n m : ℕ) → Filled f old start i at new → i < n → start + length (each (range 0 n) f) ≤ m → at + length (f i) ≤ m
+filled_room {f} {i = i} n m h l r = omega (arith, h.next, each_prefix_length i n f l)
 
-pub filled-end : {f : ℕ → List ℕ} {old : List ℕ} {start i at : ℕ} {new : List ℕ} (n : ℕ) → Filled f old start i at new → i ≡ n → Filled f old start n at new
-filled-end n h e = rw e at h
+pub filled_end : {f : ℕ → List ℕ} {old : List ℕ} {start i at : ℕ} {new : List ℕ} (n : ℕ) → Filled f old start i at new → i ≡ n → Filled f old start n at new
+filled_end n h e = rw e at h

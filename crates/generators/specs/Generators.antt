@@ -2,7 +2,7 @@
 use Rattle.std.specs.Prelude.{◌≡◌, true, ℕ}
 use mathlib.Core.List.{List, [], ◌∷◌, Memᴰ}
 use Rattle.ints.specs.Lists.{pick, range, each, Rising}
-use Rattle.circuit.specs.Codes.{code_of, validFor}
+use Rattle.circuit.specs.Codes.{code_of, valid_for}
 
 -- the most generators at a width up to 5
 abbrev pub most : ℕ
@@ -14,7 +14,7 @@ tried = 12
 
 -- the code, if it is one of the basis at the width
 unfoldable pub kept : ℕ → ℕ → ℕ → List ℕ
-kept n basis g = pick (validFor n basis g) (g ∷ []) []
+kept n basis g = pick (valid_for n basis g) (g ∷ []) []
 
 -- the loops, the innermost first: over the third operand, the second, the first
 abbrev pub thirds : ℕ → ℕ → ℕ → ℕ → ℕ → List ℕ
@@ -33,5 +33,5 @@ generators n basis = each (range 0 tried) (λ k. firsts n basis k)
 -- the codes are those that are valid at the width and of a kind in the basis, each once, in rising order
 pub record Lists (n basis : ℕ) (codes : List ℕ) : Type 0 where
   pub rising : Rising codes
-  pub sound : (g : ℕ) → Memᴰ g codes → validFor n basis g ≡ true
-  pub complete : (g : ℕ) → validFor n basis g ≡ true → Memᴰ g codes
+  pub sound : (g : ℕ) → Memᴰ g codes → valid_for n basis g ≡ true
+  pub complete : (g : ℕ) → valid_for n basis g ≡ true → Memᴰ g codes

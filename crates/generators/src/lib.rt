@@ -1,6 +1,8 @@
 // The generators of a basis at a width, in order. murm.rs of the original, `library_gates`. Its nested loops run over
 // kinds and operands; here each loop is a function, so that each has one invariant (`Filled`), and a code is kept where
 // it is valid.
+#![tactic(auto)]
+
 ghost use Rattle.std.specs.Prelude.{◌≡◌, ◌+◌, ◌<◌, ◌≤◌, length};
 ghost use Rattle.std.proofs.lemmas.List.Edits.{sets};
 ghost use Rattle.circuit.specs.Codes.{code_of};

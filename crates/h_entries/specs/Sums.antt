@@ -27,7 +27,7 @@ pub record SizesFit (l : List ℤ) (p q c : ℕ) : Type 0 where
 -- what comes of c entries from e on and c entries from f on is within the limit
 pub record SumsFit (active : Bool) (l : List ℤ) (e f c : ℕ) : Type 0 where
   pub sum_fits : (k : ℕ) → k < c → Small (low_of active (entry l (e + k)) (entry l (f + k)))
-  pub difference-fits : (k : ℕ) → k < c → Small (high_of active (entry l (e + k)) (entry l (f + k)))
+  pub difference_fits : (k : ℕ) → k < c → Small (high_of active (entry l (e + k)) (entry l (f + k)))
 
 -- a test that says whether P holds
 pub record Tells (P : Type 0) (ok : Bool) : Type 0 where

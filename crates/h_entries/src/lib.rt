@@ -1,6 +1,8 @@
 // What H and Ch do to two runs of entries: the tests whether sums, differences and products by sqrt(2) fit, and the
 // sums, differences and products themselves. By entries and places alone, below the rows and their bits, so that an
 // edit of the arithmetic is refused in seconds.
+#![tactic(auto)]
+
 ghost use Rattle.std.specs.Prelude.{◌≡◌, true, false, ◌+◌, ◌≤◌, length};
 ghost use Rattle.places.specs.Places.{places};
 ghost use Rattle.h_entries.specs.Sums.{Summed, SizesFit, SumsFit, Tells};

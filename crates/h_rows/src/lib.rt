@@ -1,12 +1,14 @@
 // H and Ch in place, `apply_h_left` and `apply_controlled_h_left` in matrix.rs of the original. H is the case with no
 // control, by the same laws; it has loops of its own, since a shared function was slower for it (docs/SPEED.md). A
 // first pass only tests whether every result fits, so that a refusal leaves the places as they were.
+#![tactic(auto)]
+
 ghost use Rattle.std.specs.Prelude.{◌≡◌, ◌^◌, ◌<◌, ◌≤◌, length};
 ghost use Rattle.std.specs.Int.Bits.{bit_and};
 ghost use Rattle.exact.proofs.Words.{AllSmall};
 ghost use Rattle.exact.specs.Places.{read};
 ghost use Rattle.places.specs.Places.{places, Same, Kept};
-ghost use Rattle.rows.specs.Rows.{hRows};
+ghost use Rattle.rows.specs.Rows.{h_rows};
 ghost use Rattle.h_entries.specs.Sums.{Tells};
 ghost use Rattle.h_rows.specs.Work.{PairFits, PairSummed, HDone};
 
@@ -28,7 +30,7 @@ fn pair_fits(m: &[Coefficient; 4096], n: usize, r: usize, bit: usize) -> bool
 // Whether every sum and every difference of rows that differ in bit t is within the limit.
 fn h_fits(m: &[Coefficient; 4096], n: usize, t: usize) -> bool
     requires { (n ≤ 5) × (t < n) }
-    ensures { Tells (AllSmall n (hRows 0 (2 ^ t) (read n m.now))) result }
+    ensures { Tells (AllSmall n (h_rows 0 (2 ^ t) (read n m.now))) result }
 {
     let d = places::dim(n);
     let bit = places::mask(t);
@@ -70,7 +72,7 @@ fn controlled_h_fits(m: &[Coefficient; 4096], n: usize, control: usize, t: usize
     requires m_len { length m.now ≡ places }
     requires n_bound { (n ≤ 5) × (t < n) }
     requires t_value { bit_and control (2 ^ t) ≡ 0 }
-    ensures { Tells (AllSmall n (hRows control (2 ^ t) (read n m.now))) result }
+    ensures { Tells (AllSmall n (h_rows control (2 ^ t) (read n m.now))) result }
 {
     let d = places::dim(n);
     let bit = places::mask(t);
@@ -103,9 +105,9 @@ fn sum_row_pair(m: &mut [Coefficient; 4096], n: usize, r: usize, bit: usize)
 fn h_rows(m: &mut [Coefficient; 4096], n: usize, t: usize)
     requires m_len { length m.old ≡ places }
     requires n_bound { (n ≤ 5) × (t < n) }
-    requires all_small { AllSmall n (hRows 0 (2 ^ t) (read n m.old)) }
+    requires all_small { AllSmall n (h_rows 0 (2 ^ t) (read n m.old)) }
     ensures sized { length m.new ≡ places }
-    ensures summed { Same n (read n m.new) (hRows 0 (2 ^ t) (read n m.old)) }
+    ensures summed { Same n (read n m.new) (h_rows 0 (2 ^ t) (read n m.old)) }
     ensures kept { Kept n m.old m.new }
 {
     let d = places::dim(n);
@@ -121,7 +123,7 @@ fn h_rows(m: &mut [Coefficient; 4096], n: usize, t: usize)
 pub fn apply_h_left(m: &mut [Coefficient; 4096], n: usize, t: usize) -> bool
     requires m_len { length m.old ≡ places }
     requires n_bound { (n ≤ 5) × (t < n) }
-    ensures { HDone n (hRows 0 (2 ^ t) (read n m.old)) m.old m.new result }
+    ensures { HDone n (h_rows 0 (2 ^ t) (read n m.old)) m.old m.new result }
 {
     if !h_fits(m, n, t) {
         return false;
@@ -155,9 +157,9 @@ fn controlled_h_rows(m: &mut [Coefficient; 4096], n: usize, control: usize, t: u
     requires m_len { length m.old ≡ places }
     requires n_bound { (n ≤ 5) × (t < n) }
     requires t_value { bit_and control (2 ^ t) ≡ 0 }
-    requires all_small { AllSmall n (hRows control (2 ^ t) (read n m.old)) }
+    requires all_small { AllSmall n (h_rows control (2 ^ t) (read n m.old)) }
     ensures sized { length m.new ≡ places }
-    ensures summed { Same n (read n m.new) (hRows control (2 ^ t) (read n m.old)) }
+    ensures summed { Same n (read n m.new) (h_rows control (2 ^ t) (read n m.old)) }
     ensures kept { Kept n m.old m.new }
 {
     let d = places::dim(n);
@@ -180,7 +182,7 @@ pub fn apply_controlled_h_left(
     requires m_len { length m.old ≡ places }
     requires n_bound { (n ≤ 5) × (t < n) }
     requires t_value { bit_and control (2 ^ t) ≡ 0 }
-    ensures { HDone n (hRows control (2 ^ t) (read n m.old)) m.old m.new result }
+    ensures { HDone n (h_rows control (2 ^ t) (read n m.old)) m.old m.new result }
 {
     if !controlled_h_fits(m, n, control, t) {
         return false;

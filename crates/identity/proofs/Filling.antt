@@ -10,14 +10,14 @@ use lib.IntN.{ℤ, pos}
 use lib.ListN.{length, get_or, set, replicate, length-set}
 use lib.Seq.{get_or-set_same, get_or-set_other}
 use Rattle.cyclotomic.specs.Zomega.{Zω, Small, zeroω, oneω}
-use Rattle.cyclotomic.proofs.Squares.{small-zero, small_one}
+use Rattle.cyclotomic.proofs.Squares.{small_zero, small_one}
 use Rattle.cyclotomic.proofs.Each.{each}
 use Rattle.exact.specs.Matrix.{identity}
 use Rattle.exact.proofs.Values.{pick_ind}
 use Rattle.exact.specs.Places.{entry, read}
 use Rattle.places.specs.Places.{places, put, Kept, Blank}
-use Rattle.places.proofs.Placed.{entry-put-same, entry-put-other, length-put, place-fits, rows_apart, kept_refl, kept_trans, kept_put}
-use Rattle.exact.proofs.Phases.{flat-lt}
+use Rattle.places.proofs.Placed.{entry_put_same, entry_put_other, length_put, place_fits, rows_apart, kept_refl, kept_trans, kept_put}
+use Rattle.exact.proofs.Phases.{flat_lt}
 use Rattle.places.specs.Held.{Holds, AllZero}
 
 -- ---- 0 at a matrix's places
@@ -29,22 +29,22 @@ pub record Clearing (l l' : List ℤ) (i : ℕ) : Type 0 where
   pub ahead : (j : ℕ) → i ≤ j → get_or l' j (pos 0) ≡ get_or l j (pos 0)
 
 module _ {l : List ℤ} where
-  pub clearing-none : length l ≡ places → Clearing l l 0
-  clearing-none e = record { long = e; done = λ j h. absurd (omega arith); ahead = λ j h. refl }
+  pub clearing_none : length l ≡ places → Clearing l l 0
+  clearing_none e = record { long = e; done = λ j h. absurd (omega arith); ahead = λ j h. refl }
 
-  pub clearing-more : {l' : List ℤ} (i : ℕ) → Clearing l l' i → i < places → Clearing l (set l' i (pos 0)) (i + 1)
-  clearing-more {l'} i w h = record {
+  pub clearing_more : {l' : List ℤ} (i : ℕ) → Clearing l l' i → i < places → Clearing l (set l' i (pos 0)) (i + 1)
+  clearing_more {l'} i w h = record {
     long = length-set l' i (pos 0) ∙ w.long;
     done = below_more (λ j. get_or (set l' i (pos 0)) j (pos 0) ≡ pos 0) i
         (λ j g. get_or-set_other l' i j (pos 0) (pos 0) (λ e. omega arith) ∙ w.done j g) (get_or-set_same l' i (pos 0) (pos 0) (omega (arith, w.long)));
     ahead = λ j g. get_or-set_other l' i j (pos 0) (pos 0) (λ e. omega arith) ∙ w.ahead j (omega arith);
   }
 
-  pub cleared-zero : (n : ℕ) {l' : List ℤ} (i : ℕ) → Clearing l l' i → 4 * (2 ^ n * 2 ^ n) ≤ i → AllZero n l'
-  cleared-zero n i w h = record { long = w.long; zero = λ j g. w.done j (omega arith) }
+  pub cleared_zero : (n : ℕ) {l' : List ℤ} (i : ℕ) → Clearing l l' i → 4 * (2 ^ n * 2 ^ n) ≤ i → AllZero n l'
+  cleared_zero n i w h = record { long = w.long; zero = λ j g. w.done j (omega arith) }
 
-  pub cleared-kept : (n : ℕ) {l' : List ℤ} (i : ℕ) → Clearing l l' i → i ≤ 4 * (2 ^ n * 2 ^ n) → Kept n l l'
-  cleared-kept n i w h = record { past = λ j g. w.ahead j (omega arith) }
+  pub cleared_kept : (n : ℕ) {l' : List ℤ} (i : ℕ) → Clearing l l' i → i ≤ 4 * (2 ^ n * 2 ^ n) → Kept n l l'
+  cleared_kept n i w h = record { past = λ j g. w.ahead j (omega arith) }
 
 -- ---- 1 on the diagonal
 
@@ -56,29 +56,29 @@ pub record PlacesFilled (n : ℕ) (l l' : List ℤ) (i : ℕ) : Type 0 where
   pub kept : Kept n l l'
 
 -- what is 0 everywhere, read anywhere
-none-at : (m j : ℕ) → get_or (replicate m (pos 0)) j (pos 0) ≡ pos 0
-none-at zero j = refl
-none-at (suc m) zero = refl
-none-at (suc m) (suc j) = none-at m j
+none_at : (m j : ℕ) → get_or (replicate m (pos 0)) j (pos 0) ≡ pos 0
+none_at zero j = refl
+none_at (suc m) zero = refl
+none_at (suc m) (suc j) = none_at m j
 
 -- places that are all 0
-pub zero-all : (n : ℕ) {l : List ℤ} → l ≡ replicate places (pos 0) → AllZero n l
-zero-all n e = record { long = rw e refl; zero = λ j g. rw e (none-at 4096 j) }
+pub zero_all : (n : ℕ) {l : List ℤ} → l ≡ replicate places (pos 0) → AllZero n l
+zero_all n e = record { long = rw e refl; zero = λ j g. rw e (none_at 4096 j) }
 
-pub blank-all : (n : ℕ) {l l' : List ℤ} → l ≡ replicate places (pos 0) → Kept n l l' → Blank n l'
-blank-all n e w = record { past = λ j h. w.past j h ∙ rw e (none-at 4096 j) }
+pub blank_all : (n : ℕ) {l l' : List ℤ} → l ≡ replicate places (pos 0) → Kept n l l' → Blank n l'
+blank_all n e w = record { past = λ j h. w.past j h ∙ rw e (none_at 4096 j) }
 
 module _ (n : ℕ) where
-  zero-entry : {l : List ℤ} → AllZero n l → (e : ℕ) → e < 2 ^ n * 2 ^ n → entry l e ≡ zeroω
+  zero_entry : {l : List ℤ} → AllZero n l → (e : ℕ) → e < 2 ^ n * 2 ^ n → entry l e ≡ zeroω
   unfolding entry zeroω
-  zero-entry w e h =
+  zero_entry w e h =
       each (w.zero (4 * e) (omega arith)) (w.zero (4 * e + 1) (omega arith)) (w.zero (4 * e + 2) (omega arith)) (w.zero (4 * e + 3) (omega arith))
 
   pub filled_none : {l : List ℤ} → AllZero n l → PlacesFilled n l l 0
   filled_none {l} w = record {
     long = w.long;
     done = λ r b. absurd (omega arith);
-    ahead = λ r b h c q. zero-entry w (r * 2 ^ n + c) (flat-lt n r c h q);
+    ahead = λ r b h c q. zero_entry w (r * 2 ^ n + c) (flat_lt n r c h q);
     kept = kept_refl n l;
   }
 
@@ -86,31 +86,31 @@ module _ (n : ℕ) where
   pub filled_more : {l0 l l' : List ℤ} {z : Zω} (i : ℕ) {e : ℕ} → n ≤ 5 → PlacesFilled n l0 l i → i < 2 ^ n → l' ≡ put l e z → z ≡ oneω → e ≡ i * 2 ^ n + i
       → PlacesFilled n l0 l' (i + 1)
   filled_more {l0} {l} {l'} {z} i {e} b w h q t p = record {
-    long = ap length q ∙ length-put l e z ∙ w.long;
+    long = ap length q ∙ length_put l e z ∙ w.long;
     done = below_more (λ r. (c : ℕ) → c < 2 ^ n → read n l' r c ≡ identity.e r c) i
         (λ r g c k. other r c k (λ s. omega arith) ∙ w.done r g c k) next;
     ahead = λ r g f c k. other r c k (λ s. omega arith) ∙ w.ahead r (omega arith) f c k;
-    kept = kept_trans n w.kept (rw q (kept_put n l e z (omega (arith, p, flat-lt n i i h h))));
+    kept = kept_trans n w.kept (rw q (kept_put n l e z (omega (arith, p, flat_lt n i i h h))));
   }
     where
       other : (r c : ℕ) → c < 2 ^ n → (r ≡ i → ⊥) → read n l' r c ≡ read n l r c
-      other r c k u = rw q (entry-put-other l e z (r * 2 ^ n + c) (λ s. u (rows_apart n i r c i k h (s ∙ p))))
+      other r c k u = rw q (entry_put_other l e z (r * 2 ^ n + c) (λ s. u (rows_apart n i r c i k h (s ∙ p))))
 
       next : (c : ℕ) → c < 2 ^ n → read n l' i c ≡ identity.e i c
       next c k =
           pick_ind (λ (x : Zω). read n l' i c ≡ x) (eqb i c)
           (λ s. let same : i * 2 ^ n + c ≡ e = omega (arith, eqb-true i c s) in
-          rw (q, same) (entry-put-same l e z (omega (arith, w.long, place-fits n i i b h h)) ∙ t))
-          (λ s. rw q (entry-put-other l e z (i * 2 ^ n + c) (λ v. eqb-false i c s (omega arith))) ∙ w.ahead i (omega arith) h c k)
+          rw (q, same) (entry_put_same l e z (omega (arith, w.long, place_fits n i i b h h)) ∙ t))
+          (λ s. rw q (entry_put_other l e z (i * 2 ^ n + c) (λ v. eqb-false i c s (omega arith))) ∙ w.ahead i (omega arith) h c k)
 
-  identity-small : (r c : ℕ) → Small (identity.e r c)
-  identity-small r c = pick_ind Small (eqb r c) (λ h. small_one) (λ h. small-zero)
+  identity_small : (r c : ℕ) → Small (identity.e r c)
+  identity_small r c = pick_ind Small (eqb r c) (λ h. small_one) (λ h. small_zero)
 
-  pub filled-end : {l0 l : List ℤ} (i : ℕ) → PlacesFilled n l0 l i → 2 ^ n ≤ i → Holds n 0 l identity
-  filled-end {l0} {l} i w h = record {
+  pub filled_end : {l0 l : List ℤ} (i : ℕ) → PlacesFilled n l0 l i → 2 ^ n ≤ i → Holds n 0 l identity
+  filled_end {l0} {l} i w h = record {
     long = w.long;
     equal = record { exponent = refl; entries = known };
-    small = record { small = λ r c p q. subst Small (sym (known r c p q)) (identity-small r c) };
+    small = record { small = λ r c p q. subst Small (sym (known r c p q)) (identity_small r c) };
   }
     where
       known : (r c : ℕ) → r < 2 ^ n → c < 2 ^ n → read n l r c ≡ identity.e r c

@@ -1,6 +1,8 @@
 // The identity of width n in 4,096 signed places, `identity` in matrix.rs of the original: in places that are all 0, in
 // places that a caller lends whatever they hold, or in places of its own. Every list starts from it, and where the
 // places are lent only the matrix's are set.
+#![tactic(auto)]
+
 ghost use Rattle.std.specs.Prelude.{◌≡◌, ◌≤◌, pos, length, replicate};
 ghost use Rattle.exact.specs.Matrix.{identity};
 ghost use Rattle.places.specs.Places.{places, Kept, Blank};

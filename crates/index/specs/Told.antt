@@ -3,6 +3,6 @@ use Rattle.walk.specs.Index.{By, scan, indexed}
 use Rattle.index.specs.declared.LookupBy.{LookupBy}
 use Rattle.index.specs.declared.LookupBy.TheVariants as b
 
-abbrev pub toldBy : LookupBy → By
-toldBy b.Scan = scan
-toldBy b.Index = indexed
+abbrev pub told_by : LookupBy → By
+told_by b.Scan = scan
+told_by b.Index = indexed

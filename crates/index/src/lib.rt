@@ -1,11 +1,13 @@
 // One width's part of an index, in lent 32-bit places: a node with a fingerprint is found in a few steps, where the
 // original has a hash map (synthesis_arena.rs, `WidthTable`). Whatever the places hold is decided: a probe takes no
 // more steps than the part has places, and what it leads to has the fingerprint (SPECIFICATION 7.13 to 7.15).
+#![tactic(auto)]
+
 ghost use Rattle.std.specs.Prelude.{◌≡◌, ◌+◌, ◌%◌, ◌<◌, ◌≤◌, length, replicate, []};
 ghost use Rattle.circuit.specs.Codes.{mark};
-ghost use Rattle.synthesis_arena.specs.Lookup.{toldFound};
-ghost use Rattle.walk.specs.Index.{place_of, leads, probed, inserted, filled, lookedUp, keptUp, kept};
-ghost use Rattle.index.specs.Told.{toldBy};
+ghost use Rattle.synthesis_arena.specs.Lookup.{told_found};
+ghost use Rattle.walk.specs.Index.{place_of, leads, probed, inserted, filled, looked_up, kept_up, kept};
+ghost use Rattle.index.specs.Told.{told_by};
 
 use synthesis_arena::{Found, MARK};
 
@@ -57,7 +59,7 @@ pub fn probe(
     fingerprint: u64,
 ) -> Found
     requires within { count ≤ length fingerprints.now }
-    ensures probed { toldFound result ≡ probed index.now fingerprints.now count from fingerprint }
+    ensures probed { told_found result ≡ probed index.now fingerprints.now count from fingerprint }
 {
     let size = index.len();
     if size == 0 {
@@ -140,7 +142,7 @@ pub fn look_up(
     fingerprint: u64,
 ) -> Found
     requires within { count ≤ length fingerprints.now }
-    ensures looked_up { toldFound result ≡ lookedUp (toldBy by) index.now fingerprints.now count from fingerprint }
+    ensures looked_up { told_found result ≡ looked_up (told_by by) index.now fingerprints.now count from fingerprint }
 {
     match by {
         LookupBy::Scan => synthesis_arena::node_for(fingerprints, count, from, fingerprint),
@@ -150,7 +152,7 @@ pub fn look_up(
 
 // The part before a table has nodes: cleared; the scan leaves it.
 pub fn start(by: LookupBy, index: &mut [u32])
-    ensures started { index.new ≡ kept (toldBy by) [] 0 index.old }
+    ensures started { index.new ≡ kept (told_by by) [] 0 index.old }
 {
     match by {
         LookupBy::Scan => {}
@@ -160,7 +162,7 @@ pub fn start(by: LookupBy, index: &mut [u32])
 
 // The part once a table has one node more; the scan leaves it.
 pub fn keep_up(by: LookupBy, index: &mut [u32], fingerprint: u64, node: u32)
-    ensures kept_up { index.new ≡ keptUp (toldBy by) index.old fingerprint node }
+    ensures kept_up { index.new ≡ kept_up (told_by by) index.old fingerprint node }
 {
     match by {
         LookupBy::Scan => {}

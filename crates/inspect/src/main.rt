@@ -32,6 +32,8 @@
 // line's first word read (inspect_words) and hands the rest on: a further group is a case of `First`, proved by itself.
 // All arrays stand on the stack, of which it needs 4,780 kB (it ran with `ulimit -s 4780`, and not with 4770). Systems
 // usually give 8,192, and what is left is for the arrays of further words.
+#![tactic(auto)]
+
 ghost use Rattle.std.specs.Prelude.{◌≤◌, length};
 
 use circuits_text::NEWLINE;

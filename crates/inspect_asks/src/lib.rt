@@ -1,6 +1,8 @@
 // The words `matrix`, `find` and `write` of `inspect`: what the table at hand tells. A line is read by inspect_read,
 // and what the table told is handed on as one value: so no function has both the arrays of the table and the output but
 // the last.
+#![tactic(auto)]
+
 ghost use Rattle.std.specs.Prelude.{◌+◌, ◌≤◌, length};
 
 use circuits_text::{NEWLINE, SPACE};

@@ -1,6 +1,8 @@
 // The words `index`, `scan`, `places` and `fill` of `inspect`: which look-up is used, and what the index holds. An
 // index of more places than the program has is refused by 14 where it would be filled or printed, and not where it is
 // chosen: a smaller table may follow.
+#![tactic(auto)]
+
 ghost use Rattle.std.specs.Prelude.{◌+◌, ◌≤◌, length};
 
 use circuits_text::{NEWLINE, SPACE, Word};

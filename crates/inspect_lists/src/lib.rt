@@ -1,5 +1,7 @@
 // The word `list` of `inspect`: the matrix and the fingerprint of a list, or its refusal. The line is read before
 // anything is put, so that its many ways out are short to prove.
+#![tactic(auto)]
+
 ghost use Rattle.std.specs.Prelude.{◌+◌, ◌*◌, ◌≤◌, length};
 
 use circuits_input::Question;

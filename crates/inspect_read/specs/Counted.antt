@@ -8,14 +8,14 @@ use Rattle.inspect_read.specs.declared.Asked.TheVariants as a
 use Rattle.inspect_read.specs.declared.Wanted.{Wanted}
 use Rattle.inspect_read.specs.declared.Wanted.TheVariants as w
 
-abbrev pub readCount : Line → ℕ
-readCount (l.Numbers n) = n
-readCount l.Broken = 0
+abbrev pub read_count : Line → ℕ
+read_count (l.Numbers n) = n
+read_count l.Broken = 0
 
-abbrev pub askedCount : Asked → ℕ
-askedCount (a.Matrix width k n) = n
-askedCount a.Broken = 0
+abbrev pub asked_count : Asked → ℕ
+asked_count (a.Matrix width k n) = n
+asked_count a.Broken = 0
 
-abbrev pub wantedPlaces : Wanted → ℕ
-wantedPlaces (w.Node width node places) = places
-wantedPlaces w.Broken = 0
+abbrev pub wanted_places : Wanted → ℕ
+wanted_places (w.Node width node places) = places
+wanted_places w.Broken = 0

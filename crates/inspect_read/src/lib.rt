@@ -1,7 +1,9 @@
 // What a line of `inspect` says of a matrix or a node. A function that reads a line has neither the output nor the
 // arrays of a table, so that its many ways out are short to prove; and any word that takes a matrix can read it here.
+#![tactic(auto)]
+
 ghost use Rattle.std.specs.Prelude.{◌≤◌, length};
-ghost use Rattle.inspect_read.specs.Counted.{readCount, askedCount, wantedPlaces};
+ghost use Rattle.inspect_read.specs.Counted.{read_count, asked_count, wanted_places};
 
 use circuits_text::{Line, SPACE, Word};
 use cyclotomic::Coefficient;
@@ -50,7 +52,7 @@ fn signed(word: &[u8]) -> Scalar {
 // The coefficients of a line from a place on, each after a space, into the first of the lent places.
 fn read_coefficients(line: &[u8], from: usize, coefficients: &mut [Coefficient]) -> Line
     requires { from ≤ length line.now }
-    ensures { readCount result ≤ length coefficients.old }
+    ensures { read_count result ≤ length coefficients.old }
 {
     let mut p = from;
     let mut k = 0;
@@ -95,7 +97,7 @@ pub enum Asked {
 // What follows the word `matrix` or `find` and its space: WIDTH K COEFFICIENTS.., the coefficients into the lent
 // places.
 pub fn read_matrix(rest: &[u8], coefficients: &mut [Coefficient]) -> Asked
-    ensures { askedCount result ≤ length coefficients.old }
+    ensures { asked_count result ≤ length coefficients.old }
 {
     let second = second_end(rest);
     let mut head = [0u32; 2];
@@ -120,7 +122,7 @@ pub enum Wanted {
 
 // What follows the word `write` and its space: WIDTH NODE PLACES.
 pub fn read_node(rest: &[u8]) -> Wanted
-    ensures { wantedPlaces result ≤ 64 }
+    ensures { wanted_places result ≤ 64 }
 {
     let mut numbers = [0u32; 3];
     match circuits_text::numbers(rest, &mut numbers) {

@@ -1,6 +1,8 @@
 // What the words of `inspect` share: room in the output, places for a matrix, where a part of an array ends, and how
 // nodes are looked up. Each group of words stands in a crate of its own over this one, so that a change of a word has
 // only that word's crate and the program proved again.
+#![tactic(auto)]
+
 ghost use Rattle.std.specs.Prelude.{◌≡◌, ◌≤◌, length};
 
 use cyclotomic::Coefficient;

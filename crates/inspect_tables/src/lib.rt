@@ -1,6 +1,8 @@
 // The words `table` and `clashes` of `inspect`: a table is built, and its widths and nodes are printed. That nodes lie
 // within the arrays is tested here, so that no contract of a build is used: what is printed is then what a build left,
 // whatever was proved of it.
+#![tactic(auto)]
+
 ghost use Rattle.std.specs.Prelude.{◌+◌, ◌≤◌, length};
 
 use circuits_input::LineOne;

@@ -1,5 +1,7 @@
 // The word that a line of `inspect` begins with. It is told from the others here, where there are neither tables nor an
 // output: each word is a way out of a function, and these are short to prove.
+#![tactic(auto)]
+
 ghost use Rattle.std.specs.Prelude.{◌≤◌, length};
 
 use circuits_text::SPACE;

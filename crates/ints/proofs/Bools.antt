@@ -43,18 +43,18 @@ iff false true f g = g refl
 iff false false f g = refl
 
 -- a test of every number of a list, at one place
-pub all-at : (f : ℕ → Bool) (l : List ℕ) (i : ℕ) → all f l ≡ true → i < length l → f (get_or l i 0) ≡ true
+pub all_at : (f : ℕ → Bool) (l : List ℕ) (i : ℕ) → all f l ≡ true → i < length l → f (get_or l i 0) ≡ true
 unfolding all
-all-at f [] i h p = absurd (omega arith)
-all-at f (x ∷ l) zero h p = and_left (f x) (all f l) h
-all-at f (x ∷ l) (suc i) h p = all-at f l i (and_right (f x) (all f l) h) (omega arith)
+all_at f [] i h p = absurd (omega arith)
+all_at f (x ∷ l) zero h p = and_left (f x) (all f l) h
+all_at f (x ∷ l) (suc i) h p = all_at f l i (and_right (f x) (all f l) h) (omega arith)
 
 -- a test over the numbers from i on, both ways
-pub all-range : (f : ℕ → Bool) (m i : ℕ) → all f (range i m) ≡ true → (k : ℕ) → i ≤ k → k < i + m → f k ≡ true
+pub all_range : (f : ℕ → Bool) (m i : ℕ) → all f (range i m) ≡ true → (k : ℕ) → i ≤ k → k < i + m → f k ≡ true
 unfolding all range
-all-range f zero i h k p q = absurd (omega arith)
-all-range f (suc m) i h k p q =
-    by (ℕ_discrete k i) (λ l. all-range f m (suc i) (and_right (f i) (all f (range (suc i) m)) h) k l (omega arith))
+all_range f zero i h k p q = absurd (omega arith)
+all_range f (suc m) i h k p q =
+    by (ℕ_discrete k i) (λ l. all_range f m (suc i) (and_right (f i) (all f (range (suc i) m)) h) k l (omega arith))
   where
     by : Dec (k ≡ i) → (suc i ≤ k → f k ≡ true) → f k ≡ true
     by (yes e) u = subst (λ (x : ℕ). f x ≡ true) (sym e) (and_left (f i) (all f (range (suc i) m)) h)

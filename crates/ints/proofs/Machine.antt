@@ -13,16 +13,16 @@ use mir.Syntax.{Width}
 use mir.Val.{SFits, hbits, to_z, of_z}
 use mir.Facts.{to_z-of_z, sfits_widen}
 use lib.Dec.{T, leb}
-use Rattle.ints.proofs.Int.{Ex, up, dn, ups, dns, value, sound, sub_is, same-is}
+use Rattle.ints.proofs.Int.{Ex, up, dn, ups, dns, value, sound, sub_is, same_is}
 
 -- z is at least −H and below H
 pub record Within (H : ℕ) (z : ℤ) : Type 0 where
   pub below : up z < H
   pub above : dn z ≤ H
 
-pub mag-within : (H : ℕ) (z : ℤ) → 0 < H → mag z < H → Within H z
-mag-within H (pos n) q h = record { below = h; above = omega arith }
-mag-within H (negsuc n) q h = record { below = q; above = h }
+pub mag_within : (H : ℕ) (z : ℤ) → 0 < H → mag z < H → Within H z
+mag_within H (pos n) q h = record { below = h; above = omega arith }
+mag_within H (negsuc n) q h = record { below = q; above = h }
 
 -- a range of an expression, by the difference of its naturals
 differs : (H : ℕ) (z : ℤ) (p n : ℕ) → up z + n ≡ p + dn z → p < n + H → n ≤ p + H → mag z < H
@@ -33,7 +33,7 @@ pub fit : (w : Width) (ρ : List ℤ) (e : Ex) → ups ρ e < dns ρ e + 2 ^ hbi
 fit w ρ e h k = record { sfits = differs (2 ^ hbits w) (value ρ e) (ups ρ e) (dns ρ e) (sound ρ e) h k }
 
 pub range : {w : Width} {z : ℤ} → SFits w z → Within (2 ^ hbits w) z
-range {w} {z} f = mag-within (2 ^ hbits w) z (pow_pos (hbits w)) f.sfits
+range {w} {z} f = mag_within (2 ^ hbits w) z (pow_pos (hbits w)) f.sfits
 
 -- a number that was widened, as the machine reads it back
 pub read_wide : (w w' : Width) {z : ℤ} → T (leb (hbits w) (hbits w')) → SFits w z → to_z w' (of_z w' (to_z w (of_z w z))) ≡ z
@@ -53,6 +53,6 @@ abs_neg (pos (suc n)) = refl
 abs_neg (negsuc n) = refl
 
 -- a number below 0 is −(n + 1), and −1 less it is n
-pub minus-one-less : (x : ℤ) → lt_z x (pos 0) ≡ true → negsuc 0 -ℤ x ≡ pos (mag x)
-minus-one-less (pos n) h = absurd (omega (arith, ltb-true n 0 h))
-minus-one-less (negsuc n) h = same-is (sub_ℕ (suc n) 1) (pos n) (omega (arith, sub_is (suc n) 1))
+pub minus_one_less : (x : ℤ) → lt_z x (pos 0) ≡ true → negsuc 0 -ℤ x ≡ pos (mag x)
+minus_one_less (pos n) h = absurd (omega (arith, ltb-true n 0 h))
+minus_one_less (negsuc n) h = same_is (sub_ℕ (suc n) 1) (pos n) (omega (arith, sub_is (suc n) 1))

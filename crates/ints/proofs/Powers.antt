@@ -28,19 +28,19 @@ even n z e =
     sym (ap (bit_and (n / 2)) q) ∙ halves n e
 
 -- by how many halvings are enough
-power-to : (m n : ℕ) → n ≤ m → 0 < n → One n → (k : ℕ) × (n ≡ 2 ^ k)
-power-to zero n l h e = absurd (omega arith)
-power-to (suc m) n l h e = by (ℕ_discrete (n % 2) 0) (λ z. power-to m (n / 2) (omega arith) (omega arith) (even n z e))
+power_to : (m n : ℕ) → n ≤ m → 0 < n → One n → (k : ℕ) × (n ≡ 2 ^ k)
+power_to zero n l h e = absurd (omega arith)
+power_to (suc m) n l h e = by (ℕ_discrete (n % 2) 0) (λ z. power_to m (n / 2) (omega arith) (omega arith) (even n z e))
   where
     by : Dec (n % 2 ≡ 0) → (n % 2 ≡ 0 → (k : ℕ) × (n / 2 ≡ 2 ^ k)) → (k : ℕ) × (n ≡ 2 ^ k)
     by (yes z) half = (suc (half z).0, omega (arith, (half z).1, pow-suc 2 (half z).0))
     by (no z) half = (0, odd n z e)
 
-pub power-of-two : (n : ℕ) → 0 < n → bit_and n (n - 1) ≡ 0 → (k : ℕ) × (n ≡ 2 ^ k)
-power-of-two n = power-to n n (le_refl n)
+pub power_of_two : (n : ℕ) → 0 < n → bit_and n (n - 1) ≡ 0 → (k : ℕ) × (n ≡ 2 ^ k)
+power_of_two n = power_to n n (le_refl n)
 
 -- the bits of f below a power of two are the remainder by it
-pub mask-mod : (f n : ℕ) → 0 < n → bit_and n (n - 1) ≡ 0 → bit_and f (n - 1) ≡ f % n
-mask-mod f n h e =
-    let p : (k : ℕ) × (n ≡ 2 ^ k) = power-of-two n h e in
+pub mask_mod : (f n : ℕ) → 0 < n → bit_and n (n - 1) ≡ 0 → bit_and f (n - 1) ≡ f % n
+mask_mod f n h e =
+    let p : (k : ℕ) × (n ≡ 2 ^ k) = power_of_two n h e in
     ap (λ (x : ℕ). bit_and f (x - 1)) p.1 ∙ and_mask f p.0 ∙ sym (ap (λ (x : ℕ). f % x) p.1)

@@ -41,21 +41,21 @@ each_more i f = rw add-one (each_snoc i f)
 
 -- ---- lengths
 
-each-snoc-length : (i : ℕ) (f : ℕ → List ℕ) → length (each (range 0 (suc i)) f) ≡ length (each (range 0 i) f) + length (f i)
-each-snoc-length i f = ap length (each_snoc i f) ∙ length-append (each (range 0 i) f) (f i)
+each_snoc_length : (i : ℕ) (f : ℕ → List ℕ) → length (each (range 0 (suc i)) f) ≡ length (each (range 0 i) f) + length (f i)
+each_snoc_length i f = ap length (each_snoc i f) ∙ length-append (each (range 0 i) f) (f i)
 
-pub each-prefix-length : (i n : ℕ) (f : ℕ → List ℕ) → i < n → length (each (range 0 i) f) + length (f i) ≤ length (each (range 0 n) f)
-each-prefix-length i zero f h = absurd (omega arith)
-each-prefix-length i (suc n) f h = by (ℕ_discrete i n) (λ h. each-prefix-length i n f h)
+pub each_prefix_length : (i n : ℕ) (f : ℕ → List ℕ) → i < n → length (each (range 0 i) f) + length (f i) ≤ length (each (range 0 n) f)
+each_prefix_length i zero f h = absurd (omega arith)
+each_prefix_length i (suc n) f h = by (ℕ_discrete i n) (λ h. each_prefix_length i n f h)
   where
     by : Dec (i ≡ n) → (i < n → length (each (range 0 i) f) + length (f i) ≤ length (each (range 0 n) f)) → length (each (range 0 i) f) + length (f i) ≤ length (each (range 0 (suc n)) f)
-    by (yes e) u = rw (← e) (omega (arith, each-snoc-length i f))
-    by (no e) u = omega (arith, each-snoc-length n f, u (omega arith))
+    by (yes e) u = rw (← e) (omega (arith, each_snoc_length i f))
+    by (no e) u = omega (arith, each_snoc_length n f, u (omega arith))
 
-pub each-length-le : (xs : List ℕ) (f g : ℕ → List ℕ) → ((i : ℕ) → length (f i) ≤ length (g i)) → length (each xs f) ≤ length (each xs g)
+pub each_length_le : (xs : List ℕ) (f g : ℕ → List ℕ) → ((i : ℕ) → length (f i) ≤ length (g i)) → length (each xs f) ≤ length (each xs g)
 unfolding each
-each-length-le [] f g h = omega arith
-each-length-le (x ∷ xs) f g h = simp length-append (omega (arith, h x, each-length-le xs f g h))
+each_length_le [] f g h = omega arith
+each_length_le (x ∷ xs) f g h = simp length-append (omega (arith, h x, each_length_le xs f g h))
 
 -- ---- stores
 
@@ -65,31 +65,31 @@ sets-append l i (x ∷ xs) ys = rw (add-suc, ← suc-add) (sets-append (set l i 
 
 -- ---- runs of rising numbers
 
-pub run-from : (lo mid hi : ℕ) (xs : List ℕ) → lo ≤ mid → Run mid hi xs → Run lo hi xs
-run-from lo mid hi [] h r = omega arith
-run-from lo mid hi (x ∷ xs) h r = (omega arith, r.1)
+pub run_from : (lo mid hi : ℕ) (xs : List ℕ) → lo ≤ mid → Run mid hi xs → Run lo hi xs
+run_from lo mid hi [] h r = omega arith
+run_from lo mid hi (x ∷ xs) h r = (omega arith, r.1)
 
-pub run-to : (lo mid hi : ℕ) (xs : List ℕ) → mid ≤ hi → Run lo mid xs → Run lo hi xs
-run-to lo mid hi [] h r = omega arith
-run-to lo mid hi (x ∷ xs) h r = (r.0, run-to (suc x) mid hi xs h r.1)
+pub run_to : (lo mid hi : ℕ) (xs : List ℕ) → mid ≤ hi → Run lo mid xs → Run lo hi xs
+run_to lo mid hi [] h r = omega arith
+run_to lo mid hi (x ∷ xs) h r = (r.0, run_to (suc x) mid hi xs h r.1)
 
-pub run-append : (lo mid hi : ℕ) (xs ys : List ℕ) → Run lo mid xs → Run mid hi ys → Run lo hi (xs ++ ys)
-run-append lo mid hi [] ys p q = run-from lo mid hi ys p q
-run-append lo mid hi (x ∷ xs) ys p q = (p.0, run-append (suc x) mid hi xs ys p.1 q)
+pub run_append : (lo mid hi : ℕ) (xs ys : List ℕ) → Run lo mid xs → Run mid hi ys → Run lo hi (xs ++ ys)
+run_append lo mid hi [] ys p q = run_from lo mid hi ys p q
+run_append lo mid hi (x ∷ xs) ys p q = (p.0, run_append (suc x) mid hi xs ys p.1 q)
 
 -- what each number gives lies in its own s places, so all of it rises
-pub run-each : (lo s n : ℕ) (f : ℕ → List ℕ) → ((i : ℕ) → i < n → Run (lo + i * s) (lo + i * s + s) (f i)) → Run lo (lo + n * s) (each (range 0 n) f)
-run-each lo s zero f h = rw each_none (omega arith)
-run-each lo s (suc n) f h =
+pub run_each : (lo s n : ℕ) (f : ℕ → List ℕ) → ((i : ℕ) → i < n → Run (lo + i * s) (lo + i * s + s) (f i)) → Run lo (lo + n * s) (each (range 0 n) f)
+run_each lo s zero f h = rw each_none (omega arith)
+run_each lo s (suc n) f h =
     let e : lo + suc n * s ≡ lo + n * s + s = omega arith in
-    rw (each_snoc, e) (run-append lo (lo + n * s) (lo + n * s + s) (each (range 0 n) f) (f n) (run-each lo s n f (λ i l. h i (omega arith))) (h n (omega arith)))
+    rw (each_snoc, e) (run_append lo (lo + n * s) (lo + n * s + s) (each (range 0 n) f) (f n) (run_each lo s n f (λ i l. h i (omega arith))) (h n (omega arith)))
 
 -- ---- members
 
-pub range-in : (m i g : ℕ) → i ≤ g → g < i + m → Memᴰ g (range i m)
+pub range_in : (m i g : ℕ) → i ≤ g → g < i + m → Memᴰ g (range i m)
 unfolding range
-range-in zero i g p q = absurd (omega arith)
-range-in (suc m) i g p q = by (ℕ_discrete g i) (λ h. range-in m (suc i) g h (omega arith))
+range_in zero i g p q = absurd (omega arith)
+range_in (suc m) i g p q = by (ℕ_discrete g i) (λ h. range_in m (suc i) g h (omega arith))
   where
     by : Dec (g ≡ i) → (suc i ≤ g → Memᴰ g (range (suc i) m)) → Memᴰ g (i ∷ range (suc i) m)
     by (yes e) u = Memᴰ.head e
@@ -104,11 +104,11 @@ each_in (y ∷ ys) f x g m h =
     (λ t. Memᴰ.append_right (f y) (each_in ys f x g t h))
     (Memᴰ.cases_cons m)
 
-pub each-mem : (xs : List ℕ) (f : ℕ → List ℕ) (g : ℕ) → Memᴰ g (each xs f) → (x : ℕ) × Memᴰ x xs × Memᴰ g (f x)
+pub each_mem : (xs : List ℕ) (f : ℕ → List ℕ) (g : ℕ) → Memᴰ g (each xs f) → (x : ℕ) × Memᴰ x xs × Memᴰ g (f x)
 unfolding each
-each-mem [] f g m = absurd (Memᴰ.not-nil m)
-each-mem (y ∷ ys) f g m =
+each_mem [] f g m = absurd (Memᴰ.not-nil m)
+each_mem (y ∷ ys) f g m =
     ⊎_elim
     (λ h. (y, Memᴰ.head refl, h))
-    (λ t. let r = each-mem ys f g t in (r.0, Memᴰ.tail r.1, r.2))
+    (λ t. let r = each_mem ys f g t in (r.0, Memᴰ.tail r.1, r.2))
     (Memᴰ.append_cases (f y) m)

@@ -24,37 +24,37 @@ pub record About : Type 0 where
   pub arity : ℕ
   pub sorted : ℕ
   pub charge : ℕ
-  pub inTables : Bool
+  pub in_tables : Bool
   pub dual : Kind
 
-abbrev pub ofTablesWith : ℕ → ℕ → ℕ → ℕ → Kind → About
-ofTablesWith number arity sorted charge dual = record { number = number; arity = arity; sorted = sorted; charge = charge; inTables = true; dual = dual }
+abbrev pub of_tables_with : ℕ → ℕ → ℕ → ℕ → Kind → About
+of_tables_with number arity sorted charge dual = record { number = number; arity = arity; sorted = sorted; charge = charge; in_tables = true; dual = dual }
 
 -- a kind that lists take and no table has; its operands stand in any order, it is charged nothing, and no kind of
 -- tables undoes it
-abbrev pub ofListsWith : ℕ → ℕ → About
-ofListsWith number arity = record { number = number; arity = arity; sorted = 0; charge = 0; inTables = false; dual = Other }
+abbrev pub of_lists_with : ℕ → ℕ → About
+of_lists_with number arity = record { number = number; arity = arity; sorted = 0; charge = 0; in_tables = false; dual = Other }
 
 -- what is none of the seventeen has the number of Rz and no operand
 abbrev pub about : Kind → About
-about H = ofTablesWith 0 1 0 0 H
-about X = ofTablesWith 1 1 0 0 X
-about Z = ofTablesWith 2 1 0 0 Z
-about S = ofTablesWith 3 1 0 0 Sdg
-about Sdg = ofTablesWith 4 1 0 0 S
-about T = ofTablesWith 5 1 0 1 Tdg
-about Tdg = ofTablesWith 6 1 0 1 T
-about Cx = ofTablesWith 8 2 0 0 Cx
-about Cz = ofTablesWith 9 2 2 0 Cz
-about Ccx = ofTablesWith 10 3 2 7 Ccx
-about Ccz = ofTablesWith 11 3 3 7 Ccz
-about Y = ofListsWith 15 1
-about Sx = ofListsWith 16 1
-about Swap = ofListsWith 19 2
-about Cy = ofListsWith 20 2
-about Ch = ofListsWith 25 2
-about Cswap = ofListsWith 26 3
-about Other = ofListsWith 7 0
+about H = of_tables_with 0 1 0 0 H
+about X = of_tables_with 1 1 0 0 X
+about Z = of_tables_with 2 1 0 0 Z
+about S = of_tables_with 3 1 0 0 Sdg
+about Sdg = of_tables_with 4 1 0 0 S
+about T = of_tables_with 5 1 0 1 Tdg
+about Tdg = of_tables_with 6 1 0 1 T
+about Cx = of_tables_with 8 2 0 0 Cx
+about Cz = of_tables_with 9 2 2 0 Cz
+about Ccx = of_tables_with 10 3 2 7 Ccx
+about Ccz = of_tables_with 11 3 3 7 Ccz
+about Y = of_lists_with 15 1
+about Sx = of_lists_with 16 1
+about Swap = of_lists_with 19 2
+about Cy = of_lists_with 20 2
+about Ch = of_lists_with 25 2
+about Cswap = of_lists_with 26 3
+about Other = of_lists_with 7 0
 
 unfoldable pub number : Kind → ℕ
 number k = (about k).number
@@ -69,13 +69,13 @@ unfoldable pub dual : Kind → Kind
 dual k = (about k).dual
 
 -- a kind of the seventeen: each of them has an operand
-unfoldable pub isKind : Kind → Bool
-isKind k = ltb 0 (about k).arity
+unfoldable pub is_kind : Kind → Bool
+is_kind k = ltb 0 (about k).arity
 
 -- a kind of the eleven that tables have (SPECIFICATION 2.2)
-unfoldable pub ofTables : Kind → Bool
-ofTables k = (about k).inTables
+unfoldable pub of_tables : Kind → Bool
+of_tables k = (about k).in_tables
 
 -- T and Tdg count 1, Ccx and Ccz 7, the other kinds 0 (SPECIFICATION 2.1, 2.9)
-unfoldable pub kindCharge : Kind → ℕ
-kindCharge k = (about k).charge
+unfoldable pub kind_charge : Kind → ℕ
+kind_charge k = (about k).charge

@@ -2,8 +2,10 @@
 // in one constant each: operands, how many of them rise, the kind that undoes it, T charge. The constants are computed
 // against the definition (specs/Kinds) here, below all code that reads gates, so that a wrong number in one is refused
 // in seconds.
+#![tactic(auto)]
+
 ghost use Rattle.std.specs.Prelude.{◌≡◌, ◌≤◌};
-ghost use Rattle.kinds.specs.Kinds.{kind_at, number, arity, sorted, isKind, ofTables, dual, kindCharge};
+ghost use Rattle.kinds.specs.Kinds.{kind_at, number, arity, sorted, is_kind, of_tables, dual, kind_charge};
 
 // The places of the constants below: H 0, X 1, Z 2, S 3, Sdg 4, T 5, Tdg 6, (Rz 7, not taken), Cx 8, Cz 9, Ccx 10, Ccz
 // 11. These eleven may be in a table. Lists take also Y 15, Sx 16, Swap 19, Cy 20, Ch 25, Cswap 26: of these only the
@@ -59,14 +61,14 @@ pub fn sorted_count(kind: u32) -> u32
 }
 
 fn is_kind(kind: u32) -> bool
-    ensures { result ≡ isKind (kind_at kind) }
+    ensures { result ≡ is_kind (kind_at kind) }
 {
     operand_count(kind) != 0
 }
 
 // Whether a table may have the kind.
 pub fn is_table_kind(kind: u32) -> bool
-    ensures { result ≡ ofTables (kind_at kind) }
+    ensures { result ≡ of_tables (kind_at kind) }
 {
     if kind >= KINDS {
         return false;
@@ -85,7 +87,7 @@ pub fn dual_kind(kind: u32) -> u32
 }
 
 pub fn charge_of(kind: u32) -> usize
-    ensures { result ≡ kindCharge (kind_at kind) }
+    ensures { result ≡ kind_charge (kind_at kind) }
 {
     if kind >= KINDS {
         return 0;

@@ -1,21 +1,23 @@
 // Whether a candidate counts as known in a width that is being built (SPECIFICATION 6.7, 6.16): by its fingerprint
 // alone, or, where clashing nodes are kept, by a node that has the fingerprint and is equal up to phase, which is the
 // find of an answer. A candidate's matrix is formed again only where a node has its fingerprint.
+#![tactic(auto)]
+
 ghost use Rattle.std.specs.Prelude.{◌≡◌, true, ◌≤◌, length};
 ghost use Rattle.circuit.specs.Codes.{valid};
-ghost use Rattle.exact.specs.Rows.{act, gateOf};
-ghost use Rattle.exact.specs.Fits.{stepFits};
+ghost use Rattle.exact.specs.Rows.{act, gate_of};
+ghost use Rattle.exact.specs.Fits.{step_fits};
 ghost use Rattle.exact.specs.Places.{held};
 ghost use Rattle.places.specs.Places.{places};
 ghost use Rattle.places.specs.Held.{Ready};
 ghost use Rattle.walk.specs.Lookup.{found};
-ghost use Rattle.walk.specs.Index.{lookedUp};
-ghost use Rattle.walk.specs.Finds.{partWith, lookedIn, findBy, isNode};
-ghost use Rattle.index.specs.Told.{toldBy};
-ghost use Rattle.synthesis_arena.specs.Limits.{toldLimits};
-ghost use Rattle.synthesis_arena.specs.Lookup.{toldFound};
+ghost use Rattle.walk.specs.Index.{looked_up};
+ghost use Rattle.walk.specs.Finds.{part_with, looked_in, find_by, is_node};
+ghost use Rattle.index.specs.Told.{told_by};
+ghost use Rattle.synthesis_arena.specs.Limits.{told_limits};
+ghost use Rattle.synthesis_arena.specs.Lookup.{told_found};
 ghost use Rattle.node_answer.specs.Answers.{AskedPlaces};
-ghost use Rattle.known.specs.Known.{toldMode, isKnown};
+ghost use Rattle.known.specs.Known.{told_mode, is_known};
 ghost use Rattle.looked_ahead.specs.Ahead.{Hint};
 
 use cyclotomic::Coefficient;
@@ -59,11 +61,11 @@ fn has_equal(
 ) -> bool
     requires bounds { (limits.width ≤ 5) × (limits.gates ≤ 64) }
     requires within { (count ≤ length fingerprints.now) × (count ≤ length parents.now) × (count ≤ length codes.now) }
-    requires first { lookedIn (partWith (toldBy by) fingerprints.now parents.now codes.now count index.now) 0 print ≡ found node }
+    requires first { looked_in (part_with (told_by by) fingerprints.now parents.now codes.now count index.now) 0 print ≡ found node }
     requires asked { AskedPlaces limits.width candidate.now }
     requires long { length scratch.old ≡ places }
-    ensures found { result ≡ isNode (findBy (toldLimits limits)
-        (partWith (toldBy by) fingerprints.now parents.now codes.now count index.now) print
+    ensures found { result ≡ is_node (find_by (told_limits limits)
+        (part_with (told_by by) fingerprints.now parents.now codes.now count index.now) print
         (held limits.width exponent candidate.now)) }
     ensures long { length scratch.new ≡ places }
 {
@@ -109,14 +111,14 @@ fn has_candidate(
 ) -> bool
     requires bounds { (limits.width ≤ 5) × (limits.gates ≤ 64) }
     requires within { (count ≤ length fingerprints.now) × (count ≤ length parents.now) × (count ≤ length codes.now) }
-    requires first { lookedIn (partWith (toldBy by) fingerprints.now parents.now codes.now count index.now) 0 candidate.print ≡ found node }
+    requires first { looked_in (part_with (told_by by) fingerprints.now parents.now codes.now count index.now) 0 candidate.print ≡ found node }
     requires ready { Ready limits.width exponent m.now }
     requires gate { (valid limits.width candidate.gate ≡ true)
-        × (stepFits limits.width (gateOf limits.width candidate.gate) (held limits.width exponent m.now) ≡ true) }
+        × (step_fits limits.width (gate_of limits.width candidate.gate) (held limits.width exponent m.now) ≡ true) }
     requires long { (length formed.old ≡ places) × (length scratch.old ≡ places) }
-    ensures found { result ≡ isNode (findBy (toldLimits limits)
-        (partWith (toldBy by) fingerprints.now parents.now codes.now count index.now) candidate.print
-        (act limits.width (gateOf limits.width candidate.gate) (held limits.width exponent m.now))) }
+    ensures found { result ≡ is_node (find_by (told_limits limits)
+        (part_with (told_by by) fingerprints.now parents.now codes.now count index.now) candidate.print
+        (act limits.width (gate_of limits.width candidate.gate) (held limits.width exponent m.now))) }
     ensures long { (length formed.new ≡ places) × (length scratch.new ≡ places) }
 {
     let Applied::Done(k) = node_matrix::apply_to_copy(
@@ -163,14 +165,14 @@ pub fn is_known(
 ) -> bool
     requires bounds { (limits.width ≤ 5) × (limits.gates ≤ 64) }
     requires within { (count ≤ length fingerprints.now) × (count ≤ length parents.now) × (count ≤ length codes.now) }
-    requires ahead { Hint (lookedUp (toldBy by) index.now fingerprints.now count 0 candidate.print) candidate.ahead }
+    requires ahead { Hint (looked_up (told_by by) index.now fingerprints.now count 0 candidate.print) candidate.ahead }
     requires ready { Ready limits.width exponent m.now }
     requires gate { (valid limits.width candidate.gate ≡ true)
-        × (stepFits limits.width (gateOf limits.width candidate.gate) (held limits.width exponent m.now) ≡ true) }
+        × (step_fits limits.width (gate_of limits.width candidate.gate) (held limits.width exponent m.now) ≡ true) }
     requires long { (length formed.old ≡ places) × (length scratch.old ≡ places) }
-    ensures known { result ≡ isKnown (toldMode mode) (toldLimits limits)
-        (partWith (toldBy by) fingerprints.now parents.now codes.now count index.now) candidate.print
-        (act limits.width (gateOf limits.width candidate.gate) (held limits.width exponent m.now)) }
+    ensures known { result ≡ is_known (told_mode mode) (told_limits limits)
+        (part_with (told_by by) fingerprints.now parents.now codes.now count index.now) candidate.print
+        (act limits.width (gate_of limits.width candidate.gate) (held limits.width exponent m.now)) }
     ensures long { (length formed.new ≡ places) × (length scratch.new ≡ places) }
 {
     let Found::At(node) = looked_ahead::first_node(

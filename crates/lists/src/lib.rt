@@ -1,6 +1,8 @@
 // A list of gates applied in place, oldest first, up to the first step that does not fit (SPECIFICATION 3.6).
 // `library_circuit_matrix` in murm.rs of the original, below the entry: the codes are valid. The caller hands over the
 // identity in its own places, so that one array serves many lists.
+#![tactic(auto)]
+
 ghost use Rattle.std.specs.Prelude.{◌≡◌, true, ◌≤◌};
 ghost use Rattle.ints.specs.Lists.{all};
 ghost use Rattle.circuit.specs.Codes.{valid};

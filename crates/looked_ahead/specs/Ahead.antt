@@ -2,17 +2,17 @@
 use Rattle.std.specs.Prelude.{◌≡◌, List, map, ℕ, length, take}
 use Rattle.circuit.specs.Codes.{mark}
 use Rattle.walk.specs.Lookup.{Lookup, found, none}
-use Rattle.walk.specs.Index.{By, scan, indexed, lookedUp}
+use Rattle.walk.specs.Index.{By, scan, indexed, looked_up}
 
 -- the node that a look-up gave, or the mark
-abbrev pub orMark : Lookup → ℕ
-orMark (found k) = k
-orMark none = mark
+abbrev pub or_mark : Lookup → ℕ
+or_mark (found k) = k
+or_mark none = mark
 
 -- what is looked up before a candidate's turn comes: by the scan nothing
-abbrev pub aheadBy : By → Lookup → ℕ
-aheadBy scan l = mark
-aheadBy indexed l = orMark l
+abbrev pub ahead_by : By → Lookup → ℕ
+ahead_by scan l = mark
+ahead_by indexed l = or_mark l
 
 -- a number other than the mark is the node that the look-up gives
 pub record Hint (l : Lookup) (a : ℕ) : Type 0 where
@@ -20,7 +20,7 @@ pub record Hint (l : Lookup) (a : ℕ) : Type 0 where
 
 -- what is looked up ahead for each of some fingerprints
 abbrev pub ahead_of : By → List ℕ → List ℕ → ℕ → List ℕ → List ℕ
-ahead_of by i f count ps = map (λ y. aheadBy by (lookedUp by i f count 0 y)) ps
+ahead_of by i f count ps = map (λ y. ahead_by by (looked_up by i f count 0 y)) ps
 
 -- the first places of 105 hold it
 pub record LookedAhead (by : By) (i f : List ℕ) (count : ℕ) (ps nodes : List ℕ) (size : ℕ) : Type 0 where

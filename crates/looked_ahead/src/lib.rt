@@ -2,12 +2,14 @@
 // candidate is appended: look-ups through the index wait for memory, and several wait together. A node that is found
 // ahead stays the one that the look-up gives; where none was found, the candidate is looked up again when its turn
 // comes, since an earlier candidate of the node may have its fingerprint.
+#![tactic(auto)]
+
 ghost use Rattle.std.specs.Prelude.{◌≡◌, ◌≤◌, length, take};
 ghost use Rattle.circuit.specs.Codes.{mark};
-ghost use Rattle.walk.specs.Index.{lookedUp};
-ghost use Rattle.index.specs.Told.{toldBy};
-ghost use Rattle.synthesis_arena.specs.Lookup.{toldFound};
-ghost use Rattle.looked_ahead.specs.Ahead.{aheadBy, Hint, LookedAhead};
+ghost use Rattle.walk.specs.Index.{looked_up};
+ghost use Rattle.index.specs.Told.{told_by};
+ghost use Rattle.synthesis_arena.specs.Lookup.{told_found};
+ghost use Rattle.looked_ahead.specs.Ahead.{ahead_by, Hint, LookedAhead};
 
 use index::LookupBy;
 use synthesis_arena::{Found, MARK};
@@ -23,7 +25,7 @@ pub fn node_ahead(
     index: &[u32],
 ) -> u32
     requires within { (count ≤ length fingerprints.now) × (count ≤ mark) }
-    ensures ahead { result ≡ aheadBy (toldBy by) (lookedUp (toldBy by) index.now fingerprints.now count 0 print) }
+    ensures ahead { result ≡ ahead_by (told_by by) (looked_up (told_by by) index.now fingerprints.now count 0 print) }
 {
     match by {
         LookupBy::Scan => MARK,
@@ -47,7 +49,7 @@ pub fn look_ahead(
 )
     requires within { (count ≤ length fingerprints.now) × (count ≤ mark) }
     requires room { (size ≤ 105) × (length prints.now ≡ 105) × (length nodes.old ≡ 105) }
-    ensures ahead { LookedAhead (toldBy by) index.now fingerprints.now count (take size prints.now) nodes.new size }
+    ensures ahead { LookedAhead (told_by by) index.now fingerprints.now count (take size prints.now) nodes.new size }
 {
     let lookup = by;
     let mut j = 0;
@@ -67,8 +69,8 @@ pub fn first_node(
     index: &[u32],
 ) -> Found
     requires within { count ≤ length fingerprints.now }
-    requires ahead { Hint (lookedUp (toldBy by) index.now fingerprints.now count 0 print) ahead }
-    ensures first { toldFound result ≡ lookedUp (toldBy by) index.now fingerprints.now count 0 print }
+    requires ahead { Hint (looked_up (told_by by) index.now fingerprints.now count 0 print) ahead }
+    ensures first { told_found result ≡ looked_up (told_by by) index.now fingerprints.now count 0 print }
 {
     if ahead != MARK {
         return Found::At(ahead as usize);

@@ -1,13 +1,15 @@
 // Lowering of a matrix in place (SPECIFICATION 1.9), `normalize_denominator` in matrix.rs of the original: the test
 // whether all entries are divisible by sqrt(2), the division, and the loop of both. The test has no effect on the
 // places, so that a query is tested by it, too.
+#![tactic(auto)]
+
 ghost use Rattle.std.specs.Prelude.{◌≡◌, ◌*◌, ◌^◌, ◌≤◌, length};
-ghost use Rattle.exact.specs.Matrix.{allDivisible, lower};
+ghost use Rattle.exact.specs.Matrix.{all_divisible, lower};
 ghost use Rattle.exact.specs.Places.{read, held};
 ghost use Rattle.exact.proofs.Words.{AllSmall};
 ghost use Rattle.places.specs.Places.{places, Same, Kept};
 ghost use Rattle.places.specs.Held.{Holds};
-ghost use Rattle.lowering.specs.Lowered.{dividedAll};
+ghost use Rattle.lowering.specs.Lowered.{divided_all};
 
 use cyclotomic::Coefficient;
 
@@ -15,7 +17,7 @@ use cyclotomic::Coefficient;
 pub fn all_divisible(m: &[Coefficient], n: usize) -> bool
     requires n_bound { n ≤ 5 }
     requires n_in_bounds { 4 * (2 ^ n * 2 ^ n) ≤ length m.now }
-    ensures { result ≡ allDivisible n (read n m.now) }
+    ensures { result ≡ all_divisible n (read n m.now) }
 {
     let size = places::area(n);
     let mut e = 0;
@@ -34,7 +36,7 @@ pub fn divide_all(m: &mut [Coefficient; 4096], n: usize)
     requires n_bound { n ≤ 5 }
     requires all_small { AllSmall n (read n m.old) }
     ensures sized { length m.new ≡ places }
-    ensures divided { Same n (read n m.new) (dividedAll (read n m.old)) }
+    ensures divided { Same n (read n m.new) (divided_all (read n m.old)) }
     ensures kept { Kept n m.old m.new }
 {
     let size = places::area(n);

@@ -9,11 +9,11 @@ use borrow.Author.Tests.{eqb-true, ne_eqb}
 use lib.Dec.{eqb}
 use lib.IntN.{ℤ}
 use Rattle.ints.specs.Lists.{all, range}
-use Rattle.ints.proofs.Bools.{clash, all-range}
-use Rattle.circuit.specs.Codes.{kindNumber, first, second, third, valid}
-use Rattle.kinds.specs.Kinds.{kind_at, isKind}
-use Rattle.kinds.proofs.ByNumber.{kind-past}
-use Rattle.exact.specs.Rows.{gate, gateOf}
+use Rattle.ints.proofs.Bools.{clash, all_range}
+use Rattle.circuit.specs.Codes.{kind_number, first, second, third, valid}
+use Rattle.kinds.specs.Kinds.{kind_at, is_kind}
+use Rattle.kinds.proofs.ByNumber.{kind_past}
+use Rattle.exact.specs.Rows.{gate, gate_of}
 use Rattle.exact.proofs.Words.{Proper}
 use Rattle.exact.proofs.Coded.{proper}
 use Rattle.steps.specs.Step.{Stepped}
@@ -21,40 +21,40 @@ use Rattle.steps.specs.declared.Applied.{Applied}
 
 module _ {n k : ℕ} {l l' : List ℤ} {r : Applied} where
   -- the kind is known by an equation
-  pub kind-at : (a b c : ℕ) {x y : ℕ} → x ≡ y → Stepped n k (gate n (kind_at y) a b c) l l' r → Stepped n k (gate n (kind_at x) a b c) l l' r
-  kind-at a b c e w = subst (λ (x : ℕ). Stepped n k (gate n (kind_at x) a b c) l l' r) (sym e) w
+  pub kind_at_lem : (a b c : ℕ) {x y : ℕ} → x ≡ y → Stepped n k (gate n (kind_at y) a b c) l l' r → Stepped n k (gate n (kind_at x) a b c) l l' r
+  kind_at_lem a b c e w = subst (λ (x : ℕ). Stepped n k (gate n (kind_at x) a b c) l l' r) (sym e) w
 
-pub proper-at : (n a b c : ℕ) {x y : ℕ} → x ≡ y → Proper n (gate n (kind_at x) a b c) → Proper n (gate n (kind_at y) a b c)
-proper-at n a b c e w = subst (λ (x : ℕ). Proper n (gate n (kind_at x) a b c)) e w
+pub proper_at : (n a b c : ℕ) {x y : ℕ} → x ≡ y → Proper n (gate n (kind_at x) a b c) → Proper n (gate n (kind_at y) a b c)
+proper_at n a b c e w = subst (λ (x : ℕ). Proper n (gate n (kind_at x) a b c)) e w
 
 -- a kind from 7 to 11 that is not 8, 9 or 10 is 11
-pub last-kind : (k : ℕ) → isKind (kind_at k) ≡ true → k < 12 → 7 ≤ k → (k ≡ 8 → ⊥) → (k ≡ 9 → ⊥) → (k ≡ 10 → ⊥) → k ≡ 11
-unfolding kind_at isKind
-last-kind k h q p a b c = omega (arith, not-seven)
+pub last_kind : (k : ℕ) → is_kind (kind_at k) ≡ true → k < 12 → 7 ≤ k → (k ≡ 8 → ⊥) → (k ≡ 9 → ⊥) → (k ≡ 10 → ⊥) → k ≡ 11
+unfolding kind_at is_kind
+last_kind k h q p a b c = omega (arith, not_seven)
   where
-    not-seven : k ≡ 7 → ⊥
-    not-seven e = clash h (ap (λ (x : ℕ). isKind (kind_at x)) e)
+    not_seven : k ≡ 7 → ⊥
+    not_seven e = clash h (ap (λ (x : ℕ). is_kind (kind_at x)) e)
 
 -- a kind from 12 on is one of six
-abbrev oneOfSix : ℕ → Bool
-oneOfSix k = not (isKind (kind_at k)) || (eqb k 15 || (eqb k 16 || (eqb k 19 || (eqb k 20 || (eqb k 25 || eqb k 26)))))
+abbrev one_of_six : ℕ → Bool
+one_of_six k = not (is_kind (kind_at k)) || (eqb k 15 || (eqb k 16 || (eqb k 19 || (eqb k 20 || (eqb k 25 || eqb k 26)))))
 
-pub last-of-six : (k : ℕ) → isKind (kind_at k) ≡ true → 12 ≤ k → (k ≡ 15 → ⊥) → (k ≡ 16 → ⊥) → (k ≡ 19 → ⊥) → (k ≡ 20 → ⊥) → (k ≡ 25 → ⊥) → k ≡ 26
-unfolding kind_at isKind all range
-last-of-six k h p a b c d e = by (dec_lt k 27)
+pub last_of_six : (k : ℕ) → is_kind (kind_at k) ≡ true → 12 ≤ k → (k ≡ 15 → ⊥) → (k ≡ 16 → ⊥) → (k ≡ 19 → ⊥) → (k ≡ 20 → ⊥) → (k ≡ 25 → ⊥) → k ≡ 26
+unfolding kind_at is_kind all range
+last_of_six k h p a b c d e = by (dec_lt k 27)
   where
     by : Dec (k < 27) → k ≡ 26
     by (yes q) =
         eqb-true k 26
-        (rw (h, ne_eqb k 15 a, ne_eqb k 16 b, ne_eqb k 19 c, ne_eqb k 20 d, ne_eqb k 25 e) at (all-range oneOfSix 15 12 refl k p (omega arith)))
-    by (no q) = clash h (ap isKind (kind-past k (omega arith)))
+        (rw (h, ne_eqb k 15 a, ne_eqb k 16 b, ne_eqb k 19 c, ne_eqb k 20 d, ne_eqb k 25 e) at (all_range one_of_six 15 12 refl k p (omega arith)))
+    by (no q) = clash h (ap is_kind (kind_past k (omega arith)))
 
 -- ---- the gate of a valid code
 
 module _ (n g : ℕ) (h : valid n g ≡ true) where
-  pub coded : gateOf n g ≡ gate n (kind_at (kindNumber g)) (first g) (second g) (third g)
-  unfolding gateOf
+  pub coded : gate_of n g ≡ gate n (kind_at (kind_number g)) (first g) (second g) (third g)
+  unfolding gate_of
   coded = rw h
 
-  pub coded-proper : Proper n (gate n (kind_at (kindNumber g)) (first g) (second g) (third g))
-  coded-proper = subst (Proper n) coded (proper n g)
+  pub coded_proper : Proper n (gate n (kind_at (kind_number g)) (first g) (second g) (third g))
+  coded_proper = subst (Proper n) coded (proper n g)

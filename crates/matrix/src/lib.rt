@@ -1,10 +1,12 @@
 // The gate of a code applied to a matrix in place, `apply_gate_left` in matrix.rs of the original: the choice by kind,
 // and the operands as bits of a row's number. The kinds of tables go first and by themselves, since a build applies no
 // others.
+#![tactic(auto)]
+
 ghost use Rattle.std.specs.Prelude.{◌≡◌, true, ◌<◌, ◌≤◌};
-ghost use Rattle.kinds.specs.Kinds.{kind_at, isKind};
+ghost use Rattle.kinds.specs.Kinds.{kind_at, is_kind};
 ghost use Rattle.circuit.specs.Codes.{valid};
-ghost use Rattle.exact.specs.Rows.{gate, gateOf};
+ghost use Rattle.exact.specs.Rows.{gate, gate_of};
 ghost use Rattle.exact.proofs.Words.{Proper};
 ghost use Rattle.places.specs.Held.{Ready};
 ghost use Rattle.steps.specs.Step.{Stepped};
@@ -36,7 +38,7 @@ fn kind_step(
     k: u16,
 ) -> Applied
     requires n_bound { n ≤ 5 }
-    requires kind_value { (isKind (kind_at kind) ≡ true) × (kind < 12) }
+    requires kind_value { (is_kind (kind_at kind) ≡ true) × (kind < 12) }
     requires proper { Proper n (gate n (kind_at kind) a b c) }
     requires ready { Ready n k m.old }
     ensures { Stepped n k (gate n (kind_at kind) a b c) m.old m.new result }
@@ -73,7 +75,7 @@ fn more_kind_step(
     k: u16,
 ) -> Applied
     requires n_bound { n ≤ 5 }
-    requires kind_value { (isKind (kind_at kind) ≡ true) × (12 ≤ kind) }
+    requires kind_value { (is_kind (kind_at kind) ≡ true) × (12 ≤ kind) }
     requires proper { Proper n (gate n (kind_at kind) a b c) }
     requires ready { Ready n k m.old }
     ensures { Stepped n k (gate n (kind_at kind) a b c) m.old m.new result }
@@ -97,7 +99,7 @@ pub fn apply_gate_left(m: &mut [Coefficient; 4096], n: usize, gate: LibraryGate,
     requires n_bound { n ≤ 5 }
     requires gate_value { valid n gate.0 ≡ true }
     requires ready { Ready n k m.old }
-    ensures { Stepped n k (gateOf n gate.0) m.old m.new result }
+    ensures { Stepped n k (gate_of n gate.0) m.old m.new result }
 {
     let kind = gate.kind();
     let a = gate.first();

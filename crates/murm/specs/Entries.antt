@@ -11,12 +11,12 @@ use Rattle.murm.specs.declared.Written.{Written}
 use Rattle.murm.specs.declared.Written.TheVariants as w
 
 -- what is found, as the definitions have it
-abbrev pub toldFoundNode : FoundNode → Finding
-toldFoundNode (n.Node k m) = finds.node k m
-toldFoundNode n.Nothing = finds.none
-toldFoundNode (n.Refused r) = finds.refused (number_of r) (position_of r)
+abbrev pub told_found_node : FoundNode → Finding
+told_found_node (n.Node k m) = finds.node k m
+told_found_node n.Nothing = finds.none
+told_found_node (n.Refused r) = finds.refused (number_of r) (position_of r)
 
 -- what a write came to, as the definitions have it
-abbrev pub toldWritten : Written → Reply
-toldWritten (w.List m) = a.given m
-toldWritten (w.Refused r) = a.refused (number_of r) (position_of r)
+abbrev pub told_written : Written → Reply
+told_written (w.List m) = a.given m
+told_written (w.Refused r) = a.refused (number_of r) (position_of r)

@@ -3,21 +3,23 @@
 // others; here are the entries that find, write and answer, and those by the scan. The entries that end in `_by` take
 // how nodes are looked up, and an index for it; those without are by the scan. `build_by` takes a mode too; `build` is
 // by the fingerprint.
+#![tactic(auto)]
+
 ghost use Rattle.std.specs.Prelude.{◌≡◌, false, length};
 ghost use Rattle.exact.proofs.Words.{AllSmall};
 ghost use Rattle.exact.specs.Places.{read};
-ghost use Rattle.node_answer.specs.Answers.{toldFind};
+ghost use Rattle.node_answer.specs.Answers.{told_find};
 ghost use Rattle.walk.specs.Answers.{outcome as replied};
-ghost use Rattle.walk.specs.Modes.{byPrint};
-ghost use Rattle.tables.specs.Checks.{firstRow, queryRows, arrays, arraysBy, roomRow};
-ghost use Rattle.tables.specs.Tables.{left, buildOf, query, recordRow, foundIn, writtenIn, synthesized};
-ghost use Rattle.tables.proofs.Asked.{partFound};
-ghost use Rattle.index.specs.Told.{toldBy};
-ghost use Rattle.murm_config.specs.Told.{toldConfig, toldMurm};
-ghost use Rattle.murm_build.specs.Entries.{toldBuilding};
-ghost use Rattle.murm_find.specs.Entries.{toldSynthesized};
-ghost use Rattle.murm.specs.Entries.{toldFoundNode, toldWritten};
-ghost use Rattle.murm.specs.Work.{Writable, nodeWritten};
+ghost use Rattle.walk.specs.Modes.{by_print};
+ghost use Rattle.tables.specs.Checks.{first_row, query_rows, arrays, arrays_by, room_row};
+ghost use Rattle.tables.specs.Tables.{left, build_of, query, record_row, found_in, written_in, synthesized};
+ghost use Rattle.tables.proofs.Asked.{part_found};
+ghost use Rattle.index.specs.Told.{told_by};
+ghost use Rattle.murm_config.specs.Told.{told_config, told_murm};
+ghost use Rattle.murm_build.specs.Entries.{told_building};
+ghost use Rattle.murm_find.specs.Entries.{told_synthesized};
+ghost use Rattle.murm.specs.Entries.{told_found_node, told_written};
+ghost use Rattle.murm.specs.Work.{Writable, node_written};
 
 use cyclotomic::Coefficient;
 use index::LookupBy;
@@ -38,8 +40,8 @@ pub fn build(
     parents: &mut [u32],
     codes: &mut [u32],
 ) -> Building
-    ensures { left (toldBuilding result) (arrays fingerprints.new parents.new codes.new)
-        ≡ buildOf byPrint (toldConfig config) (arrays fingerprints.old parents.old codes.old) }
+    ensures { left (told_building result) (arrays fingerprints.new parents.new codes.new)
+        ≡ build_of by_print (told_config config) (arrays fingerprints.old parents.old codes.old) }
 {
     let mut none: [u32; 1] = [0; 1];
     murm_build::build_by(
@@ -63,7 +65,7 @@ pub enum FoundNode {
 
 // The same, of what a width's part told.
 fn found_node(found: Find) -> FoundNode
-    ensures { toldFoundNode result ≡ toldFind found }
+    ensures { told_found_node result ≡ told_find found }
 {
     match found {
         Find::Node(node, size) => FoundNode::Node(node, size),
@@ -84,11 +86,11 @@ fn find_passed(
     exponent: u16,
     matrix: &[Coefficient],
 ) -> FoundNode
-    requires table_value { (recordRow (toldMurm table)).holds ≡ false }
-    requires codes_value { (roomRow (toldConfig table.config) (arrays fingerprints.now parents.now codes.now)).holds ≡ false }
-    requires matrix_value { (firstRow (queryRows width exponent matrix.now) ≡ 0) × AllSmall width (read width matrix.now) }
-    ensures { toldFoundNode result ≡ partFound (toldMurm table)
-        (arraysBy (toldBy by) fingerprints.now parents.now codes.now index.now)
+    requires table_value { (record_row (told_murm table)).holds ≡ false }
+    requires codes_value { (room_row (told_config table.config) (arrays fingerprints.now parents.now codes.now)).holds ≡ false }
+    requires matrix_value { (first_row (query_rows width exponent matrix.now) ≡ 0) × AllSmall width (read width matrix.now) }
+    ensures { told_found_node result ≡ part_found (told_murm table)
+        (arrays_by (told_by by) fingerprints.now parents.now codes.now index.now)
         (query width exponent matrix.now) }
 {
     let config = table.config;
@@ -122,8 +124,8 @@ pub fn find_by(
     exponent: u16,
     matrix: &[Coefficient],
 ) -> FoundNode
-    ensures { toldFoundNode result ≡ foundIn (toldMurm table)
-        (arraysBy (toldBy by) fingerprints.now parents.now codes.now index.now)
+    ensures { told_found_node result ≡ found_in (told_murm table)
+        (arrays_by (told_by by) fingerprints.now parents.now codes.now index.now)
         (query width exponent matrix.now) }
 {
     match murm_find::check_find(
@@ -162,7 +164,7 @@ pub fn find(
     exponent: u16,
     matrix: &[Coefficient],
 ) -> FoundNode
-    ensures { toldFoundNode result ≡ foundIn (toldMurm table)
+    ensures { told_found_node result ≡ found_in (told_murm table)
         (arrays fingerprints.now parents.now codes.now) (query width exponent matrix.now) }
 {
     let none: [u32; 1] = [0; 1];
@@ -195,8 +197,8 @@ fn write_part(
     node: usize,
     out: &mut [u32],
 ) -> Written
-    requires { Writable (toldMurm table) width node (length parents.now) (length codes.now) (length out.old) }
-    ensures { replied (toldWritten result) out.new ≡ nodeWritten (toldMurm table) parents.now codes.now width node out.old }
+    requires { Writable (told_murm table) width node (length parents.now) (length codes.now) (length out.old) }
+    ensures { replied (told_written result) out.new ≡ node_written (told_murm table) parents.now codes.now width node out.old }
 {
     let e = table.config.max_entries_per_qubit as usize;
     let start = (width as usize - 1) * e;
@@ -227,7 +229,7 @@ pub fn write(
     node: usize,
     out: &mut [u32],
 ) -> Written
-    ensures { replied (toldWritten result) out.new ≡ writtenIn (toldMurm table)
+    ensures { replied (told_written result) out.new ≡ written_in (told_murm table)
         (arrays fingerprints.now parents.now codes.now) width node out.old }
 {
     match murm_config::check_write(
@@ -259,8 +261,8 @@ pub fn synthesize_by(
     matrix: &[Coefficient],
     out: &mut [u32],
 ) -> Synthesized
-    ensures { replied (toldSynthesized result) out.new ≡ synthesized (toldMurm table)
-        (arraysBy (toldBy by) fingerprints.now parents.now codes.now index.now)
+    ensures { replied (told_synthesized result) out.new ≡ synthesized (told_murm table)
+        (arrays_by (told_by by) fingerprints.now parents.now codes.now index.now)
         (query width exponent matrix.now) out.old }
 {
     match murm_find::check_find(
@@ -301,8 +303,8 @@ pub fn synthesize(
     matrix: &[Coefficient],
     out: &mut [u32],
 ) -> Synthesized
-    ensures { replied (toldSynthesized result) out.new
-        ≡ synthesized (toldMurm table) (arrays fingerprints.now parents.now codes.now) (query width exponent matrix.now) out.old }
+    ensures { replied (told_synthesized result) out.new
+        ≡ synthesized (told_murm table) (arrays fingerprints.now parents.now codes.now) (query width exponent matrix.now) out.old }
 {
     let none: [u32; 1] = [0; 1];
     synthesize_by(

@@ -7,36 +7,36 @@ use Rattle.refusal.specs.declared.Refusal.{Refusal}
 use Rattle.refusal.proofs.Numbers.{Refuses}
 use Rattle.walk.specs.Modes.{Mode}
 use Rattle.walk.specs.Index.{indexed}
-use Rattle.tables.specs.Checks.{firstRow, Limits, Arrays, arraysBy}
-use Rattle.tables.specs.Tables.{Table, recordOf, printsOf, parentsOf, codes_of, filledTo, indexTo, table, refusal, left, buildRows, buildOf}
-use Rattle.tables.specs.Tables.{lookRowsOf, filledIndex, filled, not-filled, fillLeft, fillOf}
-use Rattle.tables.proofs.FromBuild.{build-refusal, build-fills}
-use Rattle.tables.proofs.Asked.{fill-passed, fill-refused}
+use Rattle.tables.specs.Checks.{first_row, Limits, Arrays, arrays_by}
+use Rattle.tables.specs.Tables.{Table, record_of, prints_of, parents_of, codes_of, filled_to, index_to, table, refusal, left, build_rows, build_of}
+use Rattle.tables.specs.Tables.{look_rows_of, filled_index, filled, not_filled, fill_left, fill_of}
+use Rattle.tables.proofs.FromBuild.{build_refusal, build_fills}
+use Rattle.tables.proofs.Asked.{fill_passed, fill_refused}
 
 module _ (mode : Mode) (l : Limits) (a : Arrays) where
   -- a row refuses
-  pub refused-build : {r : Refusal} → Refuses r (firstRow (buildRows l a)) → left (refusal (number_of r) (position_of r)) a ≡ buildOf mode l a
-  refused-build x = ap (λ (z : Reason). left (refusal z.number z.position) a) x.told ∙ sym (build-refusal mode l a _ x.some refl)
+  pub refused_build : {r : Refusal} → Refuses r (first_row (build_rows l a)) → left (refusal (number_of r) (position_of r)) a ≡ build_of mode l a
+  refused_build x = ap (λ (z : Reason). left (refusal z.number z.position) a) x.told ∙ sym (build_refusal mode l a _ x.some refl)
 
   -- none: the record, the three arrays filled up to Q, and the index
-  pub passed-build : firstRow (buildRows l a) ≡ 0 → (t : Table) (f u c i : List ℕ) → t ≡ recordOf mode l
-      → f ≡ filledTo (printsOf mode l) l.entries l.qubits a.prints
-      → u ≡ filledTo (parentsOf mode l) l.entries l.qubits a.parents
-      → c ≡ filledTo (codes_of mode l) l.entries l.qubits a.codes
-      → i ≡ indexTo mode l a.by l.qubits a.index
-      → left (table t) (arraysBy a.by f u c i) ≡ buildOf mode l a
-  passed-build e t f u c i et ef eu ec ei = rw (et, ef, eu, ec, ei) (sym (build-fills mode l a e))
+  pub passed_build : first_row (build_rows l a) ≡ 0 → (t : Table) (f u c i : List ℕ) → t ≡ record_of mode l
+      → f ≡ filled_to (prints_of mode l) l.entries l.qubits a.prints
+      → u ≡ filled_to (parents_of mode l) l.entries l.qubits a.parents
+      → c ≡ filled_to (codes_of mode l) l.entries l.qubits a.codes
+      → i ≡ index_to mode l a.by l.qubits a.index
+      → left (table t) (arrays_by a.by f u c i) ≡ build_of mode l a
+  passed_build e t f u c i et ef eu ec ei = rw (et, ef, eu, ec, ei) (sym (build_fills mode l a e))
 
 -- ---- a fill
 
 module _ (t : Table) (f u c i : List ℕ) where
-  pub refused-fill : {r : Refusal} → Refuses r (firstRow (lookRowsOf t indexed (arraysBy indexed f u c i)))
-      → fillLeft (not-filled (number_of r) (position_of r)) i ≡ fillOf t (arraysBy indexed f u c i)
-  refused-fill x =
-      ap (λ (z : Reason). fillLeft (not-filled z.number z.position) i) x.told ∙ sym (fill-refused t (arraysBy indexed f u c i) _ x.some refl)
+  pub refused_fill : {r : Refusal} → Refuses r (first_row (look_rows_of t indexed (arrays_by indexed f u c i)))
+      → fill_left (not_filled (number_of r) (position_of r)) i ≡ fill_of t (arrays_by indexed f u c i)
+  refused_fill x =
+      ap (λ (z : Reason). fill_left (not_filled z.number z.position) i) x.told ∙ sym (fill_refused t (arrays_by indexed f u c i) _ x.some refl)
 
   -- the parents and codes play no part in what is left
-  pub passed-fill : firstRow (lookRowsOf t indexed (arraysBy indexed f u c i)) ≡ 0 → {i' : List ℕ} → i' ≡ filledIndex t (arraysBy indexed f [] [] i)
-      → fillLeft filled i' ≡ fillOf t (arraysBy indexed f u c i)
-  unfolding filledIndex
-  passed-fill e h = ap (fillLeft filled) h ∙ sym (fill-passed t (arraysBy indexed f u c i) e)
+  pub passed_fill : first_row (look_rows_of t indexed (arrays_by indexed f u c i)) ≡ 0 → {i' : List ℕ} → i' ≡ filled_index t (arrays_by indexed f [] [] i)
+      → fill_left filled i' ≡ fill_of t (arrays_by indexed f u c i)
+  unfolding filled_index
+  passed_fill e h = ap (fill_left filled) h ∙ sym (fill_passed t (arrays_by indexed f u c i) e)

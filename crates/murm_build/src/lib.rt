@@ -1,13 +1,15 @@
 // A table is built, and its index filled: murm.rs of the original, `Murm::build`. The rows come first, then the widths
 // one by one (murm_widths): what a refusal must not change is decided here, and nowhere below.
+#![tactic(auto)]
+
 ghost use Rattle.std.specs.Prelude.{◌≡◌};
 ghost use Rattle.walk.specs.Index.{indexed};
-ghost use Rattle.tables.specs.Checks.{arraysBy};
-ghost use Rattle.tables.specs.Tables.{left, buildOf, fillLeft, fillOf};
-ghost use Rattle.index.specs.Told.{toldBy};
-ghost use Rattle.known.specs.Known.{toldMode};
-ghost use Rattle.murm_config.specs.Told.{toldConfig, toldMurm};
-ghost use Rattle.murm_build.specs.Entries.{toldBuilding, toldFilling};
+ghost use Rattle.tables.specs.Checks.{arrays_by};
+ghost use Rattle.tables.specs.Tables.{left, build_of, fill_left, fill_of};
+ghost use Rattle.index.specs.Told.{told_by};
+ghost use Rattle.known.specs.Known.{told_mode};
+ghost use Rattle.murm_config.specs.Told.{told_config, told_murm};
+ghost use Rattle.murm_build.specs.Entries.{told_building, told_filling};
 
 use index::LookupBy;
 use known::BuildMode;
@@ -33,10 +35,10 @@ pub fn build_by(
     codes: &mut [u32],
     index: &mut [u32],
 ) -> Building
-    ensures { left (toldBuilding result)
-        (arraysBy (toldBy by) fingerprints.new parents.new codes.new index.new)
-        ≡ buildOf (toldMode mode) (toldConfig config)
-        (arraysBy (toldBy by) fingerprints.old parents.old codes.old index.old) }
+    ensures { left (told_building result)
+        (arrays_by (told_by by) fingerprints.new parents.new codes.new index.new)
+        ≡ build_of (told_mode mode) (told_config config)
+        (arrays_by (told_by by) fingerprints.old parents.old codes.old index.old) }
 {
     match murm_config::check_build(
         by,
@@ -78,8 +80,8 @@ pub fn fill_index(
     codes: &[u32],
     index: &mut [u32],
 ) -> Filling
-    ensures { fillLeft (toldFilling result) index.new ≡ fillOf (toldMurm table)
-        (arraysBy indexed fingerprints.now parents.now codes.now index.old) }
+    ensures { fill_left (told_filling result) index.new ≡ fill_of (told_murm table)
+        (arrays_by indexed fingerprints.now parents.now codes.now index.old) }
 {
     match murm_config::check_look(
         LookupBy::Index,

@@ -1,14 +1,16 @@
 // The entries for lists and for answers as C functions on numbers and slices (SPECIFICATION, chapter 14). A slice
 // passes as a pointer and then its length; include/murm.h declares both.
+#![tactic(auto)]
+
 ghost use Rattle.std.specs.Prelude.{◌≡◌, ◌≤◌};
 ghost use Rattle.refusal.specs.Told.{number_of, position_of};
-ghost use Rattle.tables.specs.Checks.{limitsOf, arrays};
+ghost use Rattle.tables.specs.Checks.{limits_of, arrays};
 ghost use Rattle.tables.specs.Lists.{listed};
 ghost use Rattle.tables.specs.Tables.{query, synthesized};
-ghost use Rattle.murm_config.specs.Told.{toldWidth, toldMurm};
-ghost use Rattle.murm_lists.specs.Entries.{toldListed};
-ghost use Rattle.murm_find.specs.Entries.{toldSynthesized};
-ghost use Rattle.murm_c.specs.Numbers.{capped, refusalNumber, listNumber, replyNumber, counted, countsTable};
+ghost use Rattle.murm_config.specs.Told.{told_width, told_murm};
+ghost use Rattle.murm_lists.specs.Entries.{told_listed};
+ghost use Rattle.murm_find.specs.Entries.{told_synthesized};
+ghost use Rattle.murm_c.specs.Numbers.{capped, refusal_number, list_number, reply_number, counted, counts_table};
 
 use circuit::GateSet;
 use cyclotomic::Coefficient;
@@ -33,7 +35,7 @@ fn cap(position: u64) -> u64
 
 // Refusal × 2^32 + position.
 pub fn refusal_number(why: Refusal) -> u64
-    ensures { result ≡ refusalNumber (number_of why) (position_of why) }
+    ensures { result ≡ refusal_number (number_of why) (position_of why) }
 {
     let told = refusal::number_of(why);
     told.0 * STEP + cap(told.1)
@@ -41,7 +43,7 @@ pub fn refusal_number(why: Refusal) -> u64
 
 // What a list became: the exponent, or why it was refused.
 fn list_number(told: Listed) -> u64
-    ensures { result ≡ listNumber (toldListed told) }
+    ensures { result ≡ list_number (told_listed told) }
 {
     match told {
         Listed::Matrix(k) => k as u64,
@@ -51,7 +53,7 @@ fn list_number(told: Listed) -> u64
 
 // What a table answers: the gate count, 4294967295 for none, or why it was refused.
 pub fn reply_number(told: Synthesized) -> u64
-    ensures { result ≡ replyNumber (toldSynthesized told) }
+    ensures { result ≡ reply_number (told_synthesized told) }
 {
     match told {
         Synthesized::Circuit(m) => m as u64,
@@ -62,7 +64,7 @@ pub fn reply_number(told: Synthesized) -> u64
 
 // A width's row by its count alone: no answer reads the rest.
 fn counted_row(count: usize) -> WidthTable
-    ensures { toldWidth result ≡ counted count }
+    ensures { told_width result ≡ counted count }
 {
     WidthTable {
         count,
@@ -83,7 +85,7 @@ pub fn counts_table(
     count4: usize,
     count5: usize,
 ) -> Murm
-    ensures { toldMurm result ≡ countsTable (limitsOf q g e b) count1 count2 count3 count4 count5 }
+    ensures { told_murm result ≡ counts_table (limits_of q g e b) count1 count2 count3 count4 count5 }
 {
     let config = MurmConfig {
         max_qubits: q,
@@ -113,7 +115,7 @@ pub extern "C" fn murm_library_circuit_matrix(
     codes: &[u32],
     out: &mut [Coefficient],
 ) -> u64
-    ensures number { result ≡ listNumber (listed width codes.now out.old).answer }
+    ensures number { result ≡ list_number (listed width codes.now out.old).answer }
     ensures places { out.new ≡ (listed width codes.now out.old).numbers }
 {
     list_number(murm::library_circuit_matrix(width, codes, out))
@@ -139,10 +141,10 @@ pub extern "C" fn murm_synthesize(
     matrix: &[Coefficient],
     out: &mut [u32],
 ) -> u64
-    ensures number { result ≡ replyNumber (synthesized (countsTable (limitsOf q g e b) count1 count2 count3 count4 count5)
+    ensures number { result ≡ reply_number (synthesized (counts_table (limits_of q g e b) count1 count2 count3 count4 count5)
         (arrays fingerprints.now parents.now codes.now)
         (query width exponent matrix.now) out.old).reply }
-    ensures places { out.new ≡ (synthesized (countsTable (limitsOf q g e b) count1 count2 count3 count4 count5)
+    ensures places { out.new ≡ (synthesized (counts_table (limits_of q g e b) count1 count2 count3 count4 count5)
         (arrays fingerprints.now parents.now codes.now)
         (query width exponent matrix.now) out.old).list }
 {

@@ -1,13 +1,15 @@
 // The record of a table, murm.rs of the original, `Murm`, whose nodes are in three lent arrays: its rows by width, and
 // the rows 13, 5, 17, 16, 12 that stand before whatever is asked of it. Its limits, and what these alone decide, are in
 // murm_limits.
+#![tactic(auto)]
+
 ghost use Rattle.std.specs.Prelude.{◌≡◌, ◌++◌, ◌<◌, ◌≤◌};
-ghost use Rattle.tables.specs.Checks.{firstRow};
-ghost use Rattle.tables.specs.Tables.{allWidths, width_at, badCount, recordRow, tableRows, lookRows, countAt, nodeRows};
+ghost use Rattle.tables.specs.Checks.{first_row};
+ghost use Rattle.tables.specs.Tables.{all_widths, width_at, bad_count, record_row, table_rows, look_rows, count_at, node_rows};
 ghost use Rattle.walk.specs.Walk.{any};
-ghost use Rattle.refusal.specs.Told.{byRow, toldCheck};
-ghost use Rattle.index.specs.Told.{toldBy};
-ghost use Rattle.murm_config.specs.Told.{toldConfig, toldWidth, toldMurm, withWidth, emptyOf};
+ghost use Rattle.refusal.specs.Told.{by_row, told_check};
+ghost use Rattle.index.specs.Told.{told_by};
+ghost use Rattle.murm_config.specs.Told.{told_config, told_width, told_murm, with_width, empty_of};
 
 use index::LookupBy;
 pub use murm_limits::{MurmConfig, check_build};
@@ -28,7 +30,7 @@ pub struct Murm {
 
 // A width's row of the record; for another number that of a width that was not built.
 pub fn width_table(table: Murm, width: u32) -> WidthTable
-    ensures { toldWidth result ≡ width_at (toldMurm table) width }
+    ensures { told_width result ≡ width_at (told_murm table) width }
 {
     match width {
         1 => table.width1,
@@ -46,7 +48,7 @@ pub fn width_table(table: Murm, width: u32) -> WidthTable
 
 // The same of any width.
 fn bad_counts(table: Murm) -> bool
-    ensures { result ≡ any (badCount (toldMurm table)) allWidths }
+    ensures { result ≡ any (bad_count (told_murm table)) all_widths }
 {
     let q = table.config.max_qubits;
     let e = table.config.max_entries_per_qubit;
@@ -67,7 +69,7 @@ fn bad_counts(table: Murm) -> bool
 
 // Row 13 of the record: whether one of the rows 1 to 4 refuses its limits, or a count is bad (SPECIFICATION 9.3).
 pub fn bad_record(table: Murm) -> bool
-    ensures { result ≡ (recordRow (toldMurm table)).holds }
+    ensures { result ≡ (record_row (told_murm table)).holds }
 {
     match murm_limits::limits(table.config) {
         Check::Passed => bad_counts(table),
@@ -77,7 +79,7 @@ pub fn bad_record(table: Murm) -> bool
 
 // Whether a table with arrays of these lengths may be asked; else 13 of the record or 5 (SPECIFICATION 9.2).
 pub fn check_table(table: Murm, prints: usize, parents: usize, codes: usize) -> Check
-    ensures { toldCheck result ≡ byRow (firstRow (tableRows (toldMurm table) prints parents codes)) }
+    ensures { told_check result ≡ by_row (first_row (table_rows (told_murm table) prints parents codes)) }
 {
     if bad_record(table) {
         return Check::Refused(Refusal::BadTable);
@@ -99,7 +101,7 @@ pub fn check_look(
     places: usize,
 ) -> Check
     requires { places < 2305843009213693952 }
-    ensures { toldCheck result ≡ byRow (firstRow (lookRows (toldMurm table) (toldBy by) prints parents codes places)) }
+    ensures { told_check result ≡ by_row (first_row (look_rows (told_murm table) (told_by by) prints parents codes places)) }
 {
     match check_table(table, prints, parents, codes) {
         Check::Passed => {
@@ -115,7 +117,7 @@ pub fn check_look(
 // How many entries a width has: none where the table does not have the width, whatever the record says (SPECIFICATION
 // 7.3).
 pub fn count_at(table: Murm, width: u32) -> usize
-    ensures { result ≡ countAt (toldMurm table) width }
+    ensures { result ≡ count_at (told_murm table) width }
 {
     if width > table.config.max_qubits {
         return 0;
@@ -125,7 +127,7 @@ pub fn count_at(table: Murm, width: u32) -> usize
 
 // Whether a width has the node, and a list of so many places room for the longest; else 16 or 12.
 fn check_node(table: Murm, width: u32, node: usize, room: usize) -> Check
-    ensures { toldCheck result ≡ byRow (firstRow (nodeRows (toldMurm table) width node room)) }
+    ensures { told_check result ≡ by_row (first_row (node_rows (told_murm table) width node room)) }
 {
     if node >= count_at(table, width) {
         return Check::Refused(Refusal::NoSuchNode);
@@ -146,7 +148,7 @@ pub fn check_write(
     node: usize,
     room: usize,
 ) -> Check
-    ensures { toldCheck result ≡ byRow (firstRow (tableRows (toldMurm table) prints parents codes ++ nodeRows (toldMurm table) width node room)) }
+    ensures { told_check result ≡ by_row (first_row (table_rows (told_murm table) prints parents codes ++ node_rows (told_murm table) width node room)) }
 {
     match check_table(table, prints, parents, codes) {
         Check::Passed => check_node(table, width, node, room),
@@ -156,7 +158,7 @@ pub fn check_write(
 
 // The record before any width is built.
 pub fn empty(config: MurmConfig) -> Murm
-    ensures { toldMurm result ≡ emptyOf (toldConfig config) }
+    ensures { told_murm result ≡ empty_of (told_config config) }
 {
     let none = WidthTable {
         count: 0,
@@ -176,7 +178,7 @@ pub fn empty(config: MurmConfig) -> Murm
 // The record with another row for a width from 1 to 5.
 pub fn with_width(table: Murm, width: u32, row: WidthTable) -> Murm
     requires { (0 < width) × (width ≤ 5) }
-    ensures { toldMurm result ≡ withWidth (toldMurm table) width (toldWidth row) }
+    ensures { told_murm result ≡ with_width (told_murm table) width (told_width row) }
 {
     let mut new = table;
     match width {

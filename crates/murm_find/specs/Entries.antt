@@ -5,18 +5,18 @@ use Rattle.ints.specs.Lists.{pick}
 use Rattle.walk.specs.Answers.{Reply}
 use Rattle.walk.specs.Answers as a
 use Rattle.tables.specs.Checks.{Arrays}
-use Rattle.tables.specs.Tables.{Table, Query, listRow}
-use Rattle.tables.proofs.Asked.{partAsked}
+use Rattle.tables.specs.Tables.{Table, Query, list_row}
+use Rattle.tables.proofs.Asked.{part_asked}
 use Rattle.refusal.specs.Told.{number_of, position_of}
 use Rattle.murm_find.specs.declared.Synthesized.{Synthesized}
 use Rattle.murm_find.specs.declared.Synthesized.TheVariants as s
 
 -- an answer to a query, as the definitions have it
-abbrev pub toldSynthesized : Synthesized → Reply
-toldSynthesized (s.Circuit m) = a.given m
-toldSynthesized s.Nothing = a.none
-toldSynthesized (s.Refused r) = a.refused (number_of r) (position_of r)
+abbrev pub told_synthesized : Synthesized → Reply
+told_synthesized (s.Circuit m) = a.given m
+told_synthesized s.Nothing = a.none
+told_synthesized (s.Refused r) = a.refused (number_of r) (position_of r)
 
 -- what is answered to a query that row 13 of the record and rows 5 to 11 do not refuse
 abbrev pub asked_of : Table → Arrays → Query → List ℕ → a.Outcome
-asked_of t m q out = pick (listRow t out).holds (a.outcome (a.refused 12 0) out) (partAsked t m q out)
+asked_of t m q out = pick (list_row t out).holds (a.outcome (a.refused 12 0) out) (part_asked t m q out)

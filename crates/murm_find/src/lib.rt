@@ -2,17 +2,19 @@
 // the list found. Whatever looks a matrix up in a table uses `check_find`, then `find_any`, which takes the limits and
 // the width's count, not the record. These stand below the entries, so that the entries of later requests have them,
 // and above the search of a width's part, so that an edit of one is proved without the other.
+#![tactic(auto)]
+
 ghost use Rattle.std.specs.Prelude.{◌≡◌, false, ◌≤◌, ◌<◌, length};
 ghost use Rattle.exact.proofs.Words.{AllSmall};
 ghost use Rattle.exact.specs.Places.{read};
 ghost use Rattle.walk.specs.Answers.{outcome as replied};
-ghost use Rattle.node_answer.specs.Answers.{toldFind};
-ghost use Rattle.tables.specs.Checks.{firstRow, queryRows, arrays, arraysBy, roomRow};
-ghost use Rattle.tables.specs.Tables.{query, recordRow};
-ghost use Rattle.index.specs.Told.{toldBy};
-ghost use Rattle.refusal.specs.Told.{toldCheck};
-ghost use Rattle.murm_config.specs.Told.{toldConfig, toldMurm};
-ghost use Rattle.murm_find.specs.Entries.{asked_of, toldSynthesized};
+ghost use Rattle.node_answer.specs.Answers.{told_find};
+ghost use Rattle.tables.specs.Checks.{first_row, query_rows, arrays, arrays_by, room_row};
+ghost use Rattle.tables.specs.Tables.{query, record_row};
+ghost use Rattle.index.specs.Told.{told_by};
+ghost use Rattle.refusal.specs.Told.{told_check};
+ghost use Rattle.murm_config.specs.Told.{told_config, told_murm};
+ghost use Rattle.murm_find.specs.Entries.{asked_of, told_synthesized};
 ghost use Rattle.murm_find.specs.Work.{FindChecked};
 ghost use Rattle.murm_part.specs.Work.{Counted, FoundFor};
 
@@ -36,7 +38,7 @@ pub fn check_find(
     matrix: &[Coefficient],
 ) -> Check
     requires { places < 2305843009213693952 }
-    ensures { FindChecked (toldMurm table) (toldBy by) prints parents codes places width exponent matrix.now (toldCheck result) }
+    ensures { FindChecked (told_murm table) (told_by by) prints parents codes places width exponent matrix.now (told_check result) }
 {
     match murm_config::check_look(by, table, prints, parents, codes, places) {
         Check::Passed => murm_query::check_query(width, exponent, matrix),
@@ -60,12 +62,12 @@ pub fn find_any(
     matrix: &[Coefficient],
     list: &mut [u32],
 ) -> Find
-    requires counted { Counted (toldConfig config) width count }
-    requires codes_value { (roomRow (toldConfig config) (arrays fingerprints.now parents.now codes.now)).holds ≡ false }
-    requires matrix_value { (firstRow (queryRows width exponent matrix.now) ≡ 0) × AllSmall width (read width matrix.now) × (64 ≤ length list.old) }
-    ensures { FoundFor (toldConfig config) count
-        (arraysBy (toldBy by) fingerprints.now parents.now codes.now index.now)
-        (query width exponent matrix.now) (toldFind result) list.new }
+    requires counted { Counted (told_config config) width count }
+    requires codes_value { (room_row (told_config config) (arrays fingerprints.now parents.now codes.now)).holds ≡ false }
+    requires matrix_value { (first_row (query_rows width exponent matrix.now) ≡ 0) × AllSmall width (read width matrix.now) × (64 ≤ length list.old) }
+    ensures { FoundFor (told_config config) count
+        (arrays_by (told_by by) fingerprints.now parents.now codes.now index.now)
+        (query width exponent matrix.now) (told_find result) list.new }
 {
     if count == 0 {
         return Find::Nothing;
@@ -111,11 +113,11 @@ pub fn ask(
     matrix: &[Coefficient],
     out: &mut [u32],
 ) -> Synthesized
-    requires table_value { (recordRow (toldMurm table)).holds ≡ false }
-    requires codes_value { (roomRow (toldConfig table.config) (arrays fingerprints.now parents.now codes.now)).holds ≡ false }
-    requires matrix_value { (firstRow (queryRows width exponent matrix.now) ≡ 0) × AllSmall width (read width matrix.now) }
-    ensures { replied (toldSynthesized result) out.new ≡ asked_of (toldMurm table)
-        (arraysBy (toldBy by) fingerprints.now parents.now codes.now index.now)
+    requires table_value { (record_row (told_murm table)).holds ≡ false }
+    requires codes_value { (room_row (told_config table.config) (arrays fingerprints.now parents.now codes.now)).holds ≡ false }
+    requires matrix_value { (first_row (query_rows width exponent matrix.now) ≡ 0) × AllSmall width (read width matrix.now) }
+    ensures { replied (told_synthesized result) out.new ≡ asked_of (told_murm table)
+        (arrays_by (told_by by) fingerprints.now parents.now codes.now index.now)
         (query width exponent matrix.now) out.old }
 {
     if out.len() < table.config.max_gates as usize {

@@ -3,38 +3,38 @@ use mathlib.Core.Path.{◌≡◌, refl, sym, ap, ◌∙◌}
 use mathlib.Core.Bool.{true, false}
 use mathlib.Core.List.{List, [], ◌∷◌, ◌++◌}
 use Prim.Native.Nat.{ℕ}
-use Rattle.refusal.specs.Told.{Reason, byRow, toldRefusal, toldCheck}
+use Rattle.refusal.specs.Told.{Reason, by_row, told_refusal, told_check}
 use Rattle.refusal.specs.declared.Refusal.{Refusal}
 use Rattle.refusal.specs.declared.Check.{Check}
 use Rattle.refusal.specs.declared.Check.TheVariants as check
 use Rattle.refusal.proofs.Numbers as n
 use Rattle.walk.specs.Index.{By}
-use Rattle.tables.specs.Checks.{Row, firstRow, Limits, tooShort, shortRow, indexRow}
-use Rattle.tables.proofs.Rows.{Numbered, index_number, first-here, first_past, first-last, first_some, firstRow-append}
+use Rattle.tables.specs.Checks.{Row, first_row, Limits, too_short, short_row, index_row}
+use Rattle.tables.proofs.Rows.{Numbered, index_number, first_here, first_past, first_last, first_some, first_row_append}
 
 -- ---- rows after others, which a check has tried
 
-module _ (rs ss : List Row) (numbered : Numbered rs) {x : Check} (e : toldCheck x ≡ byRow (firstRow rs)) where
-  pub later_rows : x ≡ check.Passed → {r : Reason} → r ≡ byRow (firstRow ss) → r ≡ byRow (firstRow (rs ++ ss))
-  later_rows h g = g ∙ ap byRow (sym (firstRow-append rs ss numbered (n.passed e h)))
+module _ (rs ss : List Row) (numbered : Numbered rs) {x : Check} (e : told_check x ≡ by_row (first_row rs)) where
+  pub later_rows : x ≡ check.Passed → {r : Reason} → r ≡ by_row (first_row ss) → r ≡ by_row (first_row (rs ++ ss))
+  later_rows h g = g ∙ ap by_row (sym (first_row_append rs ss numbered (n.passed e h)))
 
-  pub first-refuses : {r : Refusal} → x ≡ check.Refused r → toldRefusal r ≡ byRow (firstRow (rs ++ ss))
-  first-refuses h = let w = n.refused e h in w.told ∙ ap byRow (sym (first_some rs ss _ w.some refl))
+  pub first_refuses : {r : Refusal} → x ≡ check.Refused r → told_refusal r ≡ by_row (first_row (rs ++ ss))
+  first_refuses h = let w = n.refused e h in w.told ∙ ap by_row (sym (first_some rs ss _ w.some refl))
 
 -- ---- row 17, the last of its rows
 
 module _ (l : Limits) (by : By) (places : ℕ) where
-  pub index-refuses : (indexRow l by places).holds ≡ true → 17 ≡ firstRow (indexRow l by places ∷ [])
-  index-refuses e = sym (first-here _ _ e ∙ index_number l by places)
+  pub index_refuses : (index_row l by places).holds ≡ true → 17 ≡ first_row (index_row l by places ∷ [])
+  index_refuses e = sym (first_here _ _ e ∙ index_number l by places)
 
-  pub index-passes : (indexRow l by places).holds ≡ false → 0 ≡ firstRow (indexRow l by places ∷ [])
-  index-passes e = sym (first-last _ e)
+  pub index_passes : (index_row l by places).holds ≡ false → 0 ≡ first_row (index_row l by places ∷ [])
+  index_passes e = sym (first_last _ e)
 
 -- ---- row 5, then 17
 
 module _ (l : Limits) (by : By) (f u c places : ℕ) where
-  pub arrays-short : tooShort l f u c ≡ true → 5 ≡ firstRow (shortRow l f u c ∷ indexRow l by places ∷ [])
-  arrays-short h = sym (first-here _ _ h)
+  pub arrays_short : too_short l f u c ≡ true → 5 ≡ first_row (short_row l f u c ∷ index_row l by places ∷ [])
+  arrays_short h = sym (first_here _ _ h)
 
-  pub arrays-long : tooShort l f u c ≡ false → {r : ℕ} → r ≡ firstRow (indexRow l by places ∷ []) → r ≡ firstRow (shortRow l f u c ∷ indexRow l by places ∷ [])
-  arrays-long h g = g ∙ sym (first_past _ _ h)
+  pub arrays_long : too_short l f u c ≡ false → {r : ℕ} → r ≡ first_row (index_row l by places ∷ []) → r ≡ first_row (short_row l f u c ∷ index_row l by places ∷ [])
+  arrays_long h g = g ∙ sym (first_past _ _ h)

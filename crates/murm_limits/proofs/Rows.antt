@@ -5,43 +5,43 @@ use Prim.Native.Nat.{◌≤◌, ◌<◌}
 use borrow.Author.Tests.{lt-ltb, le-ltb, eq-eqb, ne_eqb}
 use lib.Dec.{eqb}
 use Rattle.circuit.specs.Sets.{subset, supported}
-use Rattle.tables.specs.Checks.{Limits, firstRow, limitRows}
+use Rattle.tables.specs.Checks.{Limits, first_row, limit_rows}
 
 module _ (l : Limits) where
-  pub no-width : l.qubits ≡ 0 → 1 ≡ firstRow (limitRows l)
-  unfolding firstRow
-  no-width e = rw (eq-eqb l.qubits 0 e)
+  pub no_width : l.qubits ≡ 0 → 1 ≡ first_row (limit_rows l)
+  unfolding first_row
+  no_width e = rw (eq-eqb l.qubits 0 e)
 
   module _ (some : l.qubits ≡ 0 → ⊥) where
-    pub wide : 5 < l.qubits → 1 ≡ firstRow (limitRows l)
-    unfolding firstRow
+    pub wide : 5 < l.qubits → 1 ≡ first_row (limit_rows l)
+    unfolding first_row
     wide h = rw (ne_eqb l.qubits 0 some, lt-ltb 5 l.qubits h)
 
     module _ (few : l.qubits ≤ 5) where
-      pub no-entries : l.entries ≡ 0 → 2 ≡ firstRow (limitRows l)
-      unfolding firstRow
-      no-entries e = rw (ne_eqb l.qubits 0 some, le-ltb 5 l.qubits few, eq-eqb l.entries 0 e)
+      pub no_entries : l.entries ≡ 0 → 2 ≡ first_row (limit_rows l)
+      unfolding first_row
+      no_entries e = rw (ne_eqb l.qubits 0 some, le-ltb 5 l.qubits few, eq-eqb l.entries 0 e)
 
       module _ (entries : l.entries ≡ 0 → ⊥) where
-        pub no-basis : eqb l.basis 0 ≡ true → 3 ≡ firstRow (limitRows l)
-        unfolding firstRow
-        no-basis e = rw (ne_eqb l.qubits 0 some, le-ltb 5 l.qubits few, ne_eqb l.entries 0 entries, e)
+        pub no_basis : eqb l.basis 0 ≡ true → 3 ≡ first_row (limit_rows l)
+        unfolding first_row
+        no_basis e = rw (ne_eqb l.qubits 0 some, le-ltb 5 l.qubits few, ne_eqb l.entries 0 entries, e)
 
         module _ (basis : eqb l.basis 0 ≡ false) where
-          pub not-supported : subset l.basis supported ≡ false → 3 ≡ firstRow (limitRows l)
-          unfolding firstRow
-          not-supported e = rw (ne_eqb l.qubits 0 some, le-ltb 5 l.qubits few, ne_eqb l.entries 0 entries, basis, e)
+          pub not_supported : subset l.basis supported ≡ false → 3 ≡ first_row (limit_rows l)
+          unfolding first_row
+          not_supported e = rw (ne_eqb l.qubits 0 some, le-ltb 5 l.qubits few, ne_eqb l.entries 0 entries, basis, e)
 
           module _ (known : subset l.basis supported ≡ true) where
-            pub many-gates : 64 < l.gates → 4 ≡ firstRow (limitRows l)
-            unfolding firstRow
-            many-gates h =
+            pub many_gates : 64 < l.gates → 4 ≡ first_row (limit_rows l)
+            unfolding first_row
+            many_gates h =
                 rw (ne_eqb l.qubits 0 some, le-ltb 5 l.qubits few, ne_eqb l.entries 0 entries, basis, known, lt-ltb 64 l.gates h)
 
             module _ (gates : l.gates ≤ 64) where
-              pub many-entries : 1000000 < l.entries → 4 ≡ firstRow (limitRows l)
-              unfolding firstRow
-              many-entries h =
+              pub many_entries : 1000000 < l.entries → 4 ≡ first_row (limit_rows l)
+              unfolding first_row
+              many_entries h =
                   rw (
                     ne_eqb l.qubits 0 some,
                     le-ltb 5 l.qubits few,
@@ -52,8 +52,8 @@ module _ (l : Limits) where
                     lt-ltb 1000000 l.entries h,
                   )
 
-              pub accepted : l.entries ≤ 1000000 → 0 ≡ firstRow (limitRows l)
-              unfolding firstRow
+              pub accepted : l.entries ≤ 1000000 → 0 ≡ first_row (limit_rows l)
+              unfolding first_row
               accepted h =
                   rw (
                     ne_eqb l.qubits 0 some,

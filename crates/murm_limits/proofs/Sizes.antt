@@ -9,14 +9,14 @@ use lib.Arith.{digits_div, digits_mod}
 use lib.Bits.{bit_and, and_mask}
 use lib.Dec.{leb}
 use lib.Pow.{pow_pos}
-use Rattle.ints.proofs.Powers.{power-of-two}
+use Rattle.ints.proofs.Powers.{power_of_two}
 use Rattle.tables.specs.Checks.{Limits, in_parts}
 use Rattle.tables.specs.Exactly.{InParts}
-use Rattle.tables.proofs.InWords.{in-parts-from, not-in-parts}
+use Rattle.tables.proofs.InWords.{in_parts_from, not_in_parts}
 
 -- a power of two has no bit in common with the number before
-power-one : (k : ℕ) → bit_and (2 ^ k) (2 ^ k - 1) ≡ 0
-power-one k =
+power_one : (k : ℕ) → bit_and (2 ^ k) (2 ^ k - 1) ≡ 0
+power_one k =
     let e : 2 ^ k ≡ 1 * 2 ^ k + 0 = omega arith in
     and_mask (2 ^ k) k ∙ ap (λ (z : ℕ). z % 2 ^ k) e ∙ digits_mod 1 (pow_pos k)
 
@@ -37,13 +37,13 @@ module _ (l : Limits) (places : ℕ) (some : 0 < l.qubits) where
 
   -- some places are left over
   pub left_over : (l.qubits * (places / l.qubits) ≡ places → ⊥) → false ≡ in_parts l places
-  left_over h = sym (not-in-parts l places (λ p. h (ap (λ (z : ℕ). l.qubits * z) (only p) ∙ sym p.in_all)))
+  left_over h = sym (not_in_parts l places (λ p. h (ap (λ (z : ℕ). l.qubits * z) (only p) ∙ sym p.in_all)))
 
-  pub no-places : places / l.qubits ≡ 0 → false ≡ in_parts l places
-  no-places h = sym (not-in-parts l places (λ p. omega (arith, h, only p, pow_pos p.power)))
+  pub no_places : places / l.qubits ≡ 0 → false ≡ in_parts l places
+  no_places h = sym (not_in_parts l places (λ p. omega (arith, h, only p, pow_pos p.power)))
 
   pub no_power : (bit_and (places / l.qubits) (places / l.qubits - 1) ≡ 0 → ⊥) → false ≡ in_parts l places
-  no_power h = sym (not-in-parts l places (λ p. h (ap (λ (z : ℕ). bit_and z (z - 1)) (only p) ∙ power-one p.power)))
+  no_power h = sym (not_in_parts l places (λ p. h (ap (λ (z : ℕ). bit_and z (z - 1)) (only p) ∙ power_one p.power)))
 
   -- a power of two decides by how large it is
   pub parts : {size : ℕ} → size ≡ places / l.qubits → l.qubits * size ≡ places → 0 < size → bit_and size (size - 1) ≡ 0 → leb (2 * l.entries) size ≡ in_parts l places
@@ -51,11 +51,11 @@ module _ (l : Limits) (places : ℕ) (some : 0 < l.qubits) where
     where
       by : (b : Bool) → leb (2 * l.entries) size ≡ b → b ≡ in_parts l places
       by true t =
-          let (k, z) = power-of-two size h o in
-          sym (in-parts-from l places (record {
+          let (k, z) = power_of_two size h o in
+          sym (in_parts_from l places (record {
             some = omega (arith, one_of l.qubits size some, h, e);
             power = k;
             in_all = sym e ∙ ap (λ (w : ℕ). l.qubits * w) z;
             large = omega (arith, leb-true (2 * l.entries) size t, z);
           }))
-      by false t = sym (not-in-parts l places (λ p. omega (arith, leb-false (2 * l.entries) size t, p.large, s, only p)))
+      by false t = sym (not_in_parts l places (λ p. omega (arith, leb-false (2 * l.entries) size t, p.large, s, only p)))

@@ -1,12 +1,14 @@
 // The limits of a table: config.rs of the original, `MurmConfig`; and what they ask of lent memory, rows 1 to 5 and 17,
 // and of a width's count. No record is needed for these, so they stand below it, where an edit of a test is proved in
 // seconds.
+#![tactic(auto)]
+
 ghost use Rattle.std.specs.Prelude.{◌≡◌, [], ◌∷◌, ◌++◌, ◌<◌, ◌≤◌};
-ghost use Rattle.tables.specs.Checks.{firstRow, limitRows, tooShort, shortRow, in_parts, indexRow};
-ghost use Rattle.tables.specs.Tables.{badCountOf};
-ghost use Rattle.refusal.specs.Told.{byRow, toldCheck};
-ghost use Rattle.index.specs.Told.{toldBy};
-ghost use Rattle.murm_limits.specs.Told.{toldConfig};
+ghost use Rattle.tables.specs.Checks.{first_row, limit_rows, too_short, short_row, in_parts, index_row};
+ghost use Rattle.tables.specs.Tables.{bad_count_of};
+ghost use Rattle.refusal.specs.Told.{by_row, told_check};
+ghost use Rattle.index.specs.Told.{told_by};
+ghost use Rattle.murm_limits.specs.Told.{told_config};
 
 use circuit::GateSet;
 use index::LookupBy;
@@ -23,7 +25,7 @@ pub struct MurmConfig {
 
 // Whether the limits may be built with; else which of the rows 1 to 4 is the first to refuse them (SPECIFICATION 9.1).
 pub fn limits(config: MurmConfig) -> Check
-    ensures { toldCheck result ≡ byRow (firstRow (limitRows (toldConfig config))) }
+    ensures { told_check result ≡ by_row (first_row (limit_rows (told_config config))) }
 {
     if config.max_qubits == 0 {
         return Check::Refused(Refusal::WidthLimit);
@@ -53,7 +55,7 @@ pub fn limits(config: MurmConfig) -> Check
 // Row 5: whether one of three arrays of these lengths has fewer than Q × E places (SPECIFICATION 9.1).
 pub fn too_short(config: MurmConfig, prints: usize, parents: usize, codes: usize) -> bool
     requires { (config.max_qubits ≤ 5) × (config.max_entries_per_qubit ≤ 1000000) }
-    ensures { result ≡ tooShort (toldConfig config) prints parents codes }
+    ensures { result ≡ too_short (told_config config) prints parents codes }
 {
     let size = config.max_qubits as usize * config.max_entries_per_qubit as usize;
     if prints < size {
@@ -70,7 +72,7 @@ pub fn too_short(config: MurmConfig, prints: usize, parents: usize, codes: usize
 // above 0 has one. The bound is that of any slice of 32-bit places.
 fn in_parts(config: MurmConfig, places: usize) -> bool
     requires { (0 < config.max_qubits) × (config.max_qubits ≤ 5) × (config.max_entries_per_qubit ≤ 1000000) × (places < 2305843009213693952) }
-    ensures { result ≡ in_parts (toldConfig config) places }
+    ensures { result ≡ in_parts (told_config config) places }
 {
     let q = config.max_qubits as usize;
     let e = config.max_entries_per_qubit as usize;
@@ -92,7 +94,7 @@ fn in_parts(config: MurmConfig, places: usize) -> bool
 // (SPECIFICATION 9.1).
 pub fn bad_index(by: LookupBy, config: MurmConfig, places: usize) -> bool
     requires { (0 < config.max_qubits) × (config.max_qubits ≤ 5) × (config.max_entries_per_qubit ≤ 1000000) × (places < 2305843009213693952) }
-    ensures { result ≡ (indexRow (toldConfig config) (toldBy by) places).holds }
+    ensures { result ≡ (index_row (told_config config) (told_by by) places).holds }
 {
     match by {
         LookupBy::Scan => false,
@@ -111,8 +113,8 @@ pub fn check_build(
     places: usize,
 ) -> Check
     requires { places < 2305843009213693952 }
-    ensures { toldCheck result ≡ byRow (firstRow (limitRows (toldConfig config)
-        ++ (shortRow (toldConfig config) prints parents codes ∷ indexRow (toldConfig config) (toldBy by) places ∷ []))) }
+    ensures { told_check result ≡ by_row (first_row (limit_rows (told_config config)
+        ++ (short_row (told_config config) prints parents codes ∷ index_row (told_config config) (told_by by) places ∷ []))) }
 {
     match limits(config) {
         Check::Passed => {
@@ -130,7 +132,7 @@ pub fn check_build(
 
 // Whether a width up to Q has a count that is 0 or above E (SPECIFICATION 9.3).
 pub fn bad_count(width: u32, qubits: u32, entries: u32, count: usize) -> bool
-    ensures { result ≡ badCountOf qubits entries width count }
+    ensures { result ≡ bad_count_of qubits entries width count }
 {
     if width > qubits {
         return false;

@@ -5,6 +5,6 @@ use Rattle.refusal.specs.Told.{number_of, position_of}
 use Rattle.murm_lists.specs.declared.Listed.{Listed}
 use Rattle.murm_lists.specs.declared.Listed.TheVariants as l
 
-abbrev pub toldListed : Listed → Answer
-toldListed (l.Matrix k) = given k
-toldListed (l.Refused r) = refused (number_of r) (position_of r)
+abbrev pub told_listed : Listed → Answer
+told_listed (l.Matrix k) = given k
+told_listed (l.Refused r) = refused (number_of r) (position_of r)

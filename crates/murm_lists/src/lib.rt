@@ -1,8 +1,10 @@
 // A list of gates becomes a matrix (SPECIFICATION, chapter 4): murm.rs of the original, `library_circuit_matrix`. It
 // asks no table, so it stands apart from the entries that do: a change of a table's code leaves its proof.
+#![tactic(auto)]
+
 ghost use Rattle.std.specs.Prelude.{◌≡◌, length};
-ghost use Rattle.tables.specs.Lists.{firstInvalid, outcome, listed};
-ghost use Rattle.murm_lists.specs.Entries.{toldListed};
+ghost use Rattle.tables.specs.Lists.{first_invalid, outcome, listed};
+ghost use Rattle.murm_lists.specs.Entries.{told_listed};
 
 use circuit::LibraryGate;
 use cyclotomic::Coefficient;
@@ -18,7 +20,7 @@ pub enum Listed {
 
 // The position of the first code that is not valid at the width; the number of codes if all are.
 fn first_invalid(codes: &[u32], width: u32) -> usize
-    ensures { result ≡ firstInvalid width codes.now }
+    ensures { result ≡ first_invalid width codes.now }
 {
     let mut i = 0;
     while i < codes.len() {
@@ -45,7 +47,7 @@ fn copy_places(to: &mut [Coefficient], from: &[Coefficient])
 // A list becomes a matrix (SPECIFICATION, chapter 4): rows 6, 9, 7, 8. The lent places get the coefficients of the
 // list's product; a refusal leaves them as they were.
 pub fn library_circuit_matrix(width: u32, codes: &[u32], out: &mut [Coefficient]) -> Listed
-    ensures { outcome (toldListed result) out.new ≡ listed width codes.now out.old }
+    ensures { outcome (told_listed result) out.new ≡ listed width codes.now out.old }
 {
     if width > 5 {
         return Listed::Refused(Refusal::WidthTooLarge);

@@ -14,10 +14,10 @@ use Rattle.exact.specs.Places.{held}
 use Rattle.walk.specs.Index.{By}
 use Rattle.walk.specs.Finds.{WidthLimits, Finding}
 use Rattle.tables.specs.Checks.{Limits, Arrays, places_of}
-use Rattle.tables.specs.Tables.{Table, Query, width_at, recordRow, countAt}
-use Rattle.murm_part.specs.Work.{partFrom, Counted, FoundFor}
-use Rattle.tables.proofs.Accepted.{Accepted, record-limits}
-use Rattle.tables.proofs.Counts.{has_width, counted, record-count}
+use Rattle.tables.specs.Tables.{Table, Query, width_at, record_row, count_at}
+use Rattle.murm_part.specs.Work.{part_from, Counted, FoundFor}
+use Rattle.tables.proofs.Accepted.{Accepted, record_limits}
+use Rattle.tables.proofs.Counts.{has_width, counted, record_count}
 use Rattle.tables.proofs.Filled.{room_at}
 
 -- where the part of a width lies, and how many of its places are counted
@@ -49,21 +49,21 @@ module _ (l : Limits) (w count : ℕ) where
       }
 
   -- a width with entries is one from 1 to Q
-  pub counted-part : Counted l w count → 0 < count → PartBounds l w count
-  counted-part c h = let (p, q) = c.has h in bounds c.good c.few p q
+  pub counted_part : Counted l w count → 0 < count → PartBounds l w count
+  counted_part c h = let (p, q) = c.has h in bounds c.good c.few p q
 
-module _ (t : Table) (w : ℕ) (r : (recordRow t).holds ≡ false) where
+module _ (t : Table) (w : ℕ) (r : (record_row t).holds ≡ false) where
   -- a width that the table has, with its row's count
   pub part : 0 < w → w ≤ t.limits.qubits → PartBounds t.limits w (width_at t w).count
   part p q =
-      let e : countAt t w ≡ (width_at t w).count = rw (has_width t w p q) in
-      bounds t.limits w _ (record-limits t r) (omega (arith, record-count t w r, e)) p q
+      let e : count_at t w ≡ (width_at t w).count = rw (has_width t w p q) in
+      bounds t.limits w _ (record_limits t r) (omega (arith, record_count t w r, e)) p q
 
   -- what the table counts, of any width
-  pub record-counted : {count : ℕ} → count ≡ countAt t w → Counted t.limits w count
-  record-counted e = record {
-    good = record-limits t r;
-    few = omega (arith, e, record-count t w r);
+  pub record_counted : {count : ℕ} → count ≡ count_at t w → Counted t.limits w count
+  record_counted e = record {
+    good = record_limits t r;
+    few = omega (arith, e, record_count t w r);
     has = λ h. let (p, q, z) = counted t w {k = 0} (omega (arith, h, e)) in (p, q);
   }
 
@@ -74,13 +74,13 @@ pub whole : (xs : List ℤ) → take (length xs - 0) (drop 0 xs) ≡ xs
 whole xs = take_all (length xs - 0) xs (omega arith)
 
 module _ (limits : WidthLimits) (n k : ℕ) (numbers : List ℤ) (by : By) (start entries place size : ℕ) (f u c i : List ℕ) {g : Finding} {list : List ℕ} where
-  pub same-slices : {m j count : ℕ} → m ≡ entries → j ≡ size
-      → ListFound limits (partFrom by start m count place j f u c i) (held n k (take (length numbers - 0) (drop 0 numbers))) g list
-      → ListFound limits (partFrom by start entries count place size f u c i) (held n k numbers) g list
-  same-slices {m} {j} {count} e h w =
-      subst (λ (l : List ℤ). ListFound limits (partFrom by start entries count place size f u c i) (held n k l) g list) (whole numbers)
-      (subst (λ (z : ℕ). ListFound limits (partFrom by start entries count place z f u c i) (held n k (take (length numbers - 0) (drop 0 numbers))) g list) h
-      (subst (λ (z : ℕ). ListFound limits (partFrom by start z count place j f u c i) (held n k (take (length numbers - 0) (drop 0 numbers))) g list) e w))
+  pub same_slices : {m j count : ℕ} → m ≡ entries → j ≡ size
+      → ListFound limits (part_from by start m count place j f u c i) (held n k (take (length numbers - 0) (drop 0 numbers))) g list
+      → ListFound limits (part_from by start entries count place size f u c i) (held n k numbers) g list
+  same_slices {m} {j} {count} e h w =
+      subst (λ (l : List ℤ). ListFound limits (part_from by start entries count place size f u c i) (held n k l) g list) (whole numbers)
+      (subst (λ (z : ℕ). ListFound limits (part_from by start entries count place z f u c i) (held n k (take (length numbers - 0) (drop 0 numbers))) g list) h
+      (subst (λ (z : ℕ). ListFound limits (part_from by start z count place j f u c i) (held n k (take (length numbers - 0) (drop 0 numbers))) g list) e w))
 
 -- with the count that the table has
 pub same_count : (l : Limits) (a : Arrays) (q : Query) {g : Finding} {list : List ℕ} {count m : ℕ} → count ≡ m → FoundFor l count a q g list → FoundFor l m a q g list

@@ -1,17 +1,19 @@
 // The search of the part of a width: which places of each array and of the index belong to the width, by the limits and
 // the width's number alone, and the search of these (SPECIFICATION 6.2, 7.16). It stands apart from the find and the
 // answer, so that an edit of either is proved without the other.
+#![tactic(auto)]
+
 ghost use Rattle.std.specs.Prelude.{◌≡◌, false, ◌+◌, ◌≤◌, ◌<◌, length};
 ghost use Rattle.exact.proofs.Words.{AllSmall};
 ghost use Rattle.exact.specs.Places.{read, held};
-ghost use Rattle.synthesis_arena.specs.Limits.{toldLimits};
-ghost use Rattle.node_answer.specs.Answers.{AskedPlaces, toldFind};
+ghost use Rattle.synthesis_arena.specs.Limits.{told_limits};
+ghost use Rattle.node_answer.specs.Answers.{AskedPlaces, told_find};
 ghost use Rattle.width_answer.specs.Answers.{ListFound};
-ghost use Rattle.tables.specs.Checks.{firstRow, queryRows, arrays, arraysBy, roomRow};
+ghost use Rattle.tables.specs.Checks.{first_row, query_rows, arrays, arrays_by, room_row};
 ghost use Rattle.tables.specs.Tables.{query};
-ghost use Rattle.index.specs.Told.{toldBy};
-ghost use Rattle.murm_limits.specs.Told.{toldConfig};
-ghost use Rattle.murm_part.specs.Work.{partFrom, Counted, FoundFor};
+ghost use Rattle.index.specs.Told.{told_by};
+ghost use Rattle.murm_limits.specs.Told.{told_config};
+ghost use Rattle.murm_part.specs.Work.{part_from, Counted, FoundFor};
 
 use cyclotomic::Coefficient;
 use index::LookupBy;
@@ -40,9 +42,9 @@ fn find_from(
     requires entries_in_bounds { (start + limits.entries ≤ length fingerprints.now) × (start + limits.entries ≤ length parents.now)
         × (start + limits.entries ≤ length codes.now) × (place + size ≤ length index.now) }
     requires asked_places { AskedPlaces limits.width matrix.now }
-    ensures { ListFound (toldLimits limits)
-        (partFrom (toldBy by) start limits.entries count place size fingerprints.now parents.now codes.now index.now)
-        (held limits.width exponent matrix.now) (toldFind result) list.new }
+    ensures { ListFound (told_limits limits)
+        (part_from (told_by by) start limits.entries count place size fingerprints.now parents.now codes.now index.now)
+        (held limits.width exponent matrix.now) (told_find result) list.new }
 {
     let end = start + limits.entries;
     width_answer::find_width(
@@ -75,12 +77,12 @@ pub fn find_part(
     matrix: &[Coefficient],
     list: &mut [u32],
 ) -> Find
-    requires counted { Counted (toldConfig config) width count × (0 < count) }
-    requires codes_value { (roomRow (toldConfig config) (arrays fingerprints.now parents.now codes.now)).holds ≡ false }
-    requires matrix_value { (firstRow (queryRows width exponent matrix.now) ≡ 0) × AllSmall width (read width matrix.now) × (64 ≤ length list.old) }
-    ensures { FoundFor (toldConfig config) count
-        (arraysBy (toldBy by) fingerprints.now parents.now codes.now index.now)
-        (query width exponent matrix.now) (toldFind result) list.new }
+    requires counted { Counted (told_config config) width count × (0 < count) }
+    requires codes_value { (room_row (told_config config) (arrays fingerprints.now parents.now codes.now)).holds ≡ false }
+    requires matrix_value { (first_row (query_rows width exponent matrix.now) ≡ 0) × AllSmall width (read width matrix.now) × (64 ≤ length list.old) }
+    ensures { FoundFor (told_config config) count
+        (arrays_by (told_by by) fingerprints.now parents.now codes.now index.now)
+        (query width exponent matrix.now) (told_find result) list.new }
 {
     let e = config.max_entries_per_qubit as usize;
     let size = index.len() / config.max_qubits as usize;

@@ -10,53 +10,53 @@ use lib.IntN.{ℤ, pos, nat_abs}
 use lib.Dec.{ltb}
 use lib.ListN.{length, get_or}
 use Rattle.coefficients.specs.Coefficients.{limit}
-use Rattle.exact.specs.Matrix.{allDivisible}
+use Rattle.exact.specs.Matrix.{all_divisible}
 use Rattle.exact.proofs.Words.{AllSmall}
 use Rattle.exact.specs.Places.{entry, read}
 use Rattle.places.proofs.Placed.{at_small}
-use Rattle.tables.specs.Checks.{coefficientCount, anyBelow, firstRow, queryRows}
-use Rattle.tables.proofs.Rows.{first-none}
-use Rattle.tables.proofs.Coefficients.{coefficient-count}
+use Rattle.tables.specs.Checks.{coefficient_count, any_below, first_row, query_rows}
+use Rattle.tables.proofs.Rows.{first_none}
+use Rattle.tables.proofs.Coefficients.{coefficient_count_lem}
 
 -- ---- the rows of a query
 
 module _ (n k : ℕ) (numbers : List ℤ) where
-  pub query-6 : 5 < n → 6 ≡ firstRow (queryRows n k numbers)
-  unfolding firstRow
-  query-6 h = rw (lt-ltb 5 n h)
+  pub query_6 : 5 < n → 6 ≡ first_row (query_rows n k numbers)
+  unfolding first_row
+  query_6 h = rw (lt-ltb 5 n h)
 
   module _ (h : n ≤ 5) where
-    pub query-9 : (length numbers ≡ coefficientCount n → ⊥) → 9 ≡ firstRow (queryRows n k numbers)
-    unfolding firstRow
-    query-9 p = rw (le-ltb 5 n h, ne_eqb (length numbers) (coefficientCount n) p)
+    pub query_9 : (length numbers ≡ coefficient_count n → ⊥) → 9 ≡ first_row (query_rows n k numbers)
+    unfolding first_row
+    query_9 p = rw (le-ltb 5 n h, ne_eqb (length numbers) (coefficient_count n) p)
 
-    module _ (p : length numbers ≡ coefficientCount n) where
-      pub query-10 : anyBelow numbers ≡ true → 10 ≡ firstRow (queryRows n k numbers)
-      unfolding firstRow
-      query-10 e = rw (le-ltb 5 n h, eq-eqb (length numbers) (coefficientCount n) p, e)
+    module _ (p : length numbers ≡ coefficient_count n) where
+      pub query_10 : any_below numbers ≡ true → 10 ≡ first_row (query_rows n k numbers)
+      unfolding first_row
+      query_10 e = rw (le-ltb 5 n h, eq-eqb (length numbers) (coefficient_count n) p, e)
 
-      module _ (q : anyBelow numbers ≡ false) where
-        pub query-11 : (ltb 0 k && allDivisible n (read n numbers)) ≡ true → 11 ≡ firstRow (queryRows n k numbers)
-        unfolding firstRow
-        query-11 e = rw (le-ltb 5 n h, eq-eqb (length numbers) (coefficientCount n) p, q, e)
+      module _ (q : any_below numbers ≡ false) where
+        pub query_11 : (ltb 0 k && all_divisible n (read n numbers)) ≡ true → 11 ≡ first_row (query_rows n k numbers)
+        unfolding first_row
+        query_11 e = rw (le-ltb 5 n h, eq-eqb (length numbers) (coefficient_count n) p, q, e)
 
-        pub query-allowed : (ltb 0 k && allDivisible n (read n numbers)) ≡ false → 0 ≡ firstRow (queryRows n k numbers)
-        unfolding firstRow
-        query-allowed e = rw (le-ltb 5 n h, eq-eqb (length numbers) (coefficientCount n) p, q, e)
+        pub query_allowed : (ltb 0 k && all_divisible n (read n numbers)) ≡ false → 0 ≡ first_row (query_rows n k numbers)
+        unfolding first_row
+        query_allowed e = rw (le-ltb 5 n h, eq-eqb (length numbers) (coefficient_count n) p, q, e)
 
   -- a query that none refuses has a width up to 5 and all its places
-  pub allowed-size : firstRow (queryRows n k numbers) ≡ 0 → (n ≤ 5) × (4 * (2 ^ n * 2 ^ n) ≤ length numbers)
-  allowed-size e =
-      let a = first-none _ _ (omega arith) e in
-      let b = first-none _ _ (omega arith) a.1 in
-      (ltb-false 5 n a.0, le_of_eq (sym (coefficient-count n) ∙ sym (eqb-true (length numbers) (coefficientCount n) (not-false _ b.0))))
+  pub allowed_size : first_row (query_rows n k numbers) ≡ 0 → (n ≤ 5) × (4 * (2 ^ n * 2 ^ n) ≤ length numbers)
+  allowed_size e =
+      let a = first_none _ _ (omega arith) e in
+      let b = first_none _ _ (omega arith) a.1 in
+      (ltb-false 5 n a.0, le_of_eq (sym (coefficient_count_lem n) ∙ sym (eqb-true (length numbers) (coefficient_count n) (not-false _ b.0))))
 
 -- ---- a matrix given by its coefficients
 
-pub coefficients-small : (n : ℕ) (numbers : List ℤ) → length numbers ≡ coefficientCount n → ((i : ℕ) → i < length numbers → nat_abs (get_or numbers i (pos 0)) ≤ limit)
+pub coefficients_small : (n : ℕ) (numbers : List ℤ) → length numbers ≡ coefficient_count n → ((i : ℕ) → i < length numbers → nat_abs (get_or numbers i (pos 0)) ≤ limit)
     → AllSmall n (read n numbers)
 unfolding entry
-coefficients-small n numbers h s =
+coefficients_small n numbers h s =
     at_small n numbers
-    (λ e q. let size = h ∙ coefficient-count n in
-    record { a_small = s (4 * e) (omega arith); b-small = s (4 * e + 1) (omega arith); c-small = s (4 * e + 2) (omega arith); d_small = s (4 * e + 3) (omega arith) })
+    (λ e q. let size = h ∙ coefficient_count_lem n in
+    record { a_small = s (4 * e) (omega arith); b_small = s (4 * e + 1) (omega arith); c_small = s (4 * e + 2) (omega arith); d_small = s (4 * e + 3) (omega arith) })

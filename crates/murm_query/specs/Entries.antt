@@ -5,6 +5,6 @@ use Rattle.refusal.specs.Told.{number_of, position_of}
 use Rattle.murm_query.specs.declared.Fingerprinted.{Fingerprinted}
 use Rattle.murm_query.specs.declared.Fingerprinted.TheVariants as f
 
-abbrev pub toldFingerprinted : Fingerprinted → Answer
-toldFingerprinted (f.Fingerprint p) = given p
-toldFingerprinted (f.Refused r) = refused (number_of r) (position_of r)
+abbrev pub told_fingerprinted : Fingerprinted → Answer
+told_fingerprinted (f.Fingerprint p) = given p
+told_fingerprinted (f.Refused r) = refused (number_of r) (position_of r)

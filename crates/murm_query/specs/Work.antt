@@ -4,15 +4,15 @@ use Rattle.std.specs.Prelude.{◌≡◌, Bool, true, not, List, ℕ, ◌≤◌, 
 use Rattle.coefficients.specs.Coefficients.{limit}
 use Rattle.exact.proofs.Words.{AllSmall}
 use Rattle.exact.specs.Places.{read}
-use Rattle.refusal.specs.Told.{Reason, byRow}
-use Rattle.tables.specs.Checks.{anyBelow, firstRow, queryRows}
+use Rattle.refusal.specs.Told.{Reason, by_row}
+use Rattle.tables.specs.Checks.{any_below, first_row, query_rows}
 
 -- whether no coefficient is -32768; then all are within the limit
 pub record InRange (l : List ℤ) (r : Bool) : Type 0 where
-  pub told : r ≡ not (anyBelow l)
+  pub told : r ≡ not (any_below l)
   pub small : r ≡ true → (i : ℕ) → i < length l → nat_abs (get_or l i (pos 0)) ≤ limit
 
 -- the checks of a query, by the row that refuses; a query that none refuses is within the limit
 pub record Checked (n k : ℕ) (l : List ℤ) (r : Reason) : Type 0 where
-  pub told : r ≡ byRow (firstRow (queryRows n k l))
+  pub told : r ≡ by_row (first_row (query_rows n k l))
   pub small : r.number ≡ 0 → AllSmall n (read n l)

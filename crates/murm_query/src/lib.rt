@@ -1,13 +1,15 @@
 // The checks of a matrix that is asked, rows 6, 9, 10, 11 (SPECIFICATION 9.1), and the fingerprint of one that passes:
 // matrix.rs of the original, `unitary_fingerprint`. They stand below the find, since whatever asks a table for a matrix
 // tries them, and apart from the entries, so that an edit of a check is proved in seconds.
+#![tactic(auto)]
+
 ghost use Rattle.std.specs.Prelude.{◌≡◌, ◌&&◌, ◌*◌, ◌^◌, ◌≤◌, negsuc, ltb, length};
-ghost use Rattle.coefficients.specs.Coefficients.{limit, eqZ};
-ghost use Rattle.exact.specs.Matrix.{allDivisible};
+ghost use Rattle.coefficients.specs.Coefficients.{limit, eq_z};
+ghost use Rattle.exact.specs.Matrix.{all_divisible};
 ghost use Rattle.exact.specs.Places.{read};
-ghost use Rattle.refusal.specs.Told.{toldCheck};
+ghost use Rattle.refusal.specs.Told.{told_check};
 ghost use Rattle.murm_query.specs.Fingerprints.{fingerprinted};
-ghost use Rattle.murm_query.specs.Entries.{toldFingerprinted};
+ghost use Rattle.murm_query.specs.Entries.{told_fingerprinted};
 ghost use Rattle.murm_query.specs.Work.{InRange, Checked};
 
 use cyclotomic::{Coefficient, LIMIT, Wide};
@@ -15,7 +17,7 @@ use refusal::{Check, Refusal};
 
 // Whether a coefficient is -32768.
 fn past_limit(x: Coefficient) -> bool
-    ensures { result ≡ eqZ x (negsuc limit) }
+    ensures { result ≡ eq_z x (negsuc limit) }
 {
     (x as Wide) < -LIMIT
 }
@@ -41,7 +43,7 @@ fn in_range(entries: &[Coefficient]) -> bool
 fn is_divisible(entries: &[Coefficient], n: usize, k: u16) -> bool
     requires n_bound { n ≤ 5 }
     requires n_in_bounds { 4 * (2 ^ n * 2 ^ n) ≤ length entries.now }
-    ensures { result ≡ (ltb 0 k && allDivisible n (read n entries.now)) }
+    ensures { result ≡ (ltb 0 k && all_divisible n (read n entries.now)) }
 {
     if k == 0 {
         return false;
@@ -51,7 +53,7 @@ fn is_divisible(entries: &[Coefficient], n: usize, k: u16) -> bool
 
 // Whether a matrix may be asked; else which of the rows 6, 9, 10, 11 is the first to refuse it (SPECIFICATION 9.1).
 pub fn check_query(width: u32, exponent: u16, entries: &[Coefficient]) -> Check
-    ensures { Checked width exponent entries.now (toldCheck result) }
+    ensures { Checked width exponent entries.now (told_check result) }
 {
     if width > 5 {
         return Check::Refused(Refusal::WidthTooLarge);
@@ -79,7 +81,7 @@ pub enum Fingerprinted {
 
 // The fingerprint of a matrix that is given by its coefficients, with the checks of a query (SPECIFICATION 5.5).
 pub fn library_fingerprint(width: u32, exponent: u16, entries: &[Coefficient]) -> Fingerprinted
-    ensures { toldFingerprinted result ≡ fingerprinted width exponent entries.now }
+    ensures { told_fingerprinted result ≡ fingerprinted width exponent entries.now }
 {
     match check_query(width, exponent, entries) {
         Check::Passed => Fingerprinted::Fingerprint(prints::unitary_fingerprint(

@@ -1,13 +1,15 @@
 // All widths of a table, one after the other, murm.rs of the original, `Murm::build`, below the entry: its checks are
 // passed. Each width has its own part of the arrays and of the index (SPECIFICATION 6.2, 7.16), so that the order of
 // the widths changes nothing.
+#![tactic(auto)]
+
 ghost use Rattle.std.specs.Prelude.{◌≡◌, ◌+◌, ◌*◌, ◌≤◌, ◌<◌, length, false, [], take, drop};
 ghost use Rattle.walk.specs.Index.{indexed, kept};
-ghost use Rattle.tables.specs.Tables.{recordOf, printsOf, parentsOf, codes_of, filledTo, indexTo, recordRow, countAt, within, filledIndex};
-ghost use Rattle.tables.specs.Checks.{places_of, arraysBy, indexRow};
-ghost use Rattle.index.specs.Told.{toldBy};
-ghost use Rattle.known.specs.Known.{toldMode};
-ghost use Rattle.murm_config.specs.Told.{toldConfig, toldMurm};
+ghost use Rattle.tables.specs.Tables.{record_of, prints_of, parents_of, codes_of, filled_to, index_to, record_row, count_at, within, filled_index};
+ghost use Rattle.tables.specs.Checks.{places_of, arrays_by, index_row};
+ghost use Rattle.index.specs.Told.{told_by};
+ghost use Rattle.known.specs.Known.{told_mode};
+ghost use Rattle.murm_config.specs.Told.{told_config, told_murm};
 
 use index::LookupBy;
 use known::BuildMode;
@@ -25,17 +27,17 @@ pub fn build_widths(
 ) -> Murm
     requires bounds { (0 < config.max_qubits) × (config.max_qubits ≤ 5) × (config.max_gates ≤ 64)
         × (0 < config.max_entries_per_qubit) × (config.max_entries_per_qubit ≤ 1000000) }
-    requires room { (places_of (toldConfig config) ≤ length fingerprints.old) × (places_of (toldConfig config) ≤ length parents.old)
-        × (places_of (toldConfig config) ≤ length codes.old) }
-    requires index { (indexRow (toldConfig config) (toldBy by) (length index.old)).holds ≡ false }
-    ensures rows { toldMurm result ≡ recordOf (toldMode mode) (toldConfig config) }
-    ensures fingerprints { fingerprints.new ≡ filledTo (printsOf (toldMode mode) (toldConfig config)) config.max_entries_per_qubit
+    requires room { (places_of (told_config config) ≤ length fingerprints.old) × (places_of (told_config config) ≤ length parents.old)
+        × (places_of (told_config config) ≤ length codes.old) }
+    requires index { (index_row (told_config config) (told_by by) (length index.old)).holds ≡ false }
+    ensures rows { told_murm result ≡ record_of (told_mode mode) (told_config config) }
+    ensures fingerprints { fingerprints.new ≡ filled_to (prints_of (told_mode mode) (told_config config)) config.max_entries_per_qubit
         config.max_qubits fingerprints.old }
-    ensures parents { parents.new ≡ filledTo (parentsOf (toldMode mode) (toldConfig config)) config.max_entries_per_qubit
+    ensures parents { parents.new ≡ filled_to (parents_of (told_mode mode) (told_config config)) config.max_entries_per_qubit
         config.max_qubits parents.old }
-    ensures codes { codes.new ≡ filledTo (codes_of (toldMode mode) (toldConfig config)) config.max_entries_per_qubit
+    ensures codes { codes.new ≡ filled_to (codes_of (told_mode mode) (told_config config)) config.max_entries_per_qubit
         config.max_qubits codes.old }
-    ensures index { index.new ≡ indexTo (toldMode mode) (toldConfig config) (toldBy by) config.max_qubits index.old }
+    ensures index { index.new ≡ index_to (told_mode mode) (told_config config) (told_by by) config.max_qubits index.old }
 {
     let how = mode;
     let lookup = by;
@@ -87,9 +89,9 @@ fn fill_part(
 
 // The parts of widths 1 to Q, one after the other (SPECIFICATION 7.17).
 pub fn fill_widths(table: Murm, fingerprints: &[u64], index: &mut [u32])
-    requires record { (recordRow (toldMurm table)).holds ≡ false }
-    requires room { places_of (toldConfig table.config) ≤ length fingerprints.now }
-    ensures index { index.new ≡ filledIndex (toldMurm table) (arraysBy indexed fingerprints.now [] [] index.old) }
+    requires record { (record_row (told_murm table)).holds ≡ false }
+    requires room { places_of (told_config table.config) ≤ length fingerprints.now }
+    ensures index { index.new ≡ filled_index (told_murm table) (arrays_by indexed fingerprints.now [] [] index.old) }
 {
     let t = table;
     let q = table.config.max_qubits;

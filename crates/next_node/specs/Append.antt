@@ -4,7 +4,7 @@ use Rattle.std.specs.Prelude.{◌≡◌, true, false, List, ℕ, suc}
 use Rattle.exact.specs.Matrix.{Exact}
 use Rattle.exact.proofs.Words.{Equal}
 use Rattle.exact.specs.Fingerprint.{fingerprint}
-use Rattle.walk.specs.Walk.{listAt, prod, pruned, candidate, try}
+use Rattle.walk.specs.Walk.{list_at, prod, pruned, candidate, try}
 use Rattle.walk.specs.Modes.{Mode}
 use Rattle.walk.specs.Index.{By}
 use Rattle.walk.proofs.Laws.{fits_by}
@@ -18,8 +18,8 @@ use Rattle.width_arrays.specs.declared.Tried.{Tried}
 abbrev pub Appended : Mode → By → WidthLimits → ℕ → ℕ → ℕ → ℕ → Exact → List ℕ → List ℕ → List ℕ → List ℕ → List ℕ → List ℕ → List ℕ → List ℕ → Tried → Type 0
 Appended mode by lim count node g y x f u c i f' u' c' i' r =
     (h : Live mode by lim f u c i count node (suc node))
-    → pruned (rules mode lim) g (listAt h.ns node) ≡ false
-    → fits_by lim.width g (prod (rules mode lim) (listAt h.ns node)) ≡ true
+    → pruned (rules mode lim) g (list_at h.ns node) ≡ false
+    → fits_by lim.width g (prod (rules mode lim) (list_at h.ns node)) ≡ true
     → y ≡ fingerprint lim.width (candidate (rules mode lim) h.ns node g)
     → Equal lim.width x (candidate (rules mode lim) h.ns node g)
     → After by lim h.f0 h.u0 h.c0 h.i0 (try (rules mode lim) lim.entries (unsaturated h.ns) node g) f' u' c' i' r.count r.saturated

@@ -33,7 +33,7 @@ module _ {from old new : List ℕ} {i : ℕ} (w : CodesCopied from old new i) wh
             ∙ ap (λ (j : ℕ). take j from ++ drop j old) (sym (add-one i));
       }
 
-  pub copied-end : length from ≤ i → new ≡ from ++ drop (length from) old
-  copied-end h =
+  pub copied_end : length from ≤ i → new ≡ from ++ drop (length from) old
+  copied_end h =
       let e : i ≡ length from = omega (arith, w.within) in
       w.is ∙ ap (λ (j : ℕ). take j from ++ drop j old) e ∙ ap (λ (l : List ℕ). l ++ drop (length from) old) (take_all (length from) from (omega arith))

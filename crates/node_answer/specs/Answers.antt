@@ -5,17 +5,17 @@ use Rattle.exact.specs.Matrix.{Exact}
 use Rattle.exact.specs.Places.{read}
 use Rattle.exact.proofs.Words.{AllSmall}
 use Rattle.walk.specs.Chains.{Chain}
-use Rattle.walk.specs.Finds.{Finding, byChain}
+use Rattle.walk.specs.Finds.{Finding, by_chain}
 use Rattle.walk.specs.Finds as f
-use Rattle.walk.specs.Answers.{given, none, refused, Outcome, outcome, written, thenWrite}
+use Rattle.walk.specs.Answers.{given, none, refused, Outcome, outcome, written, then_write}
 use Rattle.node_answer.specs.declared.Find.{Find}
 use Rattle.node_answer.specs.declared.Find.TheVariants as d
 
 -- a bad chain is 13 (SPECIFICATION 9.3)
-abbrev pub toldFind : Find → Finding
-toldFind (d.Node k m) = f.node k m
-toldFind d.Nothing = f.none
-toldFind d.BadChain = f.refused 13 0
+abbrev pub told_find : Find → Finding
+told_find (d.Node k m) = f.node k m
+told_find d.Nothing = f.none
+told_find d.BadChain = f.refused 13 0
 
 -- what is found, with its list in the first places of one list, copied over the first places of another
 abbrev pub copied : Finding → List ℕ → List ℕ → Outcome
@@ -25,8 +25,8 @@ copied (f.refused r p) list out = outcome (refused r p) out
 
 -- node k is this to the matrix x, and its list, copied, is what its chain gives
 pub record NodeFound (n : ℕ) (x : Exact) (chain : ℕ → Chain) (k : ℕ) (g : Finding) (list : List ℕ) : Type 0 where
-  pub is : g ≡ byChain n x k f.none (chain k)
-  pub copies : (out : List ℕ) → copied g list out ≡ thenWrite (λ j. written out (chain j)) out g
+  pub is : g ≡ by_chain n x k f.none (chain k)
+  pub copies : (out : List ℕ) → copied g list out ≡ then_write (λ j. written out (chain j)) out g
 
 -- the places lent for the matrix asked: all of them are there, and every coefficient is within the limit
 abbrev pub AskedPlaces : ℕ → List ℤ → Type 0

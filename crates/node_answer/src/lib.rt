@@ -1,6 +1,8 @@
 // What one node of a table is to a matrix that is asked, whatever the arrays hold: its list is read along its parents,
 // and the product of the list is formed and held against the matrix (SPECIFICATION 7.5, 7.6). Apart from the search
 // over the nodes with a fingerprint, which asks this of each.
+#![tactic(auto)]
+
 ghost use Rattle.std.specs.Prelude.{◌≡◌, true, ◌++◌, ◌≤◌, ◌<◌, length, drop};
 ghost use Rattle.ints.specs.Lists.{all};
 ghost use Rattle.circuit.specs.Codes.{valid};
@@ -8,9 +10,9 @@ ghost use Rattle.exact.specs.Matrix.{identity};
 ghost use Rattle.exact.specs.Places.{held};
 ghost use Rattle.places.specs.Places.{places};
 ghost use Rattle.places.specs.Held.{Holds};
-ghost use Rattle.walk.specs.Chains.{chainOf};
+ghost use Rattle.walk.specs.Chains.{chain_of};
 ghost use Rattle.walk.specs.Finds.{rechecked};
-ghost use Rattle.node_answer.specs.Answers.{AskedPlaces, toldFind, NodeFound};
+ghost use Rattle.node_answer.specs.Answers.{AskedPlaces, told_find, NodeFound};
 
 use circuit::GateSet;
 use cyclotomic::Coefficient;
@@ -79,7 +81,7 @@ pub fn find_node(
     requires asked_places { AskedPlaces limits.width query.now }
     requires holds { Holds limits.width 0 scratch.old identity }
     ensures is { NodeFound limits.width (held limits.width exponent query.now)
-        (chainOf limits.width limits.basis parents.now codes.now limits.gates) node (toldFind result) list.new }
+        (chain_of limits.width limits.basis parents.now codes.now limits.gates) node (told_find result) list.new }
     ensures long { length scratch.new ≡ places }
 {
     let NodeCircuit::Length(size) = synthesis_arena::circuit(

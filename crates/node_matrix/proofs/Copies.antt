@@ -11,11 +11,11 @@ use Rattle.cyclotomic.specs.Zomega.{Small}
 use Rattle.cyclotomic.proofs.Each.{each}
 use Rattle.exact.proofs.Words.{Equal, AllSmall}
 use Rattle.exact.specs.Matrix.{Exact}
-use Rattle.exact.specs.Rows.{gateOf}
-use Rattle.exact.proofs.Answered.{step_given, step-refused}
-use Rattle.exact.proofs.Keeps.{equal-lowest, act-equal'}
-use Rattle.exact.proofs.Phases.{flat-lt}
-use Rattle.exact.proofs.Values.{equal-sym, equal-trans}
+use Rattle.exact.specs.Rows.{gate_of}
+use Rattle.exact.proofs.Answered.{step_given, step_refused}
+use Rattle.exact.proofs.Keeps.{equal_lowest, act_equal'}
+use Rattle.exact.proofs.Phases.{flat_lt}
+use Rattle.exact.proofs.Values.{equal_sym, equal_trans}
 use Rattle.exact.proofs.Coded.{proper}
 use Rattle.exact.specs.Places.{entry, read, held}
 use Rattle.places.specs.Places.{places}
@@ -23,9 +23,9 @@ use Rattle.places.specs.Held.{Holds, Ready}
 use Rattle.steps.specs.Step.{Stepped}
 use Rattle.steps.specs.declared.Applied.{Applied}
 use Rattle.steps.specs.declared.Applied.TheVariants.{Done, DoesNotFit}
-use Rattle.walk.proofs.Sequences.{lt-or}
+use Rattle.walk.proofs.Sequences.{lt_or}
 use Rattle.node_matrix.specs.Matrices.{Copied, CopiedOn, OnCopy}
-use Rattle.node_matrix.proofs.Prints.{fits-alike}
+use Rattle.node_matrix.proofs.Prints.{fits_alike}
 
 -- ---- place by place
 
@@ -40,57 +40,57 @@ module _ {from old new : List ℤ} {i : ℕ} (w : Copied from old new i) where
     first = λ j l.
         ⊎_elim (λ (a : j < i). get_or-set_other new i j x (pos 0) (λ q. omega arith) ∙ w.first j a)
         (λ (a : i ≤ j). let q : j ≡ i = omega arith in rw q (get_or-set_same new i x (pos 0) (omega (arith, w.long)) ∙ e))
-        (lt-or j i);
+        (lt_or j i);
   }
 
-  pub copied-to : (m : ℕ) → m ≤ i → Copied from old new m
-  copied-to m h = record { long = w.long; first = λ j l. w.first j (omega arith) }
+  pub copied_to : (m : ℕ) → m ≤ i → Copied from old new m
+  copied_to m h = record { long = w.long; first = λ j l. w.first j (omega arith) }
 
 -- and from a start on
 pub on_none : (from old : List ℤ) (start : ℕ) → CopiedOn from old old start start
 on_none from old start = record { by = λ l w. w }
 
-pub on-more : {from old new : List ℤ} {start i : ℕ} → CopiedOn from old new start i → {x : ℤ} → i < length old → x ≡ get_or from i (pos 0)
+pub on_more : {from old new : List ℤ} {start i : ℕ} → CopiedOn from old new start i → {x : ℤ} → i < length old → x ≡ get_or from i (pos 0)
     → CopiedOn from old (set new i x) start (i + 1)
-on-more u h e = record { by = λ l w. copied_more (u.by l w) (omega (arith, w.long)) e }
+on_more u h e = record { by = λ l w. copied_more (u.by l w) (omega (arith, w.long)) e }
 
-pub on-to : {from old new : List ℤ} {start i : ℕ} → CopiedOn from old new start i → (m : ℕ) → m ≤ i → CopiedOn from old new start m
-on-to u m h = record { by = λ l w. copied-to (u.by l w) m h }
+pub on_to : {from old new : List ℤ} {start i : ℕ} → CopiedOn from old new start i → (m : ℕ) → m ≤ i → CopiedOn from old new start m
+on_to u m h = record { by = λ l w. copied_to (u.by l w) m h }
 
 -- ---- the matrix
 
 module _ (n : ℕ) {from old new : List ℤ} (w : Copied from old new (4 * (2 ^ n * 2 ^ n))) where
-  same-entry : (e : ℕ) → e < 2 ^ n * 2 ^ n → entry new e ≡ entry from e
+  same_entry : (e : ℕ) → e < 2 ^ n * 2 ^ n → entry new e ≡ entry from e
   unfolding entry
-  same-entry e h =
+  same_entry e h =
       each (w.first (4 * e) (omega arith)) (w.first (4 * e + 1) (omega arith)) (w.first (4 * e + 2) (omega arith)) (w.first (4 * e + 3) (omega arith))
 
-  pub copied-equal : (k : ℕ) → Equal n (held n k new) (held n k from)
-  copied-equal k = record { exponent = refl; entries = λ r c p q. same-entry (r * 2 ^ n + c) (flat-lt n r c p q) }
+  pub copied_equal : (k : ℕ) → Equal n (held n k new) (held n k from)
+  copied_equal k = record { exponent = refl; entries = λ r c p q. same_entry (r * 2 ^ n + c) (flat_lt n r c p q) }
 
   small : AllSmall n (read n from) → AllSmall n (read n new)
-  small s = record { small = λ r c p q. subst Small (sym (same-entry (r * 2 ^ n + c) (flat-lt n r c p q))) (s.small r c p q) }
+  small s = record { small = λ r c p q. subst Small (sym (same_entry (r * 2 ^ n + c) (flat_lt n r c p q))) (s.small r c p q) }
 
-  pub copied-ready : (k : ℕ) → length old ≡ places → Ready n k from → Ready n k new
-  copied-ready k l h = record { long = w.long ∙ l; small = small h.small; lowest = equal-lowest n (equal-sym n (copied-equal k)) h.lowest }
+  pub copied_ready : (k : ℕ) → length old ≡ places → Ready n k from → Ready n k new
+  copied_ready k l h = record { long = w.long ∙ l; small = small h.small; lowest = equal_lowest n (equal_sym n (copied_equal k)) h.lowest }
 
-  pub copied-holds : (k : ℕ) {x : Exact} → length old ≡ places → Holds n k from x → Holds n k new x
-  copied-holds k l h = record { long = w.long ∙ l; equal = equal-trans n (copied-equal k) h.equal; small = small h.small }
+  pub copied_holds : (k : ℕ) {x : Exact} → length old ≡ places → Holds n k from x → Holds n k new x
+  copied_holds k l h = record { long = w.long ∙ l; equal = equal_trans n (copied_equal k) h.equal; small = small h.small }
 
 -- ---- a gate that was applied to the copy
 
 module _ (n g k : ℕ) {from old new l : List ℤ} (w : Copied from old new (4 * (2 ^ n * 2 ^ n))) where
-  pub on-copy : (r : Applied) → Stepped n k (gateOf n g) new l r → OnCopy n g (held n k from) l r
-  on-copy (Done j) s = (
-    sym (fits-alike n g (copied-equal n w k)) ∙ step_given _ _ _ s.answer,
+  pub on_copy : (r : Applied) → Stepped n k (gate_of n g) new l r → OnCopy n g (held n k from) l r
+  on_copy (Done j) s = (
+    sym (fits_alike n g (copied_equal n w k)) ∙ step_given _ _ _ s.answer,
     record {
       long = s.left.long;
-      equal = equal-trans n s.left.equal (act-equal' n (gateOf n g) (copied-equal n w k) (proper n g));
+      equal = equal_trans n s.left.equal (act_equal' n (gate_of n g) (copied_equal n w k) (proper n g));
       small = s.left.small;
     },
   )
-  on-copy DoesNotFit s = sym (fits-alike n g (copied-equal n w k)) ∙ step-refused _ _ _ s.answer
+  on_copy DoesNotFit s = sym (fits_alike n g (copied_equal n w k)) ∙ step_refused _ _ _ s.answer
 
-  pub copy-long : (r : Applied) → Stepped n k (gateOf n g) new l r → length l ≡ places
-  copy-long (Done j) s = s.left.long
-  copy-long DoesNotFit s = s.left.long
+  pub copy_long : (r : Applied) → Stepped n k (gate_of n g) new l r → length l ≡ places
+  copy_long (Done j) s = s.left.long
+  copy_long DoesNotFit s = s.left.long

@@ -9,15 +9,15 @@ use lib.IntN.{ℤ}
 use Rattle.ints.specs.Lists.{all}
 use Rattle.ints.proofs.Bools.{clash}
 use Rattle.circuit.specs.Codes.{valid}
-use Rattle.circuit.proofs.Coded.{basis-valid}
+use Rattle.circuit.proofs.Coded.{basis_valid}
 use Rattle.exact.specs.Lists.{product}
-use Rattle.exact.specs.Fits.{Steps, all_fit, unfitAt, steps}
-use Rattle.exact.specs.Answers.{given, bySteps, listAnswer}
-use Rattle.exact.proofs.Answered.{isGiven, number, list-refused}
+use Rattle.exact.specs.Fits.{Steps, all_fit, unfit_at, steps}
+use Rattle.exact.specs.Answers.{given, by_steps, list_answer}
+use Rattle.exact.proofs.Answered.{is_given, number, list_refused}
 use Rattle.places.specs.Held.{Holds}
 use Rattle.lists.specs.Walk.{Ended}
 use Rattle.lists.specs.declared.Walked.TheVariants.{Fits, UnfitAt}
-use Rattle.walk.specs.Chains.{Chain, good, bad, chainOf}
+use Rattle.walk.specs.Chains.{Chain, good, bad, chain_of}
 use Rattle.synthesis_arena.specs.declared.WidthLimits.{WidthLimits}
 use Rattle.synthesis_arena.proofs.Told.{ChainRead}
 use Rattle.node_matrix.specs.Matrices.{Readable}
@@ -26,26 +26,26 @@ abbrev list_of : Chain → List ℕ
 list_of (good l) = l
 list_of bad = []
 
-abbrev isGood : Chain → Bool
-isGood (good l) = true
-isGood bad = false
+abbrev is_good : Chain → Bool
+is_good (good l) = true
+is_good bad = false
 
 -- the exponent that a list is answered by is its product's
-exponent-is : (n : ℕ) (codes : List ℕ) {k : ℕ} → given k ≡ listAnswer n codes → k ≡ (product n codes).k
-unfolding listAnswer
-exponent-is n codes {k} e = by (steps n codes) e
+exponent_is : (n : ℕ) (codes : List ℕ) {k : ℕ} → given k ≡ list_answer n codes → k ≡ (product n codes).k
+unfolding list_answer
+exponent_is n codes {k} e = by (steps n codes) e
   where
-    by : (s : Steps) → given k ≡ bySteps (product n codes).k s → k ≡ (product n codes).k
+    by : (s : Steps) → given k ≡ by_steps (product n codes).k s → k ≡ (product n codes).k
     by all_fit q = ap number q
-    by (unfitAt i) q = clash refl (ap isGiven q)
+    by (unfit_at i) q = clash refl (ap is_given q)
 
 abbrev ok : Steps → Bool
 ok all_fit = true
-ok (unfitAt i) = false
+ok (unfit_at i) = false
 
 module _ {lim : WidthLimits} {u c : List ℕ} {node : ℕ} (h : Readable lim u c node) where
-  pub chain-not-bad : chainOf lim.width lim.basis u c 64 node ≡ bad → ⊥
-  chain-not-bad e = clash (ap isGood h.chain) (ap isGood e)
+  pub chain_not_bad : chain_of lim.width lim.basis u c 64 node ≡ bad → ⊥
+  chain_not_bad e = clash (ap is_good h.chain) (ap is_good e)
 
   module _ {old new : List ℕ} {m : ℕ} (r : ChainRead lim.width lim.basis u c 64 node old new m) where
     part : take (m - 0) new ≡ r.list
@@ -54,15 +54,15 @@ module _ {lim : WidthLimits} {u c : List ℕ} {node : ℕ} (h : Readable lim u c
     pub read_is : take (m - 0) new ≡ h.list
     read_is = part ∙ ap list_of (sym r.is ∙ h.chain)
 
-    pub read-valid : all (valid lim.width) (take (m - 0) new) ≡ true
-    read-valid = subst (λ (z : List ℕ). all (valid lim.width) z ≡ true) (sym part) (basis-valid lim.width lim.basis r.list r.gates.valid)
+    pub read_valid : all (valid lim.width) (take (m - 0) new) ≡ true
+    read_valid = subst (λ (z : List ℕ). all (valid lim.width) z ≡ true) (sym part) (basis_valid lim.width lim.basis r.list r.gates.valid)
 
     pub read_fits : {l : List ℤ} {k : ℕ} → Ended lim.width (take (m - 0) new) l (Fits k) → Holds lim.width k l (product lim.width h.list)
     read_fits {l} {k} w =
         let e = subst (λ (z : List ℕ). Ended lim.width z l (Fits k)) read_is w in
-        subst (λ (z : ℕ). Holds lim.width z l (product lim.width h.list)) (sym (exponent-is lim.width h.list e.answer)) e.end
+        subst (λ (z : ℕ). Holds lim.width z l (product lim.width h.list)) (sym (exponent_is lim.width h.list e.answer)) e.end
 
-    pub read-not-unfit : {l : List ℤ} {i : ℕ} → Ended lim.width (take (m - 0) new) l (UnfitAt i) → ⊥
-    read-not-unfit {l} {i} w =
+    pub read_not_unfit : {l : List ℤ} {i : ℕ} → Ended lim.width (take (m - 0) new) l (UnfitAt i) → ⊥
+    read_not_unfit {l} {i} w =
         let e = subst (λ (z : List ℕ). Ended lim.width z l (UnfitAt i)) read_is w in
-        clash (ap ok h.all-fit) (ap ok (list-refused lim.width h.list (sym e.answer)))
+        clash (ap ok h.all_fit_lem) (ap ok (list_refused lim.width h.list (sym e.answer)))

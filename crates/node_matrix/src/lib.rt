@@ -2,6 +2,8 @@
 // its list of gates, and each generator is applied to a copy of its places. What a candidate comes to here depends on
 // the node's matrix and the gate alone. So two can be formed before either is looked up, and their fingerprints are
 // worked together.
+#![tactic(auto)]
+
 ghost use Rattle.std.specs.Prelude.{◌≡◌, true, ◌*◌, ◌^◌, ◌≤◌, ◌<◌, length};
 ghost use Rattle.circuit.specs.Codes.{valid};
 ghost use Rattle.exact.specs.Matrix.{identity};

@@ -1,6 +1,8 @@
 // The tests of a gate's three operands: the used ones below the width and distinct, the others 0, and the first ones in
 // rising order. They know numbers alone, no kind and no code. Each count has a test of its own, in which every
 // comparison is made and none branches: so its proof is one line, and a wrong comparison is refused in seconds.
+#![tactic(auto)]
+
 ghost use Rattle.std.specs.Prelude.{◌≡◌, ◌<◌, ◌≤◌};
 ghost use Rattle.operands.specs.Operands.{placed, ordered};
 

@@ -1,5 +1,7 @@
 // The fingerprints of two matrices at once. Each is the one that `unitary_fingerprint` gives of its matrix alone;
 // together they take little longer than one (docs/SPEED.md), and a build asks for two candidates' at a time.
+#![tactic(auto)]
+
 ghost use Rattle.std.specs.Prelude.{◌≡◌, ◌*◌, ◌^◌, ◌≤◌, length};
 ghost use Rattle.exact.specs.Places.{read, held};
 ghost use Rattle.exact.proofs.Words.{AllSmall};

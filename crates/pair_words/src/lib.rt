@@ -1,9 +1,11 @@
 // One entry of each of two matrices, mixed into its own matrix's streams. Apart from pair_prints, since its eight reads
 // and eight steps take more time to prove than all else of the fingerprints, and each edit of the loop over the entries
 // would have them proved again.
+#![tactic(auto)]
+
 ghost use Rattle.std.specs.Prelude.{◌≡◌};
-ghost use Rattle.place_turns.specs.Eights.{OfEight, readAt};
-ghost use Rattle.exact.specs.Fingerprint.{mixAll, fourWords};
+ghost use Rattle.place_turns.specs.Eights.{OfEight, read_at};
+ghost use Rattle.exact.specs.Fingerprint.{mix_all, four_words};
 ghost use Rattle.prints.specs.Prints.{streams};
 
 use cyclotomic::Coefficient;
@@ -29,8 +31,8 @@ pub fn mix_eights(
     v: TurnPlaces,
 ) -> TwoStreams
     requires { OfEight u × OfEight v }
-    ensures left { streams result.left ≡ mixAll (streams s) (fourWords (readAt x.now u)) }
-    ensures right { streams result.right ≡ mixAll (streams t) (fourWords (readAt y.now v)) }
+    ensures left { streams result.left ≡ mix_all (streams s) (four_words (read_at x.now u)) }
+    ensures right { streams result.right ≡ mix_all (streams t) (four_words (read_at y.now v)) }
 {
     let i = u.a;
     let j = u.b;

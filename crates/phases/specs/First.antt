@@ -1,10 +1,10 @@
 -- What the search for the pivot finds. Assumes nothing.
 use Rattle.std.specs.Prelude.{◌≡◌, true, false, List, ℕ, ◌≤◌, ◌<◌, ℤ}
-use Rattle.cyclotomic.specs.Zomega.{isZero}
+use Rattle.cyclotomic.specs.Zomega.{is_zero}
 use Rattle.exact.specs.Places.{entry}
 
 -- the place of the first of c entries that is not zero; c if all are
 pub record FirstNonzero (l : List ℤ) (c at : ℕ) : Type 0 where
   pub within : at ≤ c
-  pub before : (j : ℕ) → j < at → isZero (entry l j) ≡ true
-  pub found : at < c → isZero (entry l at) ≡ false
+  pub before : (j : ℕ) → j < at → is_zero (entry l j) ≡ true
+  pub found : at < c → is_zero (entry l at) ≡ false

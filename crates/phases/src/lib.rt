@@ -1,6 +1,8 @@
 // The phase of a matrix (SPECIFICATION 1.11): its pivot, the first entry that is not zero, and the power of omega that
 // makes the pivot least. matrix.rs of the original, `canonical_phase_power`. Below equality up to phase and the
 // fingerprints, which both begin with it.
+#![tactic(auto)]
+
 ghost use Rattle.std.specs.Prelude.{◌≡◌, ◌*◌, ◌^◌, ◌≤◌, length};
 ghost use Rattle.cyclotomic.specs.Zomega.{phase, Small};
 ghost use Rattle.exact.specs.Places.{read, held};

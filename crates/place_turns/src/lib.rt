@@ -1,6 +1,8 @@
 // Turns by places: which four of an entry's coefficients and their negatives are those of omega to a power, times the
 // entry. It is the same four for all entries, so a matrix has its turns worked once, and each entry is read at four
 // places (`pair_words`).
+#![tactic(auto)]
+
 ghost use Rattle.std.specs.Prelude.{◌≡◌, ◌<◌};
 ghost use Rattle.place_turns.specs.Eights.{OfEight, Opposite, OneTurn, PlacesOf};
 

@@ -15,35 +15,35 @@ use lib.Pow.{pow_mono, high}
 use Rattle.ints.proofs.Bools.{clash, iff}
 use Rattle.cyclotomic.specs.Zomega.{Zω, divisible, Small}
 use Rattle.cyclotomic.proofs.Each.{each}
-use Rattle.exact.specs.Matrix.{allDivisible}
+use Rattle.exact.specs.Matrix.{all_divisible}
 use Rattle.exact.proofs.Words.{AllSmall}
-use Rattle.exact.proofs.Values.{divisible-to, divisible-from}
-use Rattle.exact.proofs.Phases.{row_lt, col-lt, flat-lt}
+use Rattle.exact.proofs.Values.{divisible_to, divisible_from}
+use Rattle.exact.proofs.Phases.{row_lt, col_lt, flat_lt}
 use Rattle.exact.specs.Places.{entry, read}
 use Rattle.places.specs.Places.{put, Kept}
 
 -- ---- sizes, for all widths together
 
-pub dim-le : (n : ℕ) → n ≤ 5 → 2 ^ n ≤ 32
-dim-le n h = pow_mono {i = n} {j = 5} h
+pub dim_le : (n : ℕ) → n ≤ 5 → 2 ^ n ≤ 32
+dim_le n h = pow_mono {i = n} {j = 5} h
 
 -- a shift of 1 by n
 pub shift_one : (n : ℕ) → n ≤ 5 → 1 * 2 ^ n % 18446744073709551616 ≡ 2 ^ n
-shift_one n h = simp one-mul (mod-eq_of_lt (lt_of_le_of_lt (dim-le n h) (lit< tt)))
+shift_one n h = simp one-mul (mod-eq_of_lt (lt_of_le_of_lt (dim_le n h) (lit< tt)))
 
-pub area-le : (n : ℕ) → n ≤ 5 → 2 ^ n * 2 ^ n ≤ 1024
-area-le n h = mul-le-mul (dim-le n h) (dim-le n h)
+pub area_le : (n : ℕ) → n ≤ 5 → 2 ^ n * 2 ^ n ≤ 1024
+area_le n h = mul-le-mul (dim_le n h) (dim_le n h)
 
 -- row r and column c lie among the entries that there are places for
-pub place-fits : (n r c : ℕ) → n ≤ 5 → r < 2 ^ n → c < 2 ^ n → r * 2 ^ n + c < 1024
-place-fits n r c h p q = omega (arith, area-le n h, flat-lt n r c p q)
+pub place_fits : (n r c : ℕ) → n ≤ 5 → r < 2 ^ n → c < 2 ^ n → r * 2 ^ n + c < 1024
+place_fits n r c h p q = omega (arith, area_le n h, flat_lt n r c p q)
 
 -- a whole row, among the matrix's entries and among all
 pub row_inside : (n r : ℕ) → r < 2 ^ n → r * 2 ^ n + 2 ^ n ≤ 2 ^ n * 2 ^ n
 row_inside n r p = omega (arith, mul-le-mul_right (2 ^ n) p, suc-mul r (2 ^ n))
 
-pub row-le : (n r : ℕ) → n ≤ 5 → r < 2 ^ n → r * 2 ^ n + 2 ^ n ≤ 1024
-row-le n r h p = omega (arith, area-le n h, row_inside n r p)
+pub row_le : (n r : ℕ) → n ≤ 5 → r < 2 ^ n → r * 2 ^ n + 2 ^ n ≤ 1024
+row_le n r h p = omega (arith, area_le n h, row_inside n r p)
 
 -- a row ends before a later one begins
 pub row_before : (d r s : ℕ) → r < s → r * d + d ≤ s * d
@@ -59,16 +59,16 @@ pub read_at : (n : ℕ) (l : List ℤ) (e : ℕ) → read n l (e / 2 ^ n) (e % 2
 read_at n l e = ap (entry l) (div-add-mod' e (2 ^ n))
 
 pub small_at : (n : ℕ) (l : List ℤ) (e : ℕ) → AllSmall n (read n l) → e < 2 ^ n * 2 ^ n → Small (entry l e)
-small_at n l e s h = subst Small (read_at n l e) (s.small (e / 2 ^ n) (e % 2 ^ n) (row_lt n e h) (col-lt n e))
+small_at n l e s h = subst Small (read_at n l e) (s.small (e / 2 ^ n) (e % 2 ^ n) (row_lt n e h) (col_lt n e))
 
 pub at_small : (n : ℕ) (l : List ℤ) → ((e : ℕ) → e < 2 ^ n * 2 ^ n → Small (entry l e)) → AllSmall n (read n l)
-at_small n l h = record { small = λ r c p q. h (r * 2 ^ n + c) (flat-lt n r c p q) }
+at_small n l h = record { small = λ r c p q. h (r * 2 ^ n + c) (flat_lt n r c p q) }
 
 -- ---- what is read after a store
 
-pub length-put : (l : List ℤ) (e : ℕ) (z : Zω) → length (put l e z) ≡ length l
+pub length_put : (l : List ℤ) (e : ℕ) (z : Zω) → length (put l e z) ≡ length l
 unfolding put
-length-put l e z = simp length-set
+length_put l e z = simp length-set
 
 module _ (l : List ℤ) (e : ℕ) (z : Zω) where
   -- after one, two and three of the four stores
@@ -83,9 +83,9 @@ module _ (l : List ℤ) (e : ℕ) (z : Zω) where
   unfolding one two
   three = set two (4 * e + 2) z.c
 
-  pub entry-put-same : 4 * e + 3 < length l → entry (put l e z) e ≡ z
+  pub entry_put_same : 4 * e + 3 < length l → entry (put l e z) e ≡ z
   unfolding put entry one two three
-  entry-put-same h =
+  entry_put_same h =
       each
       (get_or-set_other three (4 * e + 3) (4 * e) z.d (pos 0) (λ q. omega arith)
       ∙ get_or-set_other two (4 * e + 2) (4 * e) z.c (pos 0) (λ q. omega arith)
@@ -105,9 +105,9 @@ module _ (l : List ℤ) (e : ℕ) (z : Zω) where
       get_or-set_other three (4 * e + 3) j z.d (pos 0) h3 ∙ get_or-set_other two (4 * e + 2) j z.c (pos 0) h2
       ∙ get_or-set_other one (4 * e + 1) j z.b (pos 0) h1 ∙ get_or-set_other l (4 * e) j z.a (pos 0) h0
 
-  pub entry-put-other : (k : ℕ) → k ≢ e → entry (put l e z) k ≡ entry l k
+  pub entry_put_other : (k : ℕ) → k ≢ e → entry (put l e z) k ≡ entry l k
   unfolding entry
-  entry-put-other k h =
+  entry_put_other k h =
       each (stays (4 * k) (λ q. h (omega arith)) (λ q. omega arith) (λ q. omega arith) (λ q. omega arith))
       (stays (4 * k + 1) (λ q. omega arith) (λ q. h (omega arith)) (λ q. omega arith) (λ q. omega arith))
       (stays (4 * k + 2) (λ q. omega arith) (λ q. omega arith) (λ q. h (omega arith)) (λ q. omega arith))
@@ -126,9 +126,9 @@ module _ (n : ℕ) where
   kept_same e = record { past = λ j h. ap (λ (x : List ℤ). get_or x j (pos 0)) e }
 
   -- the entries past the matrix stayed
-  pub kept-entries : {l l' : List ℤ} → ((e : ℕ) → 2 ^ n * 2 ^ n ≤ e → entry l' e ≡ entry l e) → Kept n l l'
+  pub kept_entries : {l l' : List ℤ} → ((e : ℕ) → 2 ^ n * 2 ^ n ≤ e → entry l' e ≡ entry l e) → Kept n l l'
   unfolding entry
-  kept-entries {l} {l'} f = record { past = λ j h. by j (j / 4) (j % 4) (omega arith) (omega arith) (f (j / 4) (omega arith)) }
+  kept_entries {l} {l'} f = record { past = λ j h. by j (j / 4) (j % 4) (omega arith) (omega arith) (f (j / 4) (omega arith)) }
     where
       one : (j k : ℕ) → j ≡ k → get_or l' k (pos 0) ≡ get_or l k (pos 0) → get_or l' j (pos 0) ≡ get_or l j (pos 0)
       one j k e s = rw e s
@@ -142,15 +142,15 @@ module _ (n : ℕ) where
 
   -- a store inside the matrix
   pub kept_put : (l : List ℤ) (e : ℕ) (z : Zω) → e < 2 ^ n * 2 ^ n → Kept n l (put l e z)
-  kept_put l e z h = kept-entries (λ k q. entry-put-other l e z k (λ s. omega arith))
+  kept_put l e z h = kept_entries (λ k q. entry_put_other l e z k (λ s. omega arith))
 
 -- ---- the test of all entries, from the first on
 module _ (n : ℕ) (l : List ℤ) where
-  pub divisible-yes : ((e : ℕ) → e < 2 ^ n * 2 ^ n → divisible (entry l e) ≡ true) → allDivisible n (read n l) ≡ true
-  divisible-yes h = divisible-from n (read n l) (λ r c p q. h (r * 2 ^ n + c) (flat-lt n r c p q))
+  pub divisible_yes : ((e : ℕ) → e < 2 ^ n * 2 ^ n → divisible (entry l e) ≡ true) → all_divisible n (read n l) ≡ true
+  divisible_yes h = divisible_from n (read n l) (λ r c p q. h (r * 2 ^ n + c) (flat_lt n r c p q))
 
-  pub divisible-no : (e : ℕ) → e < 2 ^ n * 2 ^ n → divisible (entry l e) ≡ false → allDivisible n (read n l) ≡ false
-  divisible-no e h f =
-      iff (allDivisible n (read n l)) false
-      (λ t. clash (sym (ap divisible (read_at n l e)) ∙ divisible-to n (read n l) t _ _ (row_lt n e h) (col-lt n e)) f)
+  pub divisible_no : (e : ℕ) → e < 2 ^ n * 2 ^ n → divisible (entry l e) ≡ false → all_divisible n (read n l) ≡ false
+  divisible_no e h f =
+      iff (all_divisible n (read n l)) false
+      (λ t. clash (sym (ap divisible (read_at n l e)) ∙ divisible_to n (read n l) t _ _ (row_lt n e h) (col_lt n e)) f)
       (λ t. clash t refl)

@@ -1,6 +1,8 @@
 // How 4,096 signed places hold a matrix of width up to 5: four for each entry, row after row (SPECIFICATION 1.7).
 // Reading and storing an entry, and the numbers of rows. All code over matrices goes by these, so that only this crate
 // knows the layout of an entry.
+#![tactic(auto)]
+
 ghost use Rattle.std.specs.Prelude.{◌≡◌, ◌+◌, ◌*◌, ◌^◌, ◌<◌, ◌≤◌, length};
 ghost use Rattle.exact.specs.Places.{entry};
 ghost use Rattle.exact.specs.Rows.{bit_of};

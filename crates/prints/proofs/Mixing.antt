@@ -3,25 +3,25 @@
 use Rattle.std.proofs.Common.{◌≡◌, ℕ, zero, suc, ◌*◌, ◌^◌, ◌<◌, List, ℤ, refl, mod-eq_of_lt}
 use Rattle.cyclotomic.specs.Zomega.{Zω, turn}
 use Rattle.words.specs.Words.{words}
-use Rattle.exact.specs.Phase.{flat, phaseOf, phased}
-use Rattle.exact.specs.Fingerprint.{Streams, start, mix, mixAll, fold, fourWords, words_of, fingerprint}
+use Rattle.exact.specs.Phase.{flat, phase_of, phased}
+use Rattle.exact.specs.Fingerprint.{Streams, start, mix, mix_all, fold, four_words, words_of, fingerprint}
 use Rattle.exact.proofs.Prints.{words_same}
 use Rattle.exact.specs.Places.{entry, held}
 use Rattle.places.proofs.Placed.{read_at}
-use Rattle.phases.proofs.Pivots.{phase-any}
+use Rattle.phases.proofs.Pivots.{phase_any}
 
 -- the words of one entry more
-pub words_last : (m : ℕ) (s : Streams) (f : ℕ → Zω) → mixAll s (words_of (suc m) f) ≡ mixAll (mixAll s (words_of m f)) (fourWords (f m))
+pub words_last : (m : ℕ) (s : Streams) (f : ℕ → Zω) → mix_all s (words_of (suc m) f) ≡ mix_all (mix_all s (words_of m f)) (four_words (f m))
 words_last zero s f = refl
-words_last (suc m) s f = words_last m (mixAll s (fourWords (f 0))) (λ i. f (suc i))
+words_last (suc m) s f = words_last m (mix_all s (four_words (f 0))) (λ i. f (suc i))
 
 -- the words of the entries, turned by the phase
-phased-words : (n k p : ℕ) (l : List ℤ) → p ≡ phaseOf n (held n 0 l)
+phased_words : (n k p : ℕ) (l : List ℤ) → p ≡ phase_of n (held n 0 l)
     → words_of (2 ^ n * 2 ^ n) (λ i. turn p (entry l i)) ≡ words_of (2 ^ n * 2 ^ n) (flat n (phased n (held n k l)).e)
-phased-words n k p l e = words_same (2 ^ n * 2 ^ n) _ _ (λ i q. rw (e, phase-any n k 0 l, read_at n l i))
+phased_words n k p l e = words_same (2 ^ n * 2 ^ n) _ _ (λ i q. rw (e, phase_any n k 0 l, read_at n l i))
 
 -- width, exponent, and then the entries
-pub print-is : (n k p : ℕ) (l : List ℤ) → n < words → k < words → p ≡ phaseOf n (held n 0 l)
-    → fold (mixAll (mix (mix start n) k) (words_of (2 ^ n * 2 ^ n) (λ i. turn p (entry l i)))) ≡ fingerprint n (held n k l)
+pub print_is : (n k p : ℕ) (l : List ℤ) → n < words → k < words → p ≡ phase_of n (held n 0 l)
+    → fold (mix_all (mix (mix start n) k) (words_of (2 ^ n * 2 ^ n) (λ i. turn p (entry l i)))) ≡ fingerprint n (held n k l)
 unfolding fingerprint
-print-is n k p l h g e = rw (mod-eq_of_lt h, mod-eq_of_lt g, phased-words n k p l e)
+print_is n k p l h g e = rw (mod-eq_of_lt h, mod-eq_of_lt g, phased_words n k p l e)

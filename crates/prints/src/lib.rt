@@ -1,11 +1,13 @@
 // The fingerprint of a matrix (SPECIFICATION 5.2), `unitary_fingerprint` in matrix.rs of the original: width, exponent
 // and entries are mixed into two streams. Entries are turned by the phase as they are read, so that no matrix is
 // copied. pair_prints works two matrices together, by the streams of this crate.
+#![tactic(auto)]
+
 ghost use Rattle.std.specs.Prelude.{◌≡◌, ◌*◌, ◌^◌, ◌≤◌, length};
 ghost use Rattle.cyclotomic.specs.Zomega.{turn};
 ghost use Rattle.exact.specs.Places.{entry, read, held};
 ghost use Rattle.exact.proofs.Words.{AllSmall};
-ghost use Rattle.exact.specs.Fingerprint.{start, mix, mixAll, fold, fourWords, words_of, fingerprint};
+ghost use Rattle.exact.specs.Fingerprint.{start, mix, mix_all, fold, four_words, words_of, fingerprint};
 ghost use Rattle.prints.specs.Prints.{SmallTo, streams};
 
 use cyclotomic::{Coefficient, Cyclotomic};
@@ -31,7 +33,7 @@ impl Streams {
     }
 
     fn mix_entry(self, z: Cyclotomic) -> Streams
-        ensures { streams result ≡ mixAll (streams self) (fourWords z) }
+        ensures { streams result ≡ mix_all (streams self) (four_words z) }
     {
         let a = self.mix(words::sign_extended(z.a));
         let b = a.mix(words::sign_extended(z.b));
@@ -53,7 +55,7 @@ impl Streams {
 fn mix_entries(m: &[Coefficient], size: usize, power: u8, s: Streams) -> Streams
     requires size_in_bounds { 4 * size ≤ length m.now }
     requires small_to { SmallTo m.now size }
-    ensures { streams result ≡ mixAll (streams s) (words_of size (λ i. turn power (entry m.now i))) }
+    ensures { streams result ≡ mix_all (streams s) (words_of size (λ i. turn power (entry m.now i))) }
 {
     let mut t = s;
     let mut e = 0;

@@ -5,7 +5,7 @@ use Prim.Native.Nat.{ℕ, ◌<◌}
 use native.Mathlib.Omega.{arith}
 use borrow.Author.Tests.{ne_eqb}
 use lib.Dec.{eqb}
-use Rattle.refusal.specs.Told.{Reason, byRow, toldRefusal, toldCheck, number_of}
+use Rattle.refusal.specs.Told.{Reason, by_row, told_refusal, told_check, number_of}
 use Rattle.refusal.specs.declared.Check.{Check}
 use Rattle.refusal.specs.declared.Check.TheVariants as c
 use Rattle.refusal.specs.declared.Refusal.{Refusal}
@@ -35,16 +35,16 @@ some r.BadIndex = omega arith
 
 -- r is why: its number is the row's, and it has no position
 pub record Refuses (r : Refusal) (row : ℕ) : Type 0 where
-  pub told : toldRefusal r ≡ byRow row
+  pub told : told_refusal r ≡ by_row row
   pub some : 0 < row
   pub test : eqb row 0 ≡ false
 
-module _ {x : Check} {row : ℕ} (e : toldCheck x ≡ byRow row) where
+module _ {x : Check} {row : ℕ} (e : told_check x ≡ by_row row) where
   pub passed : x ≡ c.Passed → row ≡ 0
-  passed h = ap (λ (t : Reason). t.number) (sym e ∙ ap toldCheck h)
+  passed h = ap (λ (t : Reason). t.number) (sym e ∙ ap told_check h)
 
   pub refused : {r : Refusal} → x ≡ c.Refused r → Refuses r row
   refused {r} h =
-      let told : toldRefusal r ≡ byRow row = sym (ap toldCheck h) ∙ e in
+      let told : told_refusal r ≡ by_row row = sym (ap told_check h) ∙ e in
       let p : 0 < row = omega (arith, some r, ap (λ (t : Reason). t.number) told) in
       record { told = told; some = p; test = ne_eqb row 0 (λ z. absurd (omega (arith, p, z))) }

@@ -13,35 +13,35 @@ pub record Reason : Type 0 where
 abbrev pub reason : ℕ → ℕ → Reason
 reason number position = record { number = number; position = position }
 
-abbrev pub toldRefusal : Refusal → Reason
-toldRefusal r.WidthLimit = reason 1 0
-toldRefusal r.NoEntries = reason 2 0
-toldRefusal r.Basis = reason 3 0
-toldRefusal r.TooLarge = reason 4 0
-toldRefusal r.ArrayTooShort = reason 5 0
-toldRefusal r.WidthTooLarge = reason 6 0
-toldRefusal (r.NotValid i) = reason 7 i
-toldRefusal (r.DoesNotFit i) = reason 8 i
-toldRefusal r.LengthNotExact = reason 9 0
-toldRefusal r.OutOfRange = reason 10 0
-toldRefusal r.NotLowest = reason 11 0
-toldRefusal r.ListTooShort = reason 12 0
-toldRefusal r.BadTable = reason 13 0
-toldRefusal r.BrokenLine = reason 14 0
-toldRefusal r.LongInput = reason 15 0
-toldRefusal r.NoSuchNode = reason 16 0
-toldRefusal r.BadIndex = reason 17 0
+abbrev pub told_refusal : Refusal → Reason
+told_refusal r.WidthLimit = reason 1 0
+told_refusal r.NoEntries = reason 2 0
+told_refusal r.Basis = reason 3 0
+told_refusal r.TooLarge = reason 4 0
+told_refusal r.ArrayTooShort = reason 5 0
+told_refusal r.WidthTooLarge = reason 6 0
+told_refusal (r.NotValid i) = reason 7 i
+told_refusal (r.DoesNotFit i) = reason 8 i
+told_refusal r.LengthNotExact = reason 9 0
+told_refusal r.OutOfRange = reason 10 0
+told_refusal r.NotLowest = reason 11 0
+told_refusal r.ListTooShort = reason 12 0
+told_refusal r.BadTable = reason 13 0
+told_refusal r.BrokenLine = reason 14 0
+told_refusal r.LongInput = reason 15 0
+told_refusal r.NoSuchNode = reason 16 0
+told_refusal r.BadIndex = reason 17 0
 
 -- the first row that holds is told by its number alone; 0 where none does
-abbrev pub byRow : ℕ → Reason
-byRow number = reason number 0
+abbrev pub by_row : ℕ → Reason
+by_row number = reason number 0
 
-abbrev pub toldCheck : Check → Reason
-toldCheck c.Passed = byRow 0
-toldCheck (c.Refused r) = toldRefusal r
+abbrev pub told_check : Check → Reason
+told_check c.Passed = by_row 0
+told_check (c.Refused r) = told_refusal r
 
 abbrev pub number_of : Refusal → ℕ
-number_of r = (toldRefusal r).number
+number_of r = (told_refusal r).number
 
 abbrev pub position_of : Refusal → ℕ
-position_of r = (toldRefusal r).position
+position_of r = (told_refusal r).position

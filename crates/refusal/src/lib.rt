@@ -1,6 +1,8 @@
 // Why an operation is refused: a case for each number of SPECIFICATION 9.1. A new number is a case here, a line in
 // `number_of`, a line in specs/Told.antt, a line of `some` in proofs/Numbers.antt and two lines in proofs/number_of.
 // Callers count on two digits and no more, so that a further number moves none of them.
+#![tactic(auto)]
+
 ghost use Rattle.std.specs.Prelude.{◌≡◌, ◌≤◌};
 ghost use Rattle.refusal.specs.Told.{number_of, position_of};
 

@@ -1,6 +1,8 @@
 // A test program: prints what this library says of every gate code, pair of codes and basis (SPECIFICATION, chapter 2),
 // in the form of the recording of the original. The output is compared with crates/replay/stdout, which oracle/record
 // writes from the original itself; the first line is that recording's header.
+#![tactic(auto)]
+
 ghost use Rattle.std.specs.Prelude.{◌≤◌, ◌<◌};
 
 use circuit::{GateSet, LibraryGate};

@@ -2,6 +2,8 @@
 // each a line `run LENGTH`, that many bytes, which are the program's input, and a newline. For each it prints a line
 // `run LENGTH` and that many bytes, which are the program's output. A run of another form prints `broken` and ends; so
 // does more than 1 MiB of standard input.
+#![tactic(auto)]
+
 ghost use Rattle.std.specs.Prelude.{◌≤◌, length};
 
 use circuits_output::Printed;

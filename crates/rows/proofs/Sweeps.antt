@@ -44,12 +44,12 @@ module _ (n : ℕ) (key : ℕ → ℕ) where
       by s c hs hc b (no e) = k.other s c hs hc e ∙ w.done s c hs hc (omega arith)
 
   -- the rows with key r were done from the start
-  pub swept-pass : {l₀ : List ℤ} {y : ℕ → ℕ → Zω} {l : List ℤ} (r : ℕ) → Swept n key l₀ y l r → ((s c : ℕ) → key s ≡ r → read n l₀ s c ≡ y s c)
+  pub swept_pass : {l₀ : List ℤ} {y : ℕ → ℕ → Zω} {l : List ℤ} (r : ℕ) → Swept n key l₀ y l r → ((s c : ℕ) → key s ≡ r → read n l₀ s c ≡ y s c)
       → Swept n key l₀ y l (r + 1)
-  swept-pass {l₀} {y} {l} r w same =
+  swept_pass {l₀} {y} {l} r w same =
       swept-more r w
       (record { long = refl; worked = λ s c hs hc e. w.rest s c hs hc (omega arith); other = λ s c hs hc e. refl; kept = kept_refl n l })
       (λ s c hs hc e. same s c e)
 
-  pub swept-end : {l₀ : List ℤ} {y : ℕ → ℕ → Zω} {l : List ℤ} (r : ℕ) → Swept n key l₀ y l r → ((s : ℕ) → s < 2 ^ n → key s < r) → Same n (read n l) y
-  swept-end r w h = record { at = λ s c hs hc. w.done s c hs hc (h s hs) }
+  pub swept_end : {l₀ : List ℤ} {y : ℕ → ℕ → Zω} {l : List ℤ} (r : ℕ) → Swept n key l₀ y l r → ((s : ℕ) → s < 2 ^ n → key s < r) → Same n (read n l) y
+  swept_end r w h = record { at = λ s c hs hc. w.done s c hs hc (h s hs) }

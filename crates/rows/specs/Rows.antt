@@ -8,20 +8,20 @@ use Rattle.cyclotomic.specs.Zomega.{Zω, addω, subω, turn, sqrt2}
 abbrev pub has : ℕ → ℕ → Bool
 has r mask = eqb (bit_and r mask) mask
 
-unfoldable pub phaseRows : ℕ → ℕ → (ℕ → ℕ → Zω) → ℕ → ℕ → Zω
-phaseRows mask power x r c = pick (has r mask) (turn power (x r c)) (x r c)
+unfoldable pub phase_rows : ℕ → ℕ → (ℕ → ℕ → Zω) → ℕ → ℕ → Zω
+phase_rows mask power x r c = pick (has r mask) (turn power (x r c)) (x r c)
 
 -- the lower row of r's pair: r without the bit
-abbrev pub lowRow : ℕ → ℕ → ℕ
-lowRow bit r = r - bit_and r bit
+abbrev pub low_row : ℕ → ℕ → ℕ
+low_row bit r = r - bit_and r bit
 
 -- the row that comes to row r
-unfoldable pub sourceRow : ℕ → ℕ → ℕ → ℕ
-sourceRow control bit r = pick (has r control) (pick (has r bit) (r - bit) (bit_or r bit)) r
+unfoldable pub source_row : ℕ → ℕ → ℕ → ℕ
+source_row control bit r = pick (has r control) (pick (has r bit) (r - bit) (bit_or r bit)) r
 
-abbrev pub exchangeRows : ℕ → ℕ → (ℕ → ℕ → Zω) → ℕ → ℕ → Zω
-exchangeRows control bit x r c = x (sourceRow control bit r) c
+abbrev pub exchange_rows : ℕ → ℕ → (ℕ → ℕ → Zω) → ℕ → ℕ → Zω
+exchange_rows control bit x r c = x (source_row control bit r) c
 
 -- sum and difference of the rows that differ in the bit, where they have all bits of control; the other rows times √2
-unfoldable pub hRows : ℕ → ℕ → (ℕ → ℕ → Zω) → ℕ → ℕ → Zω
-hRows control bit x r c = pick (has r control) (pick (has r bit) (subω (x (r - bit) c) (x r c)) (addω (x r c) (x (bit_or r bit) c))) (sqrt2 (x r c))
+unfoldable pub h_rows : ℕ → ℕ → (ℕ → ℕ → Zω) → ℕ → ℕ → Zω
+h_rows control bit x r c = pick (has r control) (pick (has r bit) (subω (x (r - bit) c) (x r c)) (addω (x r c) (x (bit_or r bit) c))) (sqrt2 (x r c))

@@ -1,12 +1,14 @@
 // Row operations in place, on 4,096 signed places that hold a matrix of width up to 5: turns by powers of omega and
 // exchanges. matrix.rs of the original, `apply_phase_left` and `apply_controlled_x_left`. Rows are tested by and, a
 // row's partner is found by or; entries are turned by the ring's own function, and an exchange moves places.
+#![tactic(auto)]
+
 ghost use Rattle.std.specs.Prelude.{◌≡◌, ◌+◌, ◌*◌, ◌^◌, ◌<◌, ◌≤◌, length};
 ghost use Rattle.std.specs.Int.Bits.{bit_and};
 ghost use Rattle.exact.proofs.Words.{AllSmall};
 ghost use Rattle.exact.specs.Places.{read};
 ghost use Rattle.places.specs.Places.{places, Same, Kept};
-ghost use Rattle.rows.specs.Rows.{phaseRows, lowRow, exchangeRows};
+ghost use Rattle.rows.specs.Rows.{phase_rows, low_row, exchange_rows};
 ghost use Rattle.rows.specs.Work.{Worked, Exchanged, Turned, SmallFrom};
 
 use cyclotomic::Coefficient;
@@ -33,7 +35,7 @@ fn exchange_row(m: &mut [Coefficient; 4096], n: usize, r: usize, control: usize,
     requires n_bound { (n ≤ 5) × (t < n) }
     requires t_value { bit_and control (2 ^ t) ≡ 0 }
     requires r_bound { r < 2 ^ n }
-    ensures { Worked n (lowRow (2 ^ t)) r (exchangeRows control (2 ^ t) (read n m.old)) m.old m.new }
+    ensures { Worked n (low_row (2 ^ t)) r (exchange_rows control (2 ^ t) (read n m.old)) m.old m.new }
 {
     if r & control != control {
         return;
@@ -52,7 +54,7 @@ pub fn apply_controlled_x_left(m: &mut [Coefficient; 4096], n: usize, control: u
     requires n_bound { (n ≤ 5) × (t < n) }
     requires t_value { bit_and control (2 ^ t) ≡ 0 }
     ensures sized { length m.new ≡ places }
-    ensures exchanged { Same n (read n m.new) (exchangeRows control (2 ^ t) (read n m.old)) }
+    ensures exchanged { Same n (read n m.new) (exchange_rows control (2 ^ t) (read n m.old)) }
     ensures kept { Kept n m.old m.new }
 {
     let d = places::dim(n);
@@ -84,7 +86,7 @@ fn phase_rows(m: &mut [Coefficient; 4096], n: usize, mask: usize, power: u8)
     requires n_bound { n ≤ 5 }
     requires all_small { AllSmall n (read n m.old) }
     ensures sized { length m.new ≡ places }
-    ensures turned { Same n (read n m.new) (phaseRows mask power (read n m.old)) }
+    ensures turned { Same n (read n m.new) (phase_rows mask power (read n m.old)) }
     ensures kept { Kept n m.old m.new }
 {
     let d = places::dim(n);
@@ -103,7 +105,7 @@ pub fn apply_phase_left(m: &mut [Coefficient; 4096], n: usize, mask: usize, powe
     requires n_bound { n ≤ 5 }
     requires all_small { AllSmall n (read n m.old) }
     ensures sized { length m.new ≡ places }
-    ensures turned { Same n (read n m.new) (phaseRows mask power (read n m.old)) }
+    ensures turned { Same n (read n m.new) (phase_rows mask power (read n m.old)) }
     ensures kept { Kept n m.old m.new }
 {
     match power {

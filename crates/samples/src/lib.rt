@@ -3,3 +3,5 @@
 //
 // Why a crate of its own: to compute a walk or an answer costs more than all laws of walk and of tables together. Above
 // both, and without edits of its own, a sample is computed once, and by no edit of a definition below it.
+
+#![tactic(auto)]

@@ -6,24 +6,24 @@ use Prim.Native.Nat.{ℕ, zero, suc}
 use lib.Dec.{ltb}
 use lib.ListN.{get_or}
 use Rattle.circuit.specs.Pairs.{inverse, disjoint}
-use Rattle.skip_rules.specs.Skips.{prunedAt}
+use Rattle.skip_rules.specs.Skips.{pruned_at}
 
 module _ (codes : List ℕ) (node g : ℕ) (p : node ≡ 0 → ⊥) where
   abbrev last : ℕ
   last = get_or codes node 0
 
-  by_last : prunedAt codes node g ≡ (inverse g last || (disjoint g last && ltb g last))
+  by_last : pruned_at codes node g ≡ (inverse g last || (disjoint g last && ltb g last))
   by_last = by node p
     where
-      by : (k : ℕ) → (k ≡ 0 → ⊥) → prunedAt codes k g ≡ (inverse g (get_or codes k 0) || (disjoint g (get_or codes k 0) && ltb g (get_or codes k 0)))
+      by : (k : ℕ) → (k ≡ 0 → ⊥) → pruned_at codes k g ≡ (inverse g (get_or codes k 0) || (disjoint g (get_or codes k 0) && ltb g (get_or codes k 0)))
       by zero q = absurd (q refl)
       by (suc k) q = refl
 
-  pub pruned-inverse : inverse g last ≡ true → true ≡ prunedAt codes node g
-  pruned-inverse e = sym (by_last ∙ rw e)
+  pub pruned_inverse : inverse g last ≡ true → true ≡ pruned_at codes node g
+  pruned_inverse e = sym (by_last ∙ rw e)
 
-  pub pruned-shares : inverse g last ≡ false → disjoint g last ≡ false → false ≡ prunedAt codes node g
-  pruned-shares e d = sym (by_last ∙ rw (e, d))
+  pub pruned_shares : inverse g last ≡ false → disjoint g last ≡ false → false ≡ pruned_at codes node g
+  pruned_shares e d = sym (by_last ∙ rw (e, d))
 
-  pub pruned-lower : inverse g last ≡ false → disjoint g last ≡ true → ltb g last ≡ prunedAt codes node g
-  pruned-lower e d = sym (by_last ∙ rw (e, d))
+  pub pruned_lower : inverse g last ≡ false → disjoint g last ≡ true → ltb g last ≡ pruned_at codes node g
+  pruned_lower e d = sym (by_last ∙ rw (e, d))

@@ -5,9 +5,9 @@ use Rattle.ints.specs.Lists.{pick}
 use Rattle.circuit.specs.Pairs.{inverse, disjoint}
 
 -- the two skip rules (SPECIFICATION 6.5) by the code that the array has for the node; node 0 has no gate
-abbrev pub prunedAt : List ℕ → ℕ → ℕ → Bool
-prunedAt codes zero g = false
-prunedAt codes (suc node) g =
+abbrev pub pruned_at : List ℕ → ℕ → ℕ → Bool
+pruned_at codes zero g = false
+pruned_at codes (suc node) g =
     inverse g (get_or codes (suc node) 0) || (disjoint g (get_or codes (suc node) 0) && ltb g (get_or codes (suc node) 0))
 
 -- the gates that a test does not skip, in order
@@ -17,6 +17,6 @@ unskipped skip (g ∷ gs) = pick (skip g) (unskipped skip gs) (g ∷ unskipped s
 
 -- the first places of 105 hold the gates that the two skip rules leave after the node, by the array of codes
 pub record Unpruned (node : ℕ) (gs c kept : List ℕ) (size : ℕ) : Type 0 where
-  pub is : take size kept ≡ unskipped (prunedAt c node) gs
+  pub is : take size kept ≡ unskipped (pruned_at c node) gs
   pub few : size ≤ length gs
   pub long : length kept ≡ 105

@@ -1,8 +1,10 @@
 // Which generators are tried after a node: the two skip rules (SPECIFICATION 6.5), by the node's own gate. A gate that
 // inverts it gives a product that was tried before; of two gates that share no qubit one order is enough. Both are
 // asked of the code alone, before a matrix is formed.
+#![tactic(auto)]
+
 ghost use Rattle.std.specs.Prelude.{◌≡◌, ◌≤◌, ◌<◌, length};
-ghost use Rattle.skip_rules.specs.Skips.{prunedAt, Unpruned};
+ghost use Rattle.skip_rules.specs.Skips.{pruned_at, Unpruned};
 
 use circuit::LibraryGate;
 
@@ -10,7 +12,7 @@ use circuit::LibraryGate;
 // its code is the lower one (SPECIFICATION 6.5).
 pub fn is_pruned(node: usize, gate: u32, codes: &[u32]) -> bool
     requires there { node < length codes.now }
-    ensures pruned { result ≡ prunedAt codes.now node gate }
+    ensures pruned { result ≡ pruned_at codes.now node gate }
 {
     if node == 0 {
         return false;

@@ -1,7 +1,7 @@
 -- What a step leaves in the places, in terms of exact matrices. Assumes nothing.
 use Rattle.std.specs.Prelude.{◌≡◌, List, ℕ, ℤ}
-use Rattle.exact.proofs.Words.{Proper, stepAnswer, made}
-use Rattle.cyclotomic.specs.Told.{doesNotFit}
+use Rattle.exact.proofs.Words.{Proper, step_answer, made}
+use Rattle.cyclotomic.specs.Told.{does_not_fit}
 use Rattle.circuit.specs.Pairs.{mask_of}
 use Rattle.exact.specs.Rows.{Gate, phase, act}
 use Rattle.exact.specs.Answers.{Answer, given, refused}
@@ -12,9 +12,9 @@ use Rattle.steps.specs.declared.Applied.{Applied}
 use Rattle.steps.specs.declared.Applied.TheVariants.{Done, DoesNotFit}
 
 -- the number and the values of each case
-abbrev pub toldApplied : Applied → Answer
-toldApplied (Done k) = given k
-toldApplied DoesNotFit = refused doesNotFit 0
+abbrev pub told_applied : Applied → Answer
+told_applied (Done k) = given k
+told_applied DoesNotFit = refused does_not_fit 0
 
 -- what a step by the gate g leaves: its exact result, with the exponent told, or, where it does not fit, what its row
 -- operations before the first that does not fit have made; of a gate of one operation that is the matrix as it was, and
@@ -25,7 +25,7 @@ StepLeft n k g l l' DoesNotFit = Holds n (made n g (held n k l)).k l' (made n g 
 
 -- with the answer that the definition gives, and the places past the matrix as they were
 pub record Stepped (n k : ℕ) (g : Gate) (l l' : List ℤ) (r : Applied) : Type 0 where
-  pub answer : toldApplied r ≡ stepAnswer n g (held n k l)
+  pub answer : told_applied r ≡ step_answer n g (held n k l)
   pub left : StepLeft n k g l l' r
   pub kept : Kept n l l'
 

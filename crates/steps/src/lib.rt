@@ -1,15 +1,17 @@
 // One gate applied in place: a turn, an exchange, H or Ch, and the gates that are made of several of these. Below
 // `matrix`, which chooses by kind, so that an edit of a gate does not prove the choice. Of the row operations only H
 // and Ch can fail to fit.
+#![tactic(auto)]
+
 ghost use Rattle.std.specs.Prelude.{◌≡◌, [], ◌∷◌, ◌^◌, ◌<◌, ◌≤◌};
 ghost use Rattle.std.specs.Int.Bits.{bit_and, bit_or};
-ghost use Rattle.exact.specs.Rows.{phase, exchange, had, then, turnedExchange, exchanges3};
+ghost use Rattle.exact.specs.Rows.{phase, exchange, had, then, turned_exchange, exchanges3};
 ghost use Rattle.places.specs.Held.{Ready};
 ghost use Rattle.steps.specs.Step.{Stepped, TurnsRows, Controlled};
 
 use cyclotomic::Coefficient;
 
-// The largest exponent, `mostK` of the definitions: a step whose raw result has a larger one does not fit
+// The largest exponent, `most_k` of the definitions: a step whose raw result has a larger one does not fit
 // (SPECIFICATION 3.4).
 const MOST_K: u16 = 65535;
 
@@ -85,7 +87,7 @@ pub fn y_step(m: &mut [Coefficient; 4096], n: usize, control: usize, t: usize, k
     requires n_bound { (n ≤ 5) × (t < n) }
     requires t_value { bit_and control (2 ^ t) ≡ 0 }
     requires ready { Ready n k m.old }
-    ensures { Controlled n k control (λ ks. turnedExchange ks t) m.old m.new result }
+    ensures { Controlled n k control (λ ks. turned_exchange ks t) m.old m.new result }
 {
     let bit = places::mask(t);
     rows::apply_phase_left(m, n, bit, 6);

@@ -7,20 +7,20 @@ use Prim.Native.Nat.{ℕ, ◌+◌, ◌≤◌, ◌<◌}
 use lib.ListN.{length, get_or}
 use Rattle.circuit.specs.Codes.{mark}
 use Rattle.walk.specs.Index.{indexed, kept}
-use Rattle.stored_matrix.specs.Nodes.{Nodes, printAt, sameAt, FitTo}
+use Rattle.stored_matrix.specs.Nodes.{Nodes, print_at, same_at, FitTo}
 
 -- no node from `low` on and below `high` is the same as a later node that is not below `from` and is below `top`
 pub record Apart (s : Nodes) (low high from top : ℕ) : Type 0 where
-  pub apart : (i j : ℕ) → low ≤ i → i < high → i < j → from ≤ j → j < top → sameAt s i j ≡ false
+  pub apart : (i j : ℕ) → low ≤ i → i < high → i < j → from ≤ j → j < top → same_at s i j ≡ false
 
 -- no node from `low` on and below `high` is the same as node j
 pub record Clear (s : Nodes) (low high j : ℕ) : Type 0 where
-  pub clear : (i : ℕ) → low ≤ i → i < high → sameAt s i j ≡ false
+  pub clear : (i : ℕ) → low ≤ i → i < high → same_at s i j ≡ false
 
 -- the first m places of the block hold the fingerprints of the nodes from `low` on, and the index is what a fill from
 -- them leaves
 pub record Indexed (s : Nodes) (low m : ℕ) (block index : List ℕ) : Type 0 where
-  pub prints : (k : ℕ) → k < m → get_or block k 0 ≡ printAt s (low + k)
+  pub prints : (k : ℕ) → k < m → get_or block k 0 ≡ print_at s (low + k)
   pub old : List ℕ
   pub filled : index ≡ kept indexed block m old
   pub room : (m ≤ length old) × (m ≤ mark)
@@ -43,4 +43,4 @@ pub record FitApart (s : Nodes) (low high from count : ℕ) : Type 0 where
 -- where no two of the nodes are the same and a block of `size` places has one for each, it holds their fingerprints:
 -- they need not be formed again
 pub record KeptIn (s : Nodes) (count size : ℕ) (block : List ℕ) (ok : Bool) : Type 0 where
-  pub kept : ok ≡ true → count ≤ size → (k : ℕ) → k < count → get_or block k 0 ≡ printAt s k
+  pub kept : ok ≡ true → count ≤ size → (k : ℕ) → k < count → get_or block k 0 ≡ print_at s k

@@ -2,11 +2,13 @@
 // an index of it: each node is looked up among those of the block that come before it, and products are compared only
 // where fingerprints are equal. A width with more nodes than the block has places is worked in several blocks, each
 // held against all nodes past it.
+#![tactic(auto)]
+
 ghost use mathlib.Core.Path.{◌≡◌};
 ghost use mathlib.Core.Bool.{true};
 ghost use Prim.Native.Nat.{◌+◌, ◌-◌, ◌<◌, ◌≤◌};
 ghost use lib.ListN.{length};
-ghost use Rattle.stored_matrix.specs.Nodes.{nodesIn, printAt, sameAt, Sound, FitTo};
+ghost use Rattle.stored_matrix.specs.Nodes.{nodes_in, print_at, same_at, Sound, FitTo};
 ghost use Rattle.stored_prints.specs.Prints.{Printed};
 ghost use Rattle.stored_apart.specs.Apart.{Apart, Clear, Indexed, Tells, Grown, FitApart, KeptIn};
 
@@ -24,9 +26,9 @@ fn same(
     codes: &[u32],
 ) -> bool
     requires order { i < j }
-    requires sound { Sound (nodesIn limits parentfile.now codefile.now parents.now codes.now) (j + 1) }
-    requires fits { FitTo (nodesIn limits parentfile.now codefile.now parents.now codes.now) (j + 1) }
-    ensures same { result ≡ sameAt (nodesIn limits parentfile.now codefile.now parents.now codes.now) i j }
+    requires sound { Sound (nodes_in limits parentfile.now codefile.now parents.now codes.now) (j + 1) }
+    requires fits { FitTo (nodes_in limits parentfile.now codefile.now parents.now codes.now) (j + 1) }
+    ensures same { result ≡ same_at (nodes_in limits parentfile.now codefile.now parents.now codes.now) i j }
 {
     let mut left: [Coefficient; 4096] = [0; 4096];
     let mut right: [Coefficient; 4096] = [0; 4096];
@@ -50,11 +52,11 @@ fn is_clear(
     index: &[u32],
 ) -> bool
     requires order { (low + size ≤ j) × (size ≤ length block.now) }
-    requires sound { Sound (nodesIn limits parentfile.now codefile.now parents.now codes.now) (j + 1) }
-    requires fits { FitTo (nodesIn limits parentfile.now codefile.now parents.now codes.now) (j + 1) }
-    requires indexed { Indexed (nodesIn limits parentfile.now codefile.now parents.now codes.now) low size block.now index.now }
-    requires print { print ≡ printAt (nodesIn limits parentfile.now codefile.now parents.now codes.now) j }
-    ensures clear { Tells (Clear (nodesIn limits parentfile.now codefile.now parents.now codes.now)
+    requires sound { Sound (nodes_in limits parentfile.now codefile.now parents.now codes.now) (j + 1) }
+    requires fits { FitTo (nodes_in limits parentfile.now codefile.now parents.now codes.now) (j + 1) }
+    requires indexed { Indexed (nodes_in limits parentfile.now codefile.now parents.now codes.now) low size block.now index.now }
+    requires print { print ≡ print_at (nodes_in limits parentfile.now codefile.now parents.now codes.now) j }
+    ensures clear { Tells (Clear (nodes_in limits parentfile.now codefile.now parents.now codes.now)
         low (low + size) j) result }
 {
     let lim = limits;
@@ -85,10 +87,10 @@ fn grow(
     index: &mut [u32],
 ) -> bool
     requires order { (size ≤ length block.now) × (size ≤ length index.old) × (size ≤ 4294967295) }
-    requires sound { Sound (nodesIn limits parentfile.now codefile.now parents.now codes.now) (low + size) }
-    requires fits { FitTo (nodesIn limits parentfile.now codefile.now parents.now codes.now) (low + size) }
-    requires printed { Printed (nodesIn limits parentfile.now codefile.now parents.now codes.now) low size block.now }
-    ensures grown { Grown (nodesIn limits parentfile.now codefile.now parents.now codes.now)
+    requires sound { Sound (nodes_in limits parentfile.now codefile.now parents.now codes.now) (low + size) }
+    requires fits { FitTo (nodes_in limits parentfile.now codefile.now parents.now codes.now) (low + size) }
+    requires printed { Printed (nodes_in limits parentfile.now codefile.now parents.now codes.now) low size block.now }
+    ensures grown { Grown (nodes_in limits parentfile.now codefile.now parents.now codes.now)
         low size block.now index.new result }
     ensures same { length index.new ≡ length index.old }
 {
@@ -134,11 +136,11 @@ fn chunk_clear(
     chunk: &[u64],
 ) -> bool
     requires order { (low + size ≤ from) × (size ≤ length block.now) × (many ≤ length chunk.now) }
-    requires sound { Sound (nodesIn limits parentfile.now codefile.now parents.now codes.now) (from + many) }
-    requires fits { FitTo (nodesIn limits parentfile.now codefile.now parents.now codes.now) (from + many) }
-    requires indexed { Indexed (nodesIn limits parentfile.now codefile.now parents.now codes.now) low size block.now index.now }
-    requires printed { Printed (nodesIn limits parentfile.now codefile.now parents.now codes.now) from many chunk.now }
-    ensures apart { Tells (Apart (nodesIn limits parentfile.now codefile.now parents.now codes.now)
+    requires sound { Sound (nodes_in limits parentfile.now codefile.now parents.now codes.now) (from + many) }
+    requires fits { FitTo (nodes_in limits parentfile.now codefile.now parents.now codes.now) (from + many) }
+    requires indexed { Indexed (nodes_in limits parentfile.now codefile.now parents.now codes.now) low size block.now index.now }
+    requires printed { Printed (nodes_in limits parentfile.now codefile.now parents.now codes.now) from many chunk.now }
+    ensures apart { Tells (Apart (nodes_in limits parentfile.now codefile.now parents.now codes.now)
         low (low + size) from (from + many)) result }
 {
     let lim = limits;
@@ -190,10 +192,10 @@ fn past(
     index: &[u32],
 ) -> bool
     requires order { (low + size ≤ count) × (size ≤ length block.now) }
-    requires sound { Sound (nodesIn limits parentfile.now codefile.now parents.now codes.now) count }
-    requires fits { FitTo (nodesIn limits parentfile.now codefile.now parents.now codes.now) (low + size) }
-    requires indexed { Indexed (nodesIn limits parentfile.now codefile.now parents.now codes.now) low size block.now index.now }
-    ensures apart { Tells (FitApart (nodesIn limits parentfile.now codefile.now parents.now codes.now)
+    requires sound { Sound (nodes_in limits parentfile.now codefile.now parents.now codes.now) count }
+    requires fits { FitTo (nodes_in limits parentfile.now codefile.now parents.now codes.now) (low + size) }
+    requires indexed { Indexed (nodes_in limits parentfile.now codefile.now parents.now codes.now) low size block.now index.now }
+    ensures apart { Tells (FitApart (nodes_in limits parentfile.now codefile.now parents.now codes.now)
         low (low + size) (low + size) count) result }
 {
     let lim = limits;
@@ -240,10 +242,10 @@ pub fn distinct(
     index: &mut [u32],
 ) -> bool
     requires room { (0 < length block.old) × (length block.old ≤ length index.old) × (length block.old ≤ 4294967295) }
-    requires sound { Sound (nodesIn limits parentfile.now codefile.now parents.now codes.now) count }
-    ensures apart { Tells (FitApart (nodesIn limits parentfile.now codefile.now parents.now codes.now)
+    requires sound { Sound (nodes_in limits parentfile.now codefile.now parents.now codes.now) count }
+    ensures apart { Tells (FitApart (nodes_in limits parentfile.now codefile.now parents.now codes.now)
         0 count 0 count) result }
-    ensures kept { KeptIn (nodesIn limits parentfile.now codefile.now parents.now codes.now)
+    ensures kept { KeptIn (nodes_in limits parentfile.now codefile.now parents.now codes.now)
         count (length block.old) block.new result }
     ensures same { length block.new ≡ length block.old }
 {

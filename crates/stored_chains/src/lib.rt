@@ -1,13 +1,15 @@
 // The chain of a node whose numbers are in a file's bytes or in arrays: `depth` and `circuit` of synthesis_arena with
 // `number_at` in the place of an array's element, and with their contracts (SPECIFICATION 7.5). They stand apart
 // because an answer reads arrays alone, and its time is measured.
+#![tactic(auto)]
+
 ghost use mathlib.Core.Path.{◌≡◌};
 ghost use Prim.Native.Nat.{◌<◌, ◌≤◌};
 ghost use lib.ListN.{length};
 ghost use Rattle.walk.specs.Answers.{outcome, written};
-ghost use Rattle.walk.specs.Chains.{marked, chainOf};
+ghost use Rattle.walk.specs.Chains.{marked, chain_of};
 ghost use Rattle.stored_numbers.specs.Files.{source};
-ghost use Rattle.synthesis_arena.specs.Chains.{depth_of, toldDepth, toldCircuit};
+ghost use Rattle.synthesis_arena.specs.Chains.{depth_of, told_depth, told_circuit};
 
 use circuit::{GateSet, LibraryGate};
 use stored_numbers::number_at;
@@ -36,7 +38,7 @@ pub fn depth(
     codes: &[u32],
 ) -> NodeDepth
     requires there { (node < length (source parentfile.now parents.now)) × (node < length (source codefile.now codes.now)) }
-    ensures depth { toldDepth result ≡ depth_of (chainOf width basis.0
+    ensures depth { told_depth result ≡ depth_of (chain_of width basis.0
         (source parentfile.now parents.now) (source codefile.now codes.now) limit node) }
 {
     if node == 0 {
@@ -83,7 +85,7 @@ pub fn circuit(
     out: &mut [u32],
 ) -> NodeCircuit
     requires there { (node < length (source parentfile.now parents.now)) × (node < length (source codefile.now codes.now)) × (limit ≤ length out.old) }
-    ensures written { outcome (toldCircuit result) out.new ≡ written out.old (chainOf width basis.0
+    ensures written { outcome (told_circuit result) out.new ≡ written out.old (chain_of width basis.0
         (source parentfile.now parents.now) (source codefile.now codes.now) limit node) }
 {
     let NodeDepth::At(size) = depth(

@@ -1,12 +1,14 @@
 // The matrix of a node from its parent's by one gate. Nodes rise and parents never fall, so the children of a node
 // stand together: its matrix is formed from its list once, and each child's by one gate on a copy.
+#![tactic(auto)]
+
 ghost use mathlib.Core.Path.{◌≡◌};
 ghost use Prim.Native.Nat.{◌+◌, ◌≤◌, ◌<◌};
 ghost use lib.ListN.{length, get_or};
 ghost use Rattle.places.specs.Places.{places};
 ghost use Rattle.places.specs.Held.{Holds};
 ghost use Rattle.stored_numbers.specs.Files.{source};
-ghost use Rattle.stored_matrix.specs.Nodes.{nodesIn, nodeProduct, Fits, Sound, FitTo, formedFrom, ChildFormed, ChildMade};
+ghost use Rattle.stored_matrix.specs.Nodes.{nodes_in, node_product, Fits, Sound, FitTo, formed_from, ChildFormed, ChildMade};
 
 use circuit::GateSet;
 use cyclotomic::Coefficient;
@@ -32,11 +34,11 @@ pub fn form_node(
     codes: &[u32],
     m: &mut [Coefficient; 4096],
 ) -> u16
-    requires sound { Sound (nodesIn limits parentfile.now codefile.now parents.now codes.now) (node + 1) }
-    requires fits { Fits (nodesIn limits parentfile.now codefile.now parents.now codes.now) node }
+    requires sound { Sound (nodes_in limits parentfile.now codefile.now parents.now codes.now) (node + 1) }
+    requires fits { Fits (nodes_in limits parentfile.now codefile.now parents.now codes.now) node }
     requires long { length m.old ≡ places }
     ensures formed { Holds limits.width result m.new
-        (nodeProduct (nodesIn limits parentfile.now codefile.now parents.now codes.now) node) }
+        (node_product (nodes_in limits parentfile.now codefile.now parents.now codes.now) node) }
 {
     identity::set_identity(m, limits.width as usize);
     let mut list: [u32; 64] = [0; 64];
@@ -62,7 +64,7 @@ pub fn form_node(
 // The node whose matrix a node's is formed from.
 pub fn formed_from(parentfile: &[u8], parents: &[u32], node: usize) -> usize
     requires there { node < length (source parentfile.now parents.now) }
-    ensures from { result ≡ formedFrom (source parentfile.now parents.now) node }
+    ensures from { result ≡ formed_from (source parentfile.now parents.now) node }
 {
     if node == 0 {
         return 0;
@@ -82,11 +84,11 @@ fn turn_to(
     codes: &[u32],
     m: &mut [Coefficient; 4096],
 ) -> u16
-    requires sound { Sound (nodesIn limits parentfile.now codefile.now parents.now codes.now) (node + 1) }
-    requires fits { Fits (nodesIn limits parentfile.now codefile.now parents.now codes.now) node }
-    requires formed { Holds limits.width exponent m.old (nodeProduct (nodesIn limits parentfile.now codefile.now parents.now codes.now) formed) }
+    requires sound { Sound (nodes_in limits parentfile.now codefile.now parents.now codes.now) (node + 1) }
+    requires fits { Fits (nodes_in limits parentfile.now codefile.now parents.now codes.now) node }
+    requires formed { Holds limits.width exponent m.old (node_product (nodes_in limits parentfile.now codefile.now parents.now codes.now) formed) }
     ensures formed { Holds limits.width result m.new
-        (nodeProduct (nodesIn limits parentfile.now codefile.now parents.now codes.now) node) }
+        (node_product (nodes_in limits parentfile.now codefile.now parents.now codes.now) node) }
 {
     if node == formed {
         return exponent;
@@ -107,12 +109,12 @@ fn one_gate(
     m: &[Coefficient],
     out: &mut [Coefficient; 4096],
 ) -> Applied
-    requires sound { Sound (nodesIn limits parentfile.now codefile.now parents.now codes.now) (node + 1) }
-    requires fits { FitTo (nodesIn limits parentfile.now codefile.now parents.now codes.now) node }
+    requires sound { Sound (nodes_in limits parentfile.now codefile.now parents.now codes.now) (node + 1) }
+    requires fits { FitTo (nodes_in limits parentfile.now codefile.now parents.now codes.now) node }
     requires formed { Holds limits.width exponent m.now
-        (nodeProduct (nodesIn limits parentfile.now codefile.now parents.now codes.now) (formedFrom (source parentfile.now parents.now) node)) }
+        (node_product (nodes_in limits parentfile.now codefile.now parents.now codes.now) (formed_from (source parentfile.now parents.now) node)) }
     requires long { length out.old ≡ places }
-    ensures formed { ChildFormed (nodesIn limits parentfile.now codefile.now parents.now codes.now) node
+    ensures formed { ChildFormed (nodes_in limits parentfile.now codefile.now parents.now codes.now) node
         out.new result }
     ensures long { length out.new ≡ places }
 {
@@ -138,11 +140,11 @@ pub fn next_child(
     m: &mut [Coefficient; 4096],
     out: &mut [Coefficient; 4096],
 ) -> Child
-    requires sound { Sound (nodesIn limits parentfile.now codefile.now parents.now codes.now) (node + 1) }
-    requires fits { FitTo (nodesIn limits parentfile.now codefile.now parents.now codes.now) node }
-    requires formed { Holds limits.width exponent m.old (nodeProduct (nodesIn limits parentfile.now codefile.now parents.now codes.now) formed) }
+    requires sound { Sound (nodes_in limits parentfile.now codefile.now parents.now codes.now) (node + 1) }
+    requires fits { FitTo (nodes_in limits parentfile.now codefile.now parents.now codes.now) node }
+    requires formed { Holds limits.width exponent m.old (node_product (nodes_in limits parentfile.now codefile.now parents.now codes.now) formed) }
     requires long { length out.old ≡ places }
-    ensures made { ChildMade (nodesIn limits parentfile.now codefile.now parents.now codes.now) node
+    ensures made { ChildMade (nodes_in limits parentfile.now codefile.now parents.now codes.now) node
         m.new out.new result }
     ensures long { (length m.new ≡ places) × (length out.new ≡ places) }
 {

@@ -6,12 +6,12 @@ use Prim.Native.Nat.{ℕ, zero, suc, ◌≤◌, ◌<◌}
 use lib.Dec.{leb}
 use lib.ListN.{length, get_or}
 use Rattle.ints.specs.Lists.{pick, all, over, range}
-use Rattle.circuit.specs.Codes.{validFor, mark}
+use Rattle.circuit.specs.Codes.{valid_for, mark}
 use Rattle.exact.specs.Fits.{steps}
 use Rattle.walk.specs.Chains.{Chain, good, bad}
-use Rattle.walk.specs.Finds.{fitsAll}
+use Rattle.walk.specs.Finds.{fits_all}
 use Rattle.walk.specs.Meaning.{Trail}
-use Rattle.stored_matrix.specs.Nodes.{Nodes, chainIn, nodeList, printAt, sameAt, Fits}
+use Rattle.stored_matrix.specs.Nodes.{Nodes, chain_in, node_list, print_at, same_at, Fits}
 
 -- ---- in words
 
@@ -19,21 +19,21 @@ use Rattle.stored_matrix.specs.Nodes.{Nodes, chainIn, nodeList, printAt, sameAt,
 -- codes are valid and of B, no chain passes G gates, every product fits, and no two nodes are equal up to phase".
 -- Node 0's mark is no parent: that none falls is said from node 2 on
 pub record NodeRules (s : Nodes) (count : ℕ) : Type 0 where
-  pub parent-mark : get_or s.parents 0 0 ≡ mark
-  pub code-mark : get_or s.codes 0 0 ≡ mark
+  pub parent_mark : get_or s.parents 0 0 ≡ mark
+  pub code_mark : get_or s.codes 0 0 ≡ mark
   pub below : (j : ℕ) → 0 < j → j < count → get_or s.parents j 0 < j
-  pub never-fall : (j : ℕ) → 0 < j → suc j < count → get_or s.parents j 0 ≤ get_or s.parents (suc j) 0
-  pub of-basis : (j : ℕ) → 0 < j → j < count → validFor s.width s.basis (get_or s.codes j 0) ≡ true
+  pub never_fall : (j : ℕ) → 0 < j → suc j < count → get_or s.parents j 0 ≤ get_or s.parents (suc j) 0
+  pub of_basis : (j : ℕ) → 0 < j → j < count → valid_for s.width s.basis (get_or s.codes j 0) ≡ true
   pub short : (j i : ℕ) → j < count → Trail s.parents j i 0 → i ≤ s.gates
   pub fit : (j : ℕ) → j < count → Fits s j
-  pub apart : (i j : ℕ) → i < j → j < count → sameAt s i j ≡ false
+  pub apart : (i j : ℕ) → i < j → j < count → same_at s i j ≡ false
 
 -- ---- as a test
 
 -- a chain is good
-abbrev pub isGood : Chain → Bool
-isGood (good l) = true
-isGood bad = false
+abbrev pub is_good : Chain → Bool
+is_good (good l) = true
+is_good bad = false
 
 -- the parent of a node is not below that of the node before it; nodes 0 and 1 have no such node before them
 abbrev pub rises : List ℕ → ℕ → Bool
@@ -42,23 +42,23 @@ rises parents (suc zero) = true
 rises parents (suc (suc j)) = leb (get_or parents (suc j) 0) (get_or parents (suc (suc j)) 0)
 
 -- one node's rules, with all nodes before it
-unfoldable pub nodeKeeps : Nodes → ℕ → Bool
-nodeKeeps s j = isGood (chainIn s j) && (rises s.parents j && (fitsAll (steps s.width (nodeList s j)) && all (λ i. not (sameAt s i j)) (range 0 j)))
+unfoldable pub node_keeps : Nodes → ℕ → Bool
+node_keeps s j = is_good (chain_in s j) && (rises s.parents j && (fits_all (steps s.width (node_list s j)) && all (λ i. not (same_at s i j)) (range 0 j)))
 
-unfoldable pub nodesKeep : Nodes → ℕ → Bool
-nodesKeep s count = all (nodeKeeps s) (range 0 count)
+unfoldable pub nodes_keep : Nodes → ℕ → Bool
+nodes_keep s count = all (node_keeps s) (range 0 count)
 
 -- ---- what the tests leave
 
 -- the chains of the first nodes are good, and their parents never fall
 pub record Chains (s : Nodes) (count : ℕ) : Type 0 where
-  pub chains : (j : ℕ) → j < count → chainIn s j ≡ good (nodeList s j)
+  pub chains : (j : ℕ) → j < count → chain_in s j ≡ good (node_list s j)
   pub rise : (j : ℕ) → j < count → rises s.parents j ≡ true
 
 -- the fingerprints of the first nodes
-unfoldable pub printsUpTo : Nodes → ℕ → List ℕ
-printsUpTo s count = map (printAt s) (range 0 count)
+unfoldable pub prints_up_to : Nodes → ℕ → List ℕ
+prints_up_to s count = map (print_at s) (range 0 count)
 
 -- places that have room for them begin with them; where there is no room all places are as they were
-abbrev pub printsLeft : Nodes → ℕ → List ℕ → List ℕ
-printsLeft s count prints = pick (leb count (length prints)) (over (printsUpTo s count) prints) prints
+abbrev pub prints_left : Nodes → ℕ → List ℕ → List ℕ
+prints_left s count prints = pick (leb count (length prints)) (over (prints_up_to s count) prints) prints

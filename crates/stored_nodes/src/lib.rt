@@ -1,15 +1,17 @@
 // Whether the nodes of a width keep the rules of a stored table, and their fingerprints, which the test has formed and
 // leaves behind: a second pass would cost as much as the first. The block and its index are places of its own, of two
 // sizes: a smaller stack is enough where the width has few nodes. Above 262,144 nodes the block is used several times.
+#![tactic(auto)]
+
 ghost use mathlib.Core.Path.{◌≡◌};
 ghost use mathlib.Core.Bool.{true};
 ghost use Prim.Native.Nat.{◌+◌, ◌≤◌, ◌<◌};
 ghost use lib.ListN.{length, take};
 ghost use Rattle.ints.specs.Lists.{pick, over};
 ghost use Rattle.stored_numbers.specs.Files.{source};
-ghost use Rattle.stored_matrix.specs.Nodes.{nodesIn, Sound, FitTo};
+ghost use Rattle.stored_matrix.specs.Nodes.{nodes_in, Sound, FitTo};
 ghost use Rattle.stored_apart.specs.Apart.{Tells, FitApart, KeptIn};
-ghost use Rattle.stored_nodes.specs.Rules.{rises, Chains, nodesKeep, printsLeft};
+ghost use Rattle.stored_nodes.specs.Rules.{rises, Chains, nodes_keep, prints_left};
 
 use circuit::GateSet;
 use stored_numbers::number_at;
@@ -37,7 +39,7 @@ fn chains_hold(
     codes: &[u32],
 ) -> bool
     requires there { (count ≤ length (source parentfile.now parents.now)) × (count ≤ length (source codefile.now codes.now)) }
-    ensures chains { Tells (Chains (nodesIn limits parentfile.now codefile.now parents.now codes.now) count) result }
+    ensures chains { Tells (Chains (nodes_in limits parentfile.now codefile.now parents.now codes.now) count) result }
 {
     let lim = limits;
     let mut j = 0;
@@ -87,11 +89,11 @@ fn leave_prints(
     block: &[u64],
     prints: &mut [u64],
 )
-    requires sound { Sound (nodesIn limits parentfile.now codefile.now parents.now codes.now) count }
-    requires fits { FitTo (nodesIn limits parentfile.now codefile.now parents.now codes.now) count }
-    requires kept { KeptIn (nodesIn limits parentfile.now codefile.now parents.now codes.now) count (length block.now) block.now true }
+    requires sound { Sound (nodes_in limits parentfile.now codefile.now parents.now codes.now) count }
+    requires fits { FitTo (nodes_in limits parentfile.now codefile.now parents.now codes.now) count }
+    requires kept { KeptIn (nodes_in limits parentfile.now codefile.now parents.now codes.now) count (length block.now) block.now true }
     ensures left { prints.new
-        ≡ printsLeft (nodesIn limits parentfile.now codefile.now parents.now codes.now) count prints.old }
+        ≡ prints_left (nodes_in limits parentfile.now codefile.now parents.now codes.now) count prints.old }
 {
     if prints.len() < count {
         return;
@@ -118,11 +120,11 @@ fn with_block(
     prints: &mut [u64],
 ) -> bool
     requires room { (0 < length block.old) × (length block.old ≤ length index.old) × (length block.old ≤ 4294967295) }
-    requires sound { Sound (nodesIn limits parentfile.now codefile.now parents.now codes.now) count }
-    ensures apart { Tells (FitApart (nodesIn limits parentfile.now codefile.now parents.now codes.now)
+    requires sound { Sound (nodes_in limits parentfile.now codefile.now parents.now codes.now) count }
+    ensures apart { Tells (FitApart (nodes_in limits parentfile.now codefile.now parents.now codes.now)
         0 count 0 count) result }
     ensures left { prints.new ≡ pick result
-        (printsLeft (nodesIn limits parentfile.now codefile.now parents.now codes.now) count prints.old)
+        (prints_left (nodes_in limits parentfile.now codefile.now parents.now codes.now) count prints.old)
         prints.old }
 {
     if !stored_apart::distinct(
@@ -146,11 +148,11 @@ fn with_small(
     codes: &[u32],
     prints: &mut [u64],
 ) -> bool
-    requires sound { Sound (nodesIn limits parentfile.now codefile.now parents.now codes.now) count }
-    ensures apart { Tells (FitApart (nodesIn limits parentfile.now codefile.now parents.now codes.now)
+    requires sound { Sound (nodes_in limits parentfile.now codefile.now parents.now codes.now) count }
+    ensures apart { Tells (FitApart (nodes_in limits parentfile.now codefile.now parents.now codes.now)
         0 count 0 count) result }
     ensures left { prints.new ≡ pick result
-        (printsLeft (nodesIn limits parentfile.now codefile.now parents.now codes.now) count prints.old)
+        (prints_left (nodes_in limits parentfile.now codefile.now parents.now codes.now) count prints.old)
         prints.old }
 {
     let mut block = [0u64; 32768];
@@ -170,11 +172,11 @@ fn with_large(
     codes: &[u32],
     prints: &mut [u64],
 ) -> bool
-    requires sound { Sound (nodesIn limits parentfile.now codefile.now parents.now codes.now) count }
-    ensures apart { Tells (FitApart (nodesIn limits parentfile.now codefile.now parents.now codes.now)
+    requires sound { Sound (nodes_in limits parentfile.now codefile.now parents.now codes.now) count }
+    ensures apart { Tells (FitApart (nodes_in limits parentfile.now codefile.now parents.now codes.now)
         0 count 0 count) result }
     ensures left { prints.new ≡ pick result
-        (printsLeft (nodesIn limits parentfile.now codefile.now parents.now codes.now) count prints.old)
+        (prints_left (nodes_in limits parentfile.now codefile.now parents.now codes.now) count prints.old)
         prints.old }
 {
     let mut block = [0u64; 262144];
@@ -197,9 +199,9 @@ pub fn nodes_keep(
 ) -> bool
     requires small { (limits.width ≤ 5) × (limits.gates ≤ 64) × (count ≤ 4294967295) }
     requires there { (count ≤ length (source parentfile.now parents.now)) × (count ≤ length (source codefile.now codes.now)) }
-    ensures keeps { result ≡ nodesKeep (nodesIn limits parentfile.now codefile.now parents.now codes.now) count }
+    ensures keeps { result ≡ nodes_keep (nodes_in limits parentfile.now codefile.now parents.now codes.now) count }
     ensures left { prints.new ≡ pick result
-        (printsLeft (nodesIn limits parentfile.now codefile.now parents.now codes.now) count prints.old)
+        (prints_left (nodes_in limits parentfile.now codefile.now parents.now codes.now) count prints.old)
         prints.old }
 {
     if !chains_hold(limits, count, parentfile, codefile, parents, codes) {

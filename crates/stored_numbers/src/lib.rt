@@ -1,5 +1,7 @@
 // The numbers of a stored table, from its bytes or from an array. A reader has bytes and no array until the last test
 // is passed, and a writer has arrays: what both test is read by one function, so that each rule stands once.
+#![tactic(auto)]
+
 ghost use mathlib.Core.Path.{◌≡◌};
 ghost use Prim.Native.Nat.{◌+◌, ◌*◌, ◌<◌};
 ghost use lib.ListN.{length, get_or};

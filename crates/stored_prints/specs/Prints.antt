@@ -7,13 +7,13 @@ use Prim.Native.Nat.{ℕ, ◌+◌, ◌-◌, ◌≤◌, ◌<◌}
 use lib.IntN.{ℤ}
 use lib.ListN.{get_or, set}
 use Rattle.places.specs.Held.{Holds}
-use Rattle.stored_matrix.specs.Nodes.{Nodes, nodeProduct, printAt, Fits, FitTo, formedFrom}
+use Rattle.stored_matrix.specs.Nodes.{Nodes, node_product, print_at, Fits, FitTo, formed_from}
 use Rattle.stored_matrix.specs.declared.Child.{Child}
 use Rattle.stored_matrix.specs.declared.Child.TheVariants.{Made, DoesNotFit}
 
 -- the first m places hold the fingerprints of the nodes from `low` on
 pub record Printed (s : Nodes) (low m : ℕ) (block : List ℕ) : Type 0 where
-  pub at : (k : ℕ) → k < m → get_or block k 0 ≡ printAt s (low + k)
+  pub at : (k : ℕ) → k < m → get_or block k 0 ≡ print_at s (low + k)
 
 -- places from the m-th on are as they were
 pub record Later (m : ℕ) (old block : List ℕ) : Type 0 where
@@ -22,8 +22,8 @@ pub record Later (m : ℕ) (old block : List ℕ) : Type 0 where
 -- the fingerprints of two nodes are put into their places, and the matrix that the second's is formed from is in `m`;
 -- or one of the two does not fit
 abbrev pub TwoPrinted : Nodes → ℕ → ℕ → ℕ → List ℤ → List ℕ → List ℕ → Child → Type 0
-TwoPrinted s low i j m old new (Made k a) = (Fits s i × Fits s j) × Holds s.width k m (nodeProduct s (formedFrom s.parents j))
-    × (new ≡ set (set old (i - low) (printAt s i)) (j - low) (printAt s j))
+TwoPrinted s low i j m old new (Made k a) = (Fits s i × Fits s j) × Holds s.width k m (node_product s (formed_from s.parents j))
+    × (new ≡ set (set old (i - low) (print_at s i)) (j - low) (print_at s j))
 TwoPrinted s low i j m old new DoesNotFit = Fits s i × Fits s j → ⊥
 
 -- nodes below `high` fit and those from `low` on have their fingerprints in the block, whose later places are as they

@@ -1,12 +1,14 @@
 // The fingerprints of some nodes, rising, two at a time: a pair of them is worked in little more than the time of one.
 // Whether every list fits is the same pass.
+#![tactic(auto)]
+
 ghost use mathlib.Core.Path.{◌≡◌};
 ghost use Prim.Native.Nat.{◌+◌, ◌-◌, ◌≤◌, ◌<◌};
 ghost use lib.ListN.{length, set};
 ghost use Rattle.places.specs.Places.{places};
 ghost use Rattle.places.specs.Held.{Holds};
 ghost use Rattle.exact.specs.Matrix.{identity};
-ghost use Rattle.stored_matrix.specs.Nodes.{nodesIn, nodeProduct, Sound, FitTo};
+ghost use Rattle.stored_matrix.specs.Nodes.{nodes_in, node_product, Sound, FitTo};
 ghost use Rattle.stored_prints.specs.Prints.{TwoPrinted, BlockPrinted};
 
 use cyclotomic::Coefficient;
@@ -53,11 +55,11 @@ fn print_two(
     block: &mut [u64],
 ) -> Child
     requires order { (low ≤ first) × (first ≤ second) × (second ≤ first + 1) × (second - low < length block.old) }
-    requires sound { Sound (nodesIn limits parentfile.now codefile.now parents.now codes.now) (second + 1) }
-    requires fits { FitTo (nodesIn limits parentfile.now codefile.now parents.now codes.now) first }
-    requires formed { Holds limits.width exponent m.old (nodeProduct (nodesIn limits parentfile.now codefile.now parents.now codes.now) formed) }
+    requires sound { Sound (nodes_in limits parentfile.now codefile.now parents.now codes.now) (second + 1) }
+    requires fits { FitTo (nodes_in limits parentfile.now codefile.now parents.now codes.now) first }
+    requires formed { Holds limits.width exponent m.old (node_product (nodes_in limits parentfile.now codefile.now parents.now codes.now) formed) }
     requires long { (length left.old ≡ places) × (length right.old ≡ places) }
-    ensures printed { TwoPrinted (nodesIn limits parentfile.now codefile.now parents.now codes.now)
+    ensures printed { TwoPrinted (nodes_in limits parentfile.now codefile.now parents.now codes.now)
         low first second m.new block.old block.new result }
     ensures long { (length m.new ≡ places) × (length left.new ≡ places) × (length right.new ≡ places) }
     ensures same { length block.new ≡ length block.old }
@@ -93,11 +95,11 @@ fn print_nodes(
     block: &mut [u64],
 ) -> bool
     requires order { (low ≤ high) × (high - low ≤ length block.old) }
-    requires sound { Sound (nodesIn limits parentfile.now codefile.now parents.now codes.now) high }
-    requires fits { FitTo (nodesIn limits parentfile.now codefile.now parents.now codes.now) low }
+    requires sound { Sound (nodes_in limits parentfile.now codefile.now parents.now codes.now) high }
+    requires fits { FitTo (nodes_in limits parentfile.now codefile.now parents.now codes.now) low }
     requires identity { Holds limits.width 0 m.old identity }
     requires long { (length left.old ≡ places) × (length right.old ≡ places) }
-    ensures printed { BlockPrinted (nodesIn limits parentfile.now codefile.now parents.now codes.now)
+    ensures printed { BlockPrinted (nodes_in limits parentfile.now codefile.now parents.now codes.now)
         low high block.old block.new result }
     ensures same { length block.new ≡ length block.old }
 {
@@ -132,9 +134,9 @@ pub fn print_block(
     block: &mut [u64],
 ) -> bool
     requires order { (low ≤ high) × (high - low ≤ length block.old) }
-    requires sound { Sound (nodesIn limits parentfile.now codefile.now parents.now codes.now) high }
-    requires fits { FitTo (nodesIn limits parentfile.now codefile.now parents.now codes.now) low }
-    ensures printed { BlockPrinted (nodesIn limits parentfile.now codefile.now parents.now codes.now)
+    requires sound { Sound (nodes_in limits parentfile.now codefile.now parents.now codes.now) high }
+    requires fits { FitTo (nodes_in limits parentfile.now codefile.now parents.now codes.now) low }
+    ensures printed { BlockPrinted (nodes_in limits parentfile.now codefile.now parents.now codes.now)
         low high block.old block.new result }
     ensures same { length block.new ≡ length block.old }
 {

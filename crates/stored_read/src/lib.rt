@@ -1,16 +1,18 @@
 // The nodes of a file are tested, width after width, and their fingerprints put into their places. Nothing is written
 // before the last width is tested; its fingerprints, the most of the work, are then in the block of its test, and only
 // those of the narrower widths are formed a second time.
+#![tactic(auto)]
+
 ghost use mathlib.Core.Path.{◌≡◌};
 ghost use mathlib.Core.Bool.{true, false};
 ghost use Prim.Native.Nat.{◌+◌, ◌-◌, ◌*◌, ◌<◌, ◌≤◌};
 ghost use lib.ListN.{length};
 ghost use Rattle.ints.specs.Lists.{pick, over};
-ghost use Rattle.tables.specs.Tables.{within, filledTo};
+ghost use Rattle.tables.specs.Tables.{within, filled_to};
 ghost use Rattle.stored_numbers.specs.Files.{word_at};
-ghost use Rattle.stored_sizes.specs.Sizes.{sized, countsTo, badSizes};
-ghost use Rattle.stored_nodes.specs.Rules.{nodesKeep, printsUpTo, printsLeft};
-ghost use Rattle.stored_read.specs.Reading.{nodesFrom, widthLimits, goodNodes, printsIn, LowerTested};
+ghost use Rattle.stored_sizes.specs.Sizes.{sized, counts_to, bad_sizes};
+ghost use Rattle.stored_nodes.specs.Rules.{nodes_keep, prints_up_to, prints_left};
+ghost use Rattle.stored_read.specs.Reading.{nodes_from, width_limits, good_nodes, prints_in, LowerTested};
 
 use stored_numbers::word;
 use synthesis_arena::WidthLimits;
@@ -27,8 +29,8 @@ fn test_nodes(
 ) -> bool
     requires small { (limits.width ≤ 5) × (limits.gates ≤ 64) × (count ≤ 4294967295) }
     requires there { 4 * (at + gap + count) ≤ length file.now }
-    ensures keeps { result ≡ nodesKeep (nodesFrom limits file.now at gap count) count }
-    ensures left { prints.new ≡ pick result (printsLeft (nodesFrom limits file.now at gap count) count prints.old) prints.old }
+    ensures keeps { result ≡ nodes_keep (nodes_from limits file.now at gap count) count }
+    ensures left { prints.new ≡ pick result (prints_left (nodes_from limits file.now at gap count) count prints.old) prints.old }
 {
     let parents: [u32; 1] = [0; 1];
     let codes: [u32; 1] = [0; 1];
@@ -55,9 +57,9 @@ fn test_part(
 ) -> bool
     requires small { (v < 5) × (limits.width ≤ 5) × (limits.gates ≤ 64) × (limits.entries ≤ 1000000) × (count ≤ limits.entries) }
     requires there { (4 * (at + gap + count) ≤ length file.now) × (v * limits.entries + limits.entries ≤ length fingerprints.old) }
-    ensures keeps { result ≡ nodesKeep (nodesFrom limits file.now at gap count) count }
+    ensures keeps { result ≡ nodes_keep (nodes_from limits file.now at gap count) count }
     ensures filled { fingerprints.new ≡ pick result
-        (within (v * limits.entries) limits.entries (over (printsUpTo (nodesFrom limits file.now at gap count) count)) fingerprints.old)
+        (within (v * limits.entries) limits.entries (over (prints_up_to (nodes_from limits file.now at gap count) count)) fingerprints.old)
         fingerprints.old }
 {
     let a = v * limits.entries;
@@ -74,7 +76,7 @@ fn test_part(
 // The limits of width v + 1 in a file.
 fn limits_in(file: &[u8], v: usize) -> WidthLimits
     requires sized { (sized file.now ≡ true) × (v < 5) }
-    ensures limits { result ≡ widthLimits file.now (v + 1) }
+    ensures limits { result ≡ width_limits file.now (v + 1) }
 {
     WidthLimits {
         width: v as u32 + 1,
@@ -93,8 +95,8 @@ enum Tested {
 
 // The widths before the last. Their fingerprints are not kept.
 fn test_lower(file: &[u8], gap: usize) -> Tested
-    requires sizes { (sized file.now ≡ true) × (badSizes file.now ≡ false) }
-    requires gap { gap ≡ countsTo file.now (word_at file.now 0) }
+    requires sizes { (sized file.now ≡ true) × (bad_sizes file.now ≡ false) }
+    requires gap { gap ≡ counts_to file.now (word_at file.now 0) }
     ensures tested { LowerTested file.now result }
 {
     let last = word(file, 0) as usize - 1;
@@ -115,10 +117,10 @@ fn test_lower(file: &[u8], gap: usize) -> Tested
 
 // Their fingerprints, formed a second time: all widths have passed.
 fn fill_lower(file: &[u8], gap: usize, fingerprints: &mut [u64])
-    requires sizes { (sized file.now ≡ true) × (badSizes file.now ≡ false) × (goodNodes file.now ≡ true) }
-    requires gap { gap ≡ countsTo file.now (word_at file.now 0) }
+    requires sizes { (sized file.now ≡ true) × (bad_sizes file.now ≡ false) × (good_nodes file.now ≡ true) }
+    requires gap { gap ≡ counts_to file.now (word_at file.now 0) }
     requires room { word_at file.now 0 * word_at file.now 2 ≤ length fingerprints.old }
-    ensures filled { fingerprints.new ≡ filledTo (printsIn file.now) (word_at file.now 2) (word_at file.now 0 - 1) fingerprints.old }
+    ensures filled { fingerprints.new ≡ filled_to (prints_in file.now) (word_at file.now 2) (word_at file.now 0 - 1) fingerprints.old }
 {
     let last = word(file, 0) as usize - 1;
     let mut at = 4 + 3 * (last + 1);
@@ -135,18 +137,18 @@ fn fill_lower(file: &[u8], gap: usize, fingerprints: &mut [u64])
 // How many nodes all widths have: half of the numbers after the sizes.
 fn total(file: &[u8]) -> usize
     requires sized { sized file.now ≡ true }
-    ensures total { result ≡ countsTo file.now (word_at file.now 0) }
+    ensures total { result ≡ counts_to file.now (word_at file.now 0) }
 {
     (file.len() / 4 - 4 - 3 * word(file, 0) as usize) / 2
 }
 
 // Whether all nodes of the file keep the rules. The fingerprints are then in their places; else these are as they were.
 pub fn read_nodes(file: &[u8], fingerprints: &mut [u64]) -> bool
-    requires sizes { (sized file.now ≡ true) × (badSizes file.now ≡ false) }
+    requires sizes { (sized file.now ≡ true) × (bad_sizes file.now ≡ false) }
     requires room { word_at file.now 0 * word_at file.now 2 ≤ length fingerprints.old }
-    ensures good { result ≡ goodNodes file.now }
+    ensures good { result ≡ good_nodes file.now }
     ensures filled { fingerprints.new ≡ pick result
-        (filledTo (printsIn file.now) (word_at file.now 2) (word_at file.now 0) fingerprints.old)
+        (filled_to (prints_in file.now) (word_at file.now 2) (word_at file.now 0) fingerprints.old)
         fingerprints.old }
 {
     let gap = total(file);

@@ -8,61 +8,61 @@ use borrow.Author.Tests.{le-ltb}
 use Rattle.ints.specs.Lists.{pick}
 use Rattle.ints.proofs.Bools.{neither}
 use Rattle.walk.specs.Walk.{any}
-use Rattle.tables.specs.Tables.{Width, Table, allWidths, width_at, countAt, recordRow}
-use Rattle.tables.proofs.Accepted.{Accepted, record-limits}
-use Rattle.tables.proofs.Counts.{record-count, has_width}
+use Rattle.tables.specs.Tables.{Width, Table, all_widths, width_at, count_at, record_row}
+use Rattle.tables.proofs.Accepted.{Accepted, record_limits}
+use Rattle.tables.proofs.Counts.{record_count, has_width}
 use Rattle.stored_numbers.specs.Files.{word_at}
-use Rattle.stored_sizes.specs.Sizes.{row_in, tableIn, anyDeep, badFlag, badSizes}
+use Rattle.stored_sizes.specs.Sizes.{row_in, table_in, any_deep, bad_flag, bad_sizes}
 
 module _ (f : List ℕ) where
   -- the row of a width that the table has
-  pub width-at : (w : ℕ) → 0 < w → w ≤ 5 → width_at (tableIn f) w ≡ row_in f w
-  unfolding tableIn
-  width-at zero p h = absurd (omega arith)
-  width-at (suc zero) p h = refl
-  width-at (suc (suc zero)) p h = refl
-  width-at (suc (suc (suc zero))) p h = refl
-  width-at (suc (suc (suc (suc zero)))) p h = refl
-  width-at (suc (suc (suc (suc (suc zero))))) p h = refl
-  width-at (suc (suc (suc (suc (suc (suc w)))))) p h = absurd (omega arith)
+  pub width_at_lem : (w : ℕ) → 0 < w → w ≤ 5 → width_at (table_in f) w ≡ row_in f w
+  unfolding table_in
+  width_at_lem zero p h = absurd (omega arith)
+  width_at_lem (suc zero) p h = refl
+  width_at_lem (suc (suc zero)) p h = refl
+  width_at_lem (suc (suc (suc zero))) p h = refl
+  width_at_lem (suc (suc (suc (suc zero)))) p h = refl
+  width_at_lem (suc (suc (suc (suc (suc zero))))) p h = refl
+  width_at_lem (suc (suc (suc (suc (suc (suc w)))))) p h = absurd (omega arith)
 
-  module _ (e : badSizes f ≡ false) where
-    parts : ((recordRow (tableIn f)).holds ≡ false) × ((anyDeep (tableIn f) || any (badFlag f) allWidths) ≡ false)
-    unfolding badSizes
-    parts = neither (recordRow (tableIn f)).holds (anyDeep (tableIn f) || any (badFlag f) allWidths) e
+  module _ (e : bad_sizes f ≡ false) where
+    parts : ((record_row (table_in f)).holds ≡ false) × ((any_deep (table_in f) || any (bad_flag f) all_widths) ≡ false)
+    unfolding bad_sizes
+    parts = neither (record_row (table_in f)).holds (any_deep (table_in f) || any (bad_flag f) all_widths) e
 
-    pub good-record : (recordRow (tableIn f)).holds ≡ false
-    good-record = parts.0
+    pub good_record : (record_row (table_in f)).holds ≡ false
+    good_record = parts.0
 
-    pub not-deep : anyDeep (tableIn f) ≡ false
-    not-deep = (neither (anyDeep (tableIn f)) (any (badFlag f) allWidths) parts.1).0
+    pub not_deep : any_deep (table_in f) ≡ false
+    not_deep = (neither (any_deep (table_in f)) (any (bad_flag f) all_widths) parts.1).0
 
-    pub good-flags : any (badFlag f) allWidths ≡ false
-    good-flags = (neither (anyDeep (tableIn f)) (any (badFlag f) allWidths) parts.1).1
+    pub good_flags : any (bad_flag f) all_widths ≡ false
+    good_flags = (neither (any_deep (table_in f)) (any (bad_flag f) all_widths) parts.1).1
 
-    abbrev pub limits : Accepted (tableIn f).limits
-    limits = record-limits (tableIn f) good-record
+    abbrev pub limits : Accepted (table_in f).limits
+    limits = record_limits (table_in f) good_record
 
     -- by the numbers themselves
-    pub widths-few : (0 < word_at f 0) × (word_at f 0 ≤ 5)
-    unfolding tableIn
-    widths-few = (limits.some-width, limits.widths)
+    pub widths_few : (0 < word_at f 0) × (word_at f 0 ≤ 5)
+    unfolding table_in
+    widths_few = (limits.some_width, limits.widths)
 
-    pub entries-few : (0 < word_at f 2) × (word_at f 2 ≤ 1000000)
-    unfolding tableIn
-    entries-few = (limits.some, limits.entries)
+    pub entries_few : (0 < word_at f 2) × (word_at f 2 ≤ 1000000)
+    unfolding table_in
+    entries_few = (limits.some, limits.entries)
 
-    pub gates-few : word_at f 1 ≤ 64
-    unfolding tableIn
-    gates-few = limits.gates
+    pub gates_few : word_at f 1 ≤ 64
+    unfolding table_in
+    gates_few = limits.gates
 
-    pub count-is : (w : ℕ) → 0 < w → w ≤ word_at f 0 → countAt (tableIn f) w ≡ word_at f (3 * w + 1)
-    unfolding tableIn
-    count-is w p h =
-        ap (λ (b : Bool). pick b 0 (width_at (tableIn f) w).count) (has_width (tableIn f) w p h)
-        ∙ ap (λ (x : Width). x.count) (width-at w p (omega (arith, widths-few.1)))
+    pub count_is : (w : ℕ) → 0 < w → w ≤ word_at f 0 → count_at (table_in f) w ≡ word_at f (3 * w + 1)
+    unfolding table_in
+    count_is w p h =
+        ap (λ (b : Bool). pick b 0 (width_at (table_in f) w).count) (has_width (table_in f) w p h)
+        ∙ ap (λ (x : Width). x.count) (width_at_lem w p (omega (arith, widths_few.1)))
         ∙ rw (le-ltb (word_at f 0) w h)
 
-    pub count-few : (w : ℕ) → 0 < w → w ≤ word_at f 0 → word_at f (3 * w + 1) ≤ word_at f 2
-    unfolding tableIn
-    count-few w p h = omega (arith, count-is w p h, record-count (tableIn f) w good-record)
+    pub count_few : (w : ℕ) → 0 < w → w ≤ word_at f 0 → word_at f (3 * w + 1) ≤ word_at f 2
+    unfolding table_in
+    count_few w p h = omega (arith, count_is w p h, record_count (table_in f) w good_record)

@@ -1,14 +1,16 @@
 // The sizes at the head of a stored table: whether they give the file's length, the record that they are, and whether
 // they keep the rules of a table. The length comes first, of sizes that nothing has checked: what is left of the file
 // bounds every sum.
+#![tactic(auto)]
+
 ghost use mathlib.Core.Path.{◌≡◌};
 ghost use mathlib.Core.Bool.{true};
 ghost use Prim.Native.Nat.{◌+◌, ◌*◌, ◌<◌, ◌≤◌};
 ghost use lib.ListN.{length};
 ghost use Rattle.walk.specs.Walk.{any};
-ghost use Rattle.tables.specs.Tables.{allWidths};
-ghost use Rattle.murm_config.specs.Told.{toldWidth, toldMurm};
-ghost use Rattle.stored_sizes.specs.Sizes.{sized, row_in, tableIn, deepAt, anyDeep, badFlag, badSizes};
+ghost use Rattle.tables.specs.Tables.{all_widths};
+ghost use Rattle.murm_config.specs.Told.{told_width, told_murm};
+ghost use Rattle.stored_sizes.specs.Sizes.{sized, row_in, table_in, deep_at, any_deep, bad_flag, bad_sizes};
 
 use circuit::GateSet;
 use murm_config::{Murm, MurmConfig};
@@ -47,7 +49,7 @@ pub fn gives_length(file: &[u8]) -> bool
 fn width_in(file: &[u8], width: u32) -> WidthTable
     requires width { (0 < width) × (width ≤ 5) }
     requires sized { sized file.now ≡ true }
-    ensures row { toldWidth result ≡ row_in file.now width }
+    ensures row { told_width result ≡ row_in file.now width }
 {
     if width > word(file, 0) {
         return WidthTable {
@@ -67,7 +69,7 @@ fn width_in(file: &[u8], width: u32) -> WidthTable
 // The record that the sizes are.
 pub fn table_in(file: &[u8]) -> Murm
     requires sized { sized file.now ≡ true }
-    ensures table { toldMurm result ≡ tableIn file.now }
+    ensures table { told_murm result ≡ table_in file.now }
 {
     Murm {
         config: MurmConfig {
@@ -88,7 +90,7 @@ pub fn table_in(file: &[u8]) -> Murm
 fn bad_flag(file: &[u8], width: u32) -> bool
     requires width { (0 < width) × (width ≤ 5) }
     requires sized { sized file.now ≡ true }
-    ensures flag { result ≡ badFlag file.now width }
+    ensures flag { result ≡ bad_flag file.now width }
 {
     if width > word(file, 0) {
         return false;
@@ -99,7 +101,7 @@ fn bad_flag(file: &[u8], width: u32) -> bool
 // The same of any width.
 fn bad_flags(file: &[u8]) -> bool
     requires sized { sized file.now ≡ true }
-    ensures flags { result ≡ any (badFlag file.now) allWidths }
+    ensures flags { result ≡ any (bad_flag file.now) all_widths }
 {
     if bad_flag(file, 1) {
         return true;
@@ -118,7 +120,7 @@ fn bad_flags(file: &[u8]) -> bool
 
 // Whether a width that the table has is deeper than the gate limit.
 fn deep(table: Murm, width: u32) -> bool
-    ensures deep { result ≡ deepAt (toldMurm table) width }
+    ensures deep { result ≡ deep_at (told_murm table) width }
 {
     if width > table.config.max_qubits {
         return false;
@@ -128,7 +130,7 @@ fn deep(table: Murm, width: u32) -> bool
 
 // The same of any width: a record's 13 does not look at depths.
 pub fn any_deep(table: Murm) -> bool
-    ensures deep { result ≡ anyDeep (toldMurm table) }
+    ensures deep { result ≡ any_deep (told_murm table) }
 {
     if deep(table, 1) {
         return true;
@@ -148,8 +150,8 @@ pub fn any_deep(table: Murm) -> bool
 // Row 19: whether a size breaks the rules.
 pub fn bad_sizes(file: &[u8], table: Murm) -> bool
     requires sized { sized file.now ≡ true }
-    requires table { toldMurm table ≡ tableIn file.now }
-    ensures sizes { result ≡ badSizes file.now }
+    requires table { told_murm table ≡ table_in file.now }
+    ensures sizes { result ≡ bad_sizes file.now }
 {
     if murm_config::bad_record(table) {
         return true;

@@ -6,14 +6,14 @@ use native.Mathlib.Omega.{arith}
 use lib.ListN.{length, get_or, take, drop, set, length-append, length-set, take-append-drop}
 use lib.Seq.{take-suc, set_at, length-take-le}
 use Rattle.exact.specs.Answers.{given, refused}
-use Rattle.synthesis_arena.specs.Chains.{depth_of, toldDepth}
+use Rattle.synthesis_arena.specs.Chains.{depth_of, told_depth}
 use Rattle.walk.specs.Answers.{outcome, written}
 use Rattle.walk.specs.Answers as a
-use Rattle.walk.specs.Chains.{Chain, good, chainOf}
+use Rattle.walk.specs.Chains.{Chain, good, chain_of}
 use Rattle.synthesis_arena.specs.declared.NodeDepth.{NodeDepth}
 use Rattle.synthesis_arena.specs.declared.NodeDepth.TheVariants.{At, Bad}
 use Rattle.walk.proofs.Chaining.{LastGate, link}
-use Rattle.synthesis_arena.proofs.Depths.{deep, not-deep}
+use Rattle.synthesis_arena.proofs.Depths.{deep, not_deep}
 
 empty : (l : List ℕ) → length l ≡ 0 → l ≡ []
 empty [] e = refl
@@ -25,18 +25,18 @@ module _ (n basis : ℕ) (parents codes : List ℕ) (limit node : ℕ) (old : Li
     pub rest : List ℕ
     pub done : List ℕ
     pub left : ℕ
-    pub whole : chainOf n basis parents codes limit node ≡ good (rest ++ done)
-    pub here : chainOf n basis parents codes left at ≡ good rest
+    pub whole : chain_of n basis parents codes limit node ≡ good (rest ++ done)
+    pub here : chain_of n basis parents codes left at ≡ good rest
     pub count : i ≡ length done
     pub sum : size ≡ length rest + i
     pub room : size ≤ length old
-    pub in-parents : at < length parents
-    pub in-codes : at < length codes
+    pub in_parents : at < length parents
+    pub in_codes : at < length codes
     pub long : length out ≡ length old
     pub is : out ≡ take (length rest) old ++ (done ++ drop size old)
 
-  pub writing-none : {r : NodeDepth} {size : ℕ} → r ≡ At size → toldDepth r ≡ depth_of (chainOf n basis parents codes limit node) → node < length parents → node < length codes → limit ≤ length old → Writing size 0 node old
-  writing-none e h p q room =
+  pub writing_none : {r : NodeDepth} {size : ℕ} → r ≡ At size → told_depth r ≡ depth_of (chain_of n basis parents codes limit node) → node < length parents → node < length codes → limit ≤ length old → Writing size 0 node old
+  writing_none e h p q room =
       let k = deep n basis parents codes limit node e h in
       record {
         rest = k.list;
@@ -47,8 +47,8 @@ module _ (n basis : ℕ) (parents codes : List ℕ) (limit node : ℕ) (old : Li
         count = refl;
         sum = omega (arith, k.size);
         room = omega (arith, k.within);
-        in-parents = p;
-        in-codes = q;
+        in_parents = p;
+        in_codes = q;
         long = refl;
         is = sym (take-append-drop (length k.list) old) ∙ ap (λ (m : ℕ). take (length k.list) old ++ drop m old) (sym k.size);
       }
@@ -71,21 +71,21 @@ module _ (n basis : ℕ) (parents codes : List ℕ) (limit node : ℕ) (old : Li
           count = omega (arith, w.count);
           sum = omega (arith, w.sum);
           room = w.room;
-          in-parents = omega (arith, k.below, w.in-parents);
-          in-codes = omega (arith, k.below, w.in-codes);
+          in_parents = omega (arith, k.below, w.in_parents);
+          in_codes = omega (arith, k.below, w.in_codes);
           long = rw (length-set out (size - 1 - i) g) w.long;
           is = ap (λ (z : ℕ). set out z g) place
               ∙ ap (λ (z : List ℕ). set z m g) (w.is ∙ ap (λ (z : ℕ). take z old ++ behind) longer ∙ ap (λ (z : List ℕ). z ++ behind) (take-suc old m 0 (omega (arith, w.sum, w.room))) ∙ append_assoc (take m old) (get_or old m 0 ∷ []) behind)
               ∙ set_at (take m old) (get_or old m 0) behind g m (length-take-le m old (omega (arith, w.sum, w.room)));
         }
 
-    pub writing-end : size ≤ i → outcome (a.given size) out ≡ written old (chainOf n basis parents codes limit node)
-    writing-end h =
+    pub writing_end : size ≤ i → outcome (a.given size) out ≡ written old (chain_of n basis parents codes limit node)
+    writing_end h =
         let none : w.rest ≡ [] = empty w.rest (omega (arith, w.sum)) in
         let e : size ≡ length w.done = omega (arith, w.sum, w.count) in
         ap (outcome (a.given size)) (w.is ∙ ap (λ (l : List ℕ). take (length l) old ++ (w.done ++ drop size old)) none)
         ∙ ap (λ (m : ℕ). outcome (a.given m) (w.done ++ drop m old)) e
         ∙ sym (ap (written old) (w.whole ∙ ap (λ (l : List ℕ). good (l ++ w.done)) none))
 
-  pub written-not : {r : NodeDepth} → r ≡ Bad → toldDepth r ≡ depth_of (chainOf n basis parents codes limit node) → outcome (a.refused 13 0) old ≡ written old (chainOf n basis parents codes limit node)
-  written-not e h = sym (ap (written old) (not-deep n basis parents codes limit node e h))
+  pub written_not : {r : NodeDepth} → r ≡ Bad → told_depth r ≡ depth_of (chain_of n basis parents codes limit node) → outcome (a.refused 13 0) old ≡ written old (chain_of n basis parents codes limit node)
+  written_not e h = sym (ap (written old) (not_deep n basis parents codes limit node e h))

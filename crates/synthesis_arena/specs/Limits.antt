@@ -2,5 +2,5 @@
 use Rattle.walk.specs.Finds as finds
 use Rattle.synthesis_arena.specs.declared.WidthLimits.{WidthLimits}
 
-abbrev pub toldLimits : WidthLimits → finds.WidthLimits
-toldLimits l = record { width = l.width; basis = l.basis; gates = l.gates; entries = l.entries }
+abbrev pub told_limits : WidthLimits → finds.WidthLimits
+told_limits l = record { width = l.width; basis = l.basis; gates = l.gates; entries = l.entries }

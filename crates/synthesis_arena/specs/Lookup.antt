@@ -3,6 +3,6 @@ use Rattle.walk.specs.Lookup.{Lookup, found, none}
 use Rattle.synthesis_arena.specs.declared.Found.{Found}
 use Rattle.synthesis_arena.specs.declared.Found.TheVariants.{At, NotFound}
 
-abbrev pub toldFound : Found → Lookup
-toldFound (At node) = found node
-toldFound NotFound = none
+abbrev pub told_found : Found → Lookup
+told_found (At node) = found node
+told_found NotFound = none

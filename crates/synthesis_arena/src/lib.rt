@@ -2,12 +2,14 @@
 // original, `WidthTable`: a node is its last gate and its parent, which has the gates before it, and its list is read
 // along the parents to node 0 (SPECIFICATION 7.4, 7.5). Whatever the arrays hold is decided; a chain is bad only where
 // a caller made or altered the table.
+#![tactic(auto)]
+
 ghost use Rattle.std.specs.Prelude.{◌≡◌, false, ℕ, ◌%◌, ◌<◌, ◌≤◌, length};
-ghost use Rattle.synthesis_arena.specs.Lookup.{toldFound};
-ghost use Rattle.walk.specs.Lookup.{lowestFrom};
-ghost use Rattle.synthesis_arena.specs.Chains.{depth_of, toldDepth, toldCircuit};
+ghost use Rattle.synthesis_arena.specs.Lookup.{told_found};
+ghost use Rattle.walk.specs.Lookup.{lowest_from};
+ghost use Rattle.synthesis_arena.specs.Chains.{depth_of, told_depth, told_circuit};
 ghost use Rattle.walk.specs.Answers.{outcome, written};
-ghost use Rattle.walk.specs.Chains.{marked, chainOf};
+ghost use Rattle.walk.specs.Chains.{marked, chain_of};
 
 use circuit::{GateSet, LibraryGate};
 
@@ -56,7 +58,7 @@ fn low(fingerprint: u64) -> u32
 fn may_have(fingerprints: &[u64], from: usize, end: usize, fingerprint: u64) -> bool
     requires within { (from ≤ end) × (end ≤ length fingerprints.now) }
     ensures none_has { (count : ℕ) → end ≤ count → result ≡ false
-        → lowestFrom fingerprints.now count end fingerprint ≡ lowestFrom fingerprints.now count from fingerprint }
+        → lowest_from fingerprints.now count end fingerprint ≡ lowest_from fingerprints.now count from fingerprint }
 {
     let half = low(fingerprint);
     let mut found = false;
@@ -72,7 +74,7 @@ fn may_have(fingerprints: &[u64], from: usize, end: usize, fingerprint: u64) -> 
 // over.
 fn skip_blocks(fingerprints: &[u64], count: usize, from: usize, fingerprint: u64) -> usize
     requires within { (from ≤ count) × (count ≤ length fingerprints.now) }
-    ensures none_before { lowestFrom fingerprints.now count result fingerprint ≡ lowestFrom fingerprints.now count from fingerprint }
+    ensures none_before { lowest_from fingerprints.now count result fingerprint ≡ lowest_from fingerprints.now count from fingerprint }
 {
     let mut i = from;
     while 64 <= count - i {
@@ -88,7 +90,7 @@ fn skip_blocks(fingerprints: &[u64], count: usize, from: usize, fingerprint: u64
 // The lowest node that has the fingerprint, of those from a place on and below the count (SPECIFICATION 7.4).
 pub fn node_for(fingerprints: &[u64], count: usize, from: usize, fingerprint: u64) -> Found
     requires within { count ≤ length fingerprints.now }
-    ensures lowest { toldFound result ≡ lowestFrom fingerprints.now count from fingerprint }
+    ensures lowest { told_found result ≡ lowest_from fingerprints.now count from fingerprint }
 {
     if count <= from {
         return Found::NotFound;
@@ -126,7 +128,7 @@ pub fn depth(
     node: usize,
 ) -> NodeDepth
     requires there { (node < length parents.now) × (node < length codes.now) }
-    ensures depth { toldDepth result ≡ depth_of (chainOf width basis.0 parents.now codes.now limit node) }
+    ensures depth { told_depth result ≡ depth_of (chain_of width basis.0 parents.now codes.now limit node) }
 {
     if node == 0 {
         if !is_marked(parents, codes) {
@@ -162,8 +164,8 @@ pub fn circuit(
     out: &mut [u32],
 ) -> NodeCircuit
     requires there { (node < length parents.now) × (node < length codes.now) × (limit ≤ length out.old) }
-    ensures written { outcome (toldCircuit result) out.new
-        ≡ written out.old (chainOf width basis.0 parents.now codes.now limit node) }
+    ensures written { outcome (told_circuit result) out.new
+        ≡ written out.old (chain_of width basis.0 parents.now codes.now limit node) }
 {
     let NodeDepth::At(size) = depth(parents, codes, width, basis, limit, node) else {
         return NodeCircuit::Bad;

@@ -11,61 +11,61 @@ use Rattle.ints.specs.Lists.{pick, all}
 use Rattle.ints.proofs.Bools.{clash, and_left, and_right}
 use Rattle.circuit.specs.Codes.{valid}
 use Rattle.exact.specs.Lists.{product}
-use Rattle.exact.specs.Fits.{Steps, all_fit, unfitAt, steps}
-use Rattle.exact.specs.Answers.{Answer, given, refused, bySteps, listAnswer}
-use Rattle.exact.proofs.Answered.{isGiven, list-refused}
-use Rattle.tables.specs.Checks.{firstRow, coefficientCount}
-use Rattle.tables.specs.Lists.{firstInvalid, coefficients, outcome, listed}
+use Rattle.exact.specs.Fits.{Steps, all_fit, unfit_at, steps}
+use Rattle.exact.specs.Answers.{Answer, given, refused, by_steps, list_answer}
+use Rattle.exact.proofs.Answered.{is_given, list_refused}
+use Rattle.tables.specs.Checks.{first_row, coefficient_count}
+use Rattle.tables.specs.Lists.{first_invalid, coefficients, outcome, listed}
 
 -- ---- codes
 
 -- one code before the rest
-one-valid : (t rest : Bool) (m k : ℕ) → (k ≤ m → rest ≡ true) → suc k ≤ pick t (suc m) 0 → (t && rest) ≡ true
-one-valid true rest m k f h = f (omega arith)
-one-valid false rest m k f h = absurd (omega arith)
+one_valid : (t rest : Bool) (m k : ℕ) → (k ≤ m → rest ≡ true) → suc k ≤ pick t (suc m) 0 → (t && rest) ≡ true
+one_valid true rest m k f h = f (omega arith)
+one_valid false rest m k f h = absurd (omega arith)
 
-pub all_valid : (n : ℕ) (l : List ℕ) → length l ≤ firstInvalid n l → all (valid n) l ≡ true
+pub all_valid : (n : ℕ) (l : List ℕ) → length l ≤ first_invalid n l → all (valid n) l ≡ true
 unfolding all
 all_valid n [] h = refl
-all_valid n (g ∷ l) h = one-valid (valid n g) (all (valid n) l) (firstInvalid n l) (length l) (all_valid n l) h
+all_valid n (g ∷ l) h = one_valid (valid n g) (all (valid n) l) (first_invalid n l) (length l) (all_valid n l) h
 
-pub valid-first : (n : ℕ) (l : List ℕ) → all (valid n) l ≡ true → length l ≤ firstInvalid n l
+pub valid_first : (n : ℕ) (l : List ℕ) → all (valid n) l ≡ true → length l ≤ first_invalid n l
 unfolding all
-valid-first n [] h = omega arith
-valid-first n (g ∷ l) h =
-    let rest = valid-first n l (and_right (valid n g) (all (valid n) l) h) in
+valid_first n [] h = omega arith
+valid_first n (g ∷ l) h =
+    let rest = valid_first n l (and_right (valid n g) (all (valid n) l) h) in
     rw (and_left (valid n g) (all (valid n) l) h) (omega arith)
 
 -- ---- the rows
 
 module _ (n : ℕ) (codes : List ℕ) (numbers : List ℤ) where
-  pub list-6 : 5 < n → outcome (refused 6 0) numbers ≡ listed n codes numbers
-  unfolding listed firstRow
-  list-6 h = rw (lt-ltb 5 n h)
+  pub list_6 : 5 < n → outcome (refused 6 0) numbers ≡ listed n codes numbers
+  unfolding listed first_row
+  list_6 h = rw (lt-ltb 5 n h)
 
   module _ (h : n ≤ 5) where
-    pub list-9 : (length numbers ≡ coefficientCount n → ⊥) → outcome (refused 9 0) numbers ≡ listed n codes numbers
-    unfolding listed firstRow
-    list-9 p = rw (le-ltb 5 n h, ne_eqb (length numbers) (coefficientCount n) p)
+    pub list_9 : (length numbers ≡ coefficient_count n → ⊥) → outcome (refused 9 0) numbers ≡ listed n codes numbers
+    unfolding listed first_row
+    list_9 p = rw (le-ltb 5 n h, ne_eqb (length numbers) (coefficient_count n) p)
 
-    module _ (p : length numbers ≡ coefficientCount n) where
-      pub list-7 : firstInvalid n codes < length codes → outcome (refused 7 (firstInvalid n codes)) numbers ≡ listed n codes numbers
-      unfolding listed firstRow
-      list-7 q = rw (le-ltb 5 n h, eq-eqb (length numbers) (coefficientCount n) p, lt-ltb (firstInvalid n codes) (length codes) q)
+    module _ (p : length numbers ≡ coefficient_count n) where
+      pub list_7 : first_invalid n codes < length codes → outcome (refused 7 (first_invalid n codes)) numbers ≡ listed n codes numbers
+      unfolding listed first_row
+      list_7 q = rw (le-ltb 5 n h, eq-eqb (length numbers) (coefficient_count n) p, lt-ltb (first_invalid n codes) (length codes) q)
 
-      module _ (q : length codes ≤ firstInvalid n codes) where
+      module _ (q : length codes ≤ first_invalid n codes) where
         -- then the steps alone decide
-        pub list-8 : (i : ℕ) → refused 8 i ≡ listAnswer n codes → outcome (refused 8 i) numbers ≡ listed n codes numbers
-        unfolding listed firstRow
-        list-8 i e =
-            rw (le-ltb 5 n h, eq-eqb (length numbers) (coefficientCount n) p, le-ltb (firstInvalid n codes) (length codes) q, list-refused n codes (sym e))
+        pub list_8 : (i : ℕ) → refused 8 i ≡ list_answer n codes → outcome (refused 8 i) numbers ≡ listed n codes numbers
+        unfolding listed first_row
+        list_8 i e =
+            rw (le-ltb 5 n h, eq-eqb (length numbers) (coefficient_count n) p, le-ltb (first_invalid n codes) (length codes) q, list_refused n codes (sym e))
 
-        pub list-formed : (k : ℕ) → given k ≡ listAnswer n codes → outcome (given k) (coefficients n (product n codes)) ≡ listed n codes numbers
-        unfolding listed listAnswer firstRow
-        list-formed k e = by (steps n codes) refl e
+        pub list_formed : (k : ℕ) → given k ≡ list_answer n codes → outcome (given k) (coefficients n (product n codes)) ≡ listed n codes numbers
+        unfolding listed list_answer first_row
+        list_formed k e = by (steps n codes) refl e
           where
-            by : (s : Steps) → steps n codes ≡ s → given k ≡ bySteps (product n codes).k s → outcome (given k) (coefficients n (product n codes)) ≡ listed n codes numbers
+            by : (s : Steps) → steps n codes ≡ s → given k ≡ by_steps (product n codes).k s → outcome (given k) (coefficients n (product n codes)) ≡ listed n codes numbers
             by all_fit x y =
-                rw (le-ltb 5 n h, eq-eqb (length numbers) (coefficientCount n) p, le-ltb (firstInvalid n codes) (length codes) q, x)
+                rw (le-ltb 5 n h, eq-eqb (length numbers) (coefficient_count n) p, le-ltb (first_invalid n codes) (length codes) q, x)
                 (ap (λ (a : Answer). outcome a (coefficients n (product n codes))) y)
-            by (unfitAt i) x y = clash refl (ap isGiven y)
+            by (unfit_at i) x y = clash refl (ap is_given y)

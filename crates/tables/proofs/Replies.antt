@@ -9,19 +9,19 @@ use lib.ListN.{length, take, drop}
 use lib.Seq.{take_at}
 use Rattle.walk.specs.Answers.{Reply, given, none, refused, Outcome, outcome}
 use Rattle.walk.specs.Meaning.{AnsweredBy, Means, Right}
-use Rattle.walk.proofs.Meaning.{kind, size, first, kind-of, means, answers-right}
-use Rattle.tables.specs.Checks.{firstRow, Arrays}
-use Rattle.tables.specs.Tables.{Table, Query, matrixOf, answerRows, notAWidth, synthesized, limitsAt, part_at}
-use Rattle.tables.proofs.Asked.{partAsked, no_part, answer-passed, answer-refused, asked_by}
-use Rattle.tables.specs.Demand3.{Gives, GivesNone, Refuses, NotRefused, Decided, a-list, no-list, a-refusal}
+use Rattle.walk.proofs.Meaning.{kind, size, first, kind_of_lem, means, answers_right}
+use Rattle.tables.specs.Checks.{first_row, Arrays}
+use Rattle.tables.specs.Tables.{Table, Query, matrix_of, answer_rows, not_aWidth, synthesized, limits_at, part_at}
+use Rattle.tables.proofs.Asked.{part_asked, no_part, answer_passed, answer_refused, asked_by}
+use Rattle.tables.specs.Demand3.{Gives, GivesNone, Refuses, NotRefused, Decided, a_list, no_list, a_refusal}
 
 -- ---- one answer is one case alone
 
 pub number_of : {r s : ℕ} {l m : List ℕ} → outcome (refused r 0) l ≡ outcome (refused s 0) m → r ≡ s
 number_of e = ap (λ (o : Outcome). first o.reply) e
 
-pub not-given : {A : Type 0} {b : Reply} {m : ℕ} {l k : List ℕ} → 0 < kind b → outcome b k ≡ outcome (given m) l → A
-not-given h e = absurd (omega (arith, h, kind-of e))
+pub not_given : {A : Type 0} {b : Reply} {m : ℕ} {l k : List ℕ} → 0 < kind b → outcome b k ≡ outcome (given m) l → A
+not_given h e = absurd (omega (arith, h, kind_of_lem e))
 
 -- a list that fills the first places is known from the answer
 pub one_list : (l m out : List ℕ)
@@ -35,91 +35,91 @@ one_list l m out e =
 
 module _ (t : Table) (a : Arrays) (q : Query) (out : List ℕ) where
   -- the number of the first row that holds
-  abbrev pub rowOfAnswer : ℕ
-  rowOfAnswer = firstRow (answerRows t a q out)
+  abbrev pub row_of_answer : ℕ
+  row_of_answer = first_row (answer_rows t a q out)
 
   pub data ReplyCase : Type 0 where
-    not-a-width : rowOfAnswer ≡ 0 → notAWidth t q.width ≡ true → GivesNone t a q out → ReplyCase
-    part-asked : rowOfAnswer ≡ 0 → notAWidth t q.width ≡ false → synthesized t a q out ≡ partAsked t a q out → ReplyCase
-    by_row : (r : ℕ) → 0 < r → rowOfAnswer ≡ r → Refuses t a q out r → ReplyCase
+    not_a_width : row_of_answer ≡ 0 → not_aWidth t q.width ≡ true → GivesNone t a q out → ReplyCase
+    part_asked_lem : row_of_answer ≡ 0 → not_aWidth t q.width ≡ false → synthesized t a q out ≡ part_asked t a q out → ReplyCase
+    by_row : (r : ℕ) → 0 < r → row_of_answer ≡ r → Refuses t a q out r → ReplyCase
 
   -- ---- from the rows to the answer
 
-  pub row-refuses : (r : ℕ) → 0 < r → rowOfAnswer ≡ r → Refuses t a q out r
-  row-refuses = answer-refused t a q out
+  pub row_refuses : (r : ℕ) → 0 < r → row_of_answer ≡ r → Refuses t a q out r
+  row_refuses = answer_refused t a q out
 
-  pub width-none : rowOfAnswer ≡ 0 → notAWidth t q.width ≡ true → GivesNone t a q out
-  width-none e f = answer-passed t a q out e ∙ asked_by t a q out (no_part t a q f)
+  pub width_none : row_of_answer ≡ 0 → not_aWidth t q.width ≡ true → GivesNone t a q out
+  width_none e f = answer_passed t a q out e ∙ asked_by t a q out (no_part t a q f)
 
-  pub width-asked : rowOfAnswer ≡ 0 → notAWidth t q.width ≡ false → synthesized t a q out ≡ partAsked t a q out
-  width-asked e f = answer-passed t a q out e
+  pub width_asked : row_of_answer ≡ 0 → not_aWidth t q.width ≡ false → synthesized t a q out ≡ part_asked t a q out
+  width_asked e f = answer_passed t a q out e
 
   pub cases : ReplyCase
-  cases = by rowOfAnswer refl
+  cases = by row_of_answer refl
     where
-      at : rowOfAnswer ≡ 0 → (b : Bool) → notAWidth t q.width ≡ b → ReplyCase
-      at e true f = not-a-width e f (width-none e f)
-      at e false f = part-asked e f (width-asked e f)
+      at : row_of_answer ≡ 0 → (b : Bool) → not_aWidth t q.width ≡ b → ReplyCase
+      at e true f = not_a_width e f (width_none e f)
+      at e false f = part_asked_lem e f (width_asked e f)
 
-      by : (r : ℕ) → rowOfAnswer ≡ r → ReplyCase
-      by zero e = at e (notAWidth t q.width) refl
-      by (suc r) e = by_row (suc r) (omega arith) e (row-refuses (suc r) (omega arith) e)
+      by : (r : ℕ) → row_of_answer ≡ r → ReplyCase
+      by zero e = at e (not_aWidth t q.width) refl
+      by (suc r) e = by_row (suc r) (omega arith) e (row_refuses (suc r) (omega arith) e)
 
   -- ---- and back
 
   -- a list comes from the part of the width
-  pub gives-asked : (l : List ℕ) → Gives t a q out l
-      → (rowOfAnswer ≡ 0) × (notAWidth t q.width ≡ false) × (partAsked t a q out ≡ outcome (given (length l)) (l ++ drop (length l) out))
-  gives-asked l g = by cases
+  pub gives_asked : (l : List ℕ) → Gives t a q out l
+      → (row_of_answer ≡ 0) × (not_aWidth t q.width ≡ false) × (part_asked t a q out ≡ outcome (given (length l)) (l ++ drop (length l) out))
+  gives_asked l g = by cases
     where
-      by : ReplyCase → (rowOfAnswer ≡ 0) × (notAWidth t q.width ≡ false) × (partAsked t a q out ≡ outcome (given (length l)) (l ++ drop (length l) out))
-      by (not-a-width e f n) = not-given (omega arith) (sym n ∙ g)
-      by (part-asked e f p) = (e, f, sym p ∙ g)
-      by (by_row r h e n) = not-given (omega arith) (sym n ∙ g)
+      by : ReplyCase → (row_of_answer ≡ 0) × (not_aWidth t q.width ≡ false) × (part_asked t a q out ≡ outcome (given (length l)) (l ++ drop (length l) out))
+      by (not_a_width e f n) = not_given (omega arith) (sym n ∙ g)
+      by (part_asked_lem e f p) = (e, f, sym p ∙ g)
+      by (by_row r h e n) = not_given (omega arith) (sym n ∙ g)
 
   -- where the answer is not a refusal, no row holds
-  pub no_row : NotRefused t a q out → rowOfAnswer ≡ 0
+  pub no_row : NotRefused t a q out → row_of_answer ≡ 0
   no_row h = by cases
     where
-      by : ReplyCase → rowOfAnswer ≡ 0
-      by (not-a-width e f n) = e
-      by (part-asked e f p) = e
+      by : ReplyCase → row_of_answer ≡ 0
+      by (not_a_width e f n) = e
+      by (part_asked_lem e f p) = e
       by (by_row r p e n) = absurd (h r n)
 
   -- ---- what the part of the width answers
 
-  abbrev pub asked-means : Means (limitsAt t.limits q.width) (part_at t a q.width) (matrixOf q) out
-  asked-means = means (limitsAt t.limits q.width) (part_at t a q.width) (matrixOf q) out
+  abbrev pub asked_means : Means (limits_at t.limits q.width) (part_at t a q.width) (matrix_of q) out
+  asked_means = means (limits_at t.limits q.width) (part_at t a q.width) (matrix_of q) out
 
   pub decided : Decided t a q out
   decided = by cases
     where
-      at : synthesized t a q out ≡ partAsked t a q out → (r : Reply) → (partAsked t a q out).reply ≡ r → Decided t a q out
+      at : synthesized t a q out ≡ part_asked t a q out → (r : Reply) → (part_asked t a q out).reply ≡ r → Decided t a q out
       at p (given m) e =
-          let f : partAsked t a q out ≡ outcome (given m) (partAsked t a q out).list = ap (λ (z : Reply). outcome z (partAsked t a q out).list) e in
-          let (l, w, z, h) = (asked-means.is-list m (partAsked t a q out).list).0 f in
-          a-list l (p ∙ f ∙ ap (outcome (given m)) h ∙ ap (λ (j : ℕ). outcome (given j) (l ++ drop j out)) z)
+          let f : part_asked t a q out ≡ outcome (given m) (part_asked t a q out).list = ap (λ (z : Reply). outcome z (part_asked t a q out).list) e in
+          let (l, w, z, h) = (asked_means.is_list m (part_asked t a q out).list).0 f in
+          a_list l (p ∙ f ∙ ap (outcome (given m)) h ∙ ap (λ (j : ℕ). outcome (given j) (l ++ drop j out)) z)
       at p none e =
-          let f : partAsked t a q out ≡ outcome none (partAsked t a q out).list = ap (λ (z : Reply). outcome z (partAsked t a q out).list) e in
-          no-list (p ∙ f ∙ ap (outcome none) ((asked-means.is_none (partAsked t a q out).list).0 f).1)
+          let f : part_asked t a q out ≡ outcome none (part_asked t a q out).list = ap (λ (z : Reply). outcome z (part_asked t a q out).list) e in
+          no_list (p ∙ f ∙ ap (outcome none) ((asked_means.is_none (part_asked t a q out).list).0 f).1)
       at p (refused r i) e =
-          let f : partAsked t a q out ≡ outcome (refused r i) (partAsked t a q out).list = ap (λ (z : Reply). outcome z (partAsked t a q out).list) e in
-          let (w, x, y, h) = (asked-means.is-refused r i (partAsked t a q out).list).0 f in
-          a-refusal r (p ∙ f ∙ (λ k. outcome (refused r (y k)) (h k)))
+          let f : part_asked t a q out ≡ outcome (refused r i) (part_asked t a q out).list = ap (λ (z : Reply). outcome z (part_asked t a q out).list) e in
+          let (w, x, y, h) = (asked_means.is_refused r i (part_asked t a q out).list).0 f in
+          a_refusal r (p ∙ f ∙ (λ k. outcome (refused r (y k)) (h k)))
 
       by : ReplyCase → Decided t a q out
-      by (not-a-width e f n) = no-list n
-      by (part-asked e f p) = at p (partAsked t a q out).reply refl
-      by (by_row r h e n) = a-refusal r n
+      by (not_a_width e f n) = no_list n
+      by (part_asked_lem e f p) = at p (part_asked t a q out).reply refl
+      by (by_row r h e n) = a_refusal r n
 
   -- the list given is the part's
-  pub gives-answers : (l : List ℕ) → Gives t a q out l
-      → AnsweredBy (limitsAt t.limits q.width) (part_at t a q.width) (matrixOf q) l
-  gives-answers l g =
-      let (m, w, z, h) = (asked-means.is-list (length l) (l ++ drop (length l) out)).0 (gives-asked l g).2 in
+  pub gives_answers : (l : List ℕ) → Gives t a q out l
+      → AnsweredBy (limits_at t.limits q.width) (part_at t a q.width) (matrix_of q) l
+  gives_answers l g =
+      let (m, w, z, h) = (asked_means.is_list (length l) (l ++ drop (length l) out)).0 (gives_asked l g).2 in
       let e : l ≡ m = one_list l m out ((λ k. outcome (given (z k)) (h k)) ∙ ap (λ (j : ℕ). outcome (given (length m)) (m ++ drop j out)) z) in
       subst (AnsweredBy _ _ _) (sym e) w
 
   -- (a), and that the matrix asked is unitary
-  pub gives-right : (l : List ℕ) → Gives t a q out l → Right q.width t.limits.basis t.limits.gates (matrixOf q) l
-  gives-right l g = answers-right _ _ _ (gives-answers l g)
+  pub gives_right : (l : List ℕ) → Gives t a q out l → Right q.width t.limits.basis t.limits.gates (matrix_of q) l
+  gives_right l g = answers_right _ _ _ (gives_answers l g)

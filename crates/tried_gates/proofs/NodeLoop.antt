@@ -10,13 +10,13 @@ use lib.ListN.{length, get_or, drop, drop_of_length-le}
 use lib.Seq.{drop-cons}
 use Rattle.walk.specs.Modes.{Mode}
 use Rattle.walk.specs.Index.{By}
-use Rattle.walk.specs.Walk.{Rules, Node, State, root, listAt, try, tryAll}
+use Rattle.walk.specs.Walk.{Rules, Node, State, root, list_at, try, try_all}
 use Rattle.walk.proofs.Grown.{Prefix}
-use Rattle.walk.proofs.Sequences.{prefix_refl, prefix_trans, prefix-at}
-use Rattle.walk.proofs.Candidates.{try-later, tryAll-saturated}
+use Rattle.walk.proofs.Sequences.{prefix_refl, prefix_trans, prefix_at}
+use Rattle.walk.proofs.Candidates.{try_later, try_all_saturated}
 use Rattle.synthesis_arena.specs.declared.WidthLimits.{WidthLimits}
 use Rattle.width_arrays.specs.Arrays.{rules, unsaturated, Columns, Long, Live, After}
-use Rattle.tried_gates.proofs.Keeping.{TriedKept, kept-try, kept-live, live-kept, unfilled}
+use Rattle.tried_gates.proofs.Keeping.{TriedKept, kept_try, kept_live, live_kept, unfilled}
 
 module _ (mode : Mode) (by : By) (lim : WidthLimits) (k d : ℕ) (f0 u0 c0 i0 : List ℕ) (ns₀ : List Node) (goal : State) (gs : List ℕ) where
   abbrev R : Rules
@@ -30,18 +30,18 @@ module _ (mode : Mode) (by : By) (lim : WidthLimits) (k d : ℕ) (f0 u0 c0 i0 : 
     pub columns : Columns by lim f0 u0 c0 i0 ns f u c i count
     pub kept : TriedKept R E d (suc k) k ns
     pub later : Prefix ns₀ ns
-    pub rest : tryAll R E (unsaturated ns) k (drop j gs) ≡ goal
+    pub rest : try_all R E (unsaturated ns) k (drop j gs) ≡ goal
 
   module _ {j : ℕ} {f u c i : List ℕ} {count : ℕ} (r : NodeRun j f u c i count) where
-    abbrev pub node-run-live : suc d ≤ lim.gates → Long by lim f0 u0 c0 i0 → Live mode by lim f u c i count k (suc k)
-    node-run-live deep long = kept-live r.columns r.kept (omega arith) deep long
+    abbrev pub node_run_live : suc d ≤ lim.gates → Long by lim f0 u0 c0 i0 → Live mode by lim f u c i count k (suc k)
+    node_run_live deep long = kept_live r.columns r.kept (omega arith) deep long
 
-    pub node-run-lt : k < count
-    node-run-lt = omega (arith, r.kept.size, r.columns.count-is)
+    pub node_run_lt : k < count
+    node_run_lt = omega (arith, r.kept.size, r.columns.count_is)
 
     -- the node's list stays
-    pub node-run-own : k < length ns₀ → listAt r.ns k ≡ listAt ns₀ k
-    node-run-own l = ap (λ (v : Node). v.list) (prefix-at r.later k root l)
+    pub node_run_own : k < length ns₀ → list_at r.ns k ≡ list_at ns₀ k
+    node_run_own l = ap (λ (v : Node). v.list) (prefix_at r.later k root l)
 
     -- after the next gate
     module _ (l : j < length gs) {f' u' c' i' : List ℕ} {count' : ℕ} {b : Bool}
@@ -49,37 +49,37 @@ module _ (mode : Mode) (by : By) (lim : WidthLimits) (k d : ℕ) (f0 u0 c0 i0 : 
       abbrev tried : State
       tried = try R E (unsaturated r.ns) k (get_or gs j 0)
 
-      left_over : tryAll R E tried k (drop (j + 1) gs) ≡ goal
-      unfolding tryAll
-      left_over = ap (λ (z : ℕ). tryAll R E tried k (drop z gs)) (add-one j) ∙ ap (tryAll R E (unsaturated r.ns) k) (sym (drop-cons gs j 0 l)) ∙ r.rest
+      left_over : try_all R E tried k (drop (j + 1) gs) ≡ goal
+      unfolding try_all
+      left_over = ap (λ (z : ℕ). try_all R E tried k (drop z gs)) (add-one j) ∙ ap (try_all R E (unsaturated r.ns) k) (sym (drop-cons gs j 0 l)) ∙ r.rest
 
-      pub node-run-next : Memᴰ (get_or gs j 0) R.generators → b ≡ false → NodeRun (j + 1) f' u' c' i' count'
-      node-run-next m q = record {
+      pub node_run_next : Memᴰ (get_or gs j 0) R.generators → b ≡ false → NodeRun (j + 1) f' u' c' i' count'
+      node_run_next m q = record {
         ns = tried.nodes;
         columns = a.columns;
-        kept = kept-try R E d (suc k) (unsaturated r.ns) k (get_or gs j 0) (omega arith) m r.kept;
-        later = prefix_trans r.later (try-later R E (unsaturated r.ns) k (get_or gs j 0)).prefix;
-        rest = ap (λ (t : State). tryAll R E t k (drop (j + 1) gs)) (sym (unfilled tried b a.full_is q)) ∙ left_over;
+        kept = kept_try R E d (suc k) (unsaturated r.ns) k (get_or gs j 0) (omega arith) m r.kept;
+        later = prefix_trans r.later (try_later R E (unsaturated r.ns) k (get_or gs j 0)).prefix;
+        rest = ap (λ (t : State). try_all R E t k (drop (j + 1) gs)) (sym (unfilled tried b a.full_is q)) ∙ left_over;
       }
 
-      pub node-run-full : b ≡ true → After by lim f0 u0 c0 i0 goal f' u' c' i' count' b
-      node-run-full q =
-          let e : tried ≡ goal = sym (tryAll-saturated R E tried k (drop (j + 1) gs) (sym a.full_is ∙ q)) ∙ left_over in
+      pub node_run_full : b ≡ true → After by lim f0 u0 c0 i0 goal f' u' c' i' count' b
+      node_run_full q =
+          let e : tried ≡ goal = sym (try_all_saturated R E tried k (drop (j + 1) gs) (sym a.full_is ∙ q)) ∙ left_over in
           subst (λ (t : State). After by lim f0 u0 c0 i0 t f' u' c' i' count' b) e a
 
-    pub node-run-end : length gs ≤ j → After by lim f0 u0 c0 i0 goal f u c i count false
-    unfolding tryAll
-    node-run-end l =
-        let e : unsaturated r.ns ≡ goal = ap (tryAll R E (unsaturated r.ns) k) (sym (drop_of_length-le gs {i = j} l)) ∙ r.rest in
+    pub node_run_end : length gs ≤ j → After by lim f0 u0 c0 i0 goal f u c i count false
+    unfolding try_all
+    node_run_end l =
+        let e : unsaturated r.ns ≡ goal = ap (try_all R E (unsaturated r.ns) k) (sym (drop_of_length-le gs {i = j} l)) ∙ r.rest in
         subst (λ (t : State). After by lim f0 u0 c0 i0 t f u c i count false) e (record { columns = r.columns; full_is = refl })
 
-abbrev pub node-run-start : {mode : Mode} {by : By} {lim : WidthLimits} {k : ℕ} {f u c i : List ℕ} {count : ℕ} (h : Live mode by lim f u c i count k (suc k)) → k < count
-    → {goal : State} (gs : List ℕ) → tryAll (rules mode lim) lim.entries (unsaturated h.ns) k gs ≡ goal
+abbrev pub node_run_start : {mode : Mode} {by : By} {lim : WidthLimits} {k : ℕ} {f u c i : List ℕ} {count : ℕ} (h : Live mode by lim f u c i count k (suc k)) → k < count
+    → {goal : State} (gs : List ℕ) → try_all (rules mode lim) lim.entries (unsaturated h.ns) k gs ≡ goal
     → NodeRun mode by lim k h.d h.f0 h.u0 h.c0 h.i0 h.ns goal gs 0 f u c i count
-node-run-start h l gs e = record {
+node_run_start h l gs e = record {
   ns = h.ns;
   columns = h.columns;
-  kept = live-kept h l;
+  kept = live_kept h l;
   later = prefix_refl h.ns;
   rest = e;
 }

@@ -1,17 +1,19 @@
 // The gates that are left after a node, in order: each candidate is handed to `append`, with its fingerprint and the
 // node that was looked up ahead for it, until the width is saturated. That gates were left out changes nothing: a
-// candidate that the walk skips stays skipped, whatever nodes are added (`skipped-stays`, proofs/Skipped), and a node
-// that was found ahead stays the one that the look-up gives (`found-stays`, proofs/Gates).
+// candidate that the walk skips stays skipped, whatever nodes are added (`skipped_stays`, proofs/Skipped), and a node
+// that was found ahead stays the one that the look-up gives (`found_stays`, proofs/Gates).
+#![tactic(auto)]
+
 ghost use Rattle.std.specs.Prelude.{◌≡◌, map, ◌≤◌, ◌<◌, length};
 ghost use Rattle.generators.specs.Generators.{generators};
 ghost use Rattle.exact.specs.Places.{held};
 ghost use Rattle.places.specs.Places.{places};
-ghost use Rattle.index.specs.Told.{toldBy};
-ghost use Rattle.known.specs.Known.{toldMode};
+ghost use Rattle.index.specs.Told.{told_by};
+ghost use Rattle.known.specs.Known.{told_mode};
 ghost use Rattle.skip_rules.specs.Skips.{unskipped};
-ghost use Rattle.fitting_gates.specs.Fitting.{candidatePrint};
+ghost use Rattle.fitting_gates.specs.Fitting.{candidate_print};
 ghost use Rattle.looked_ahead.specs.Ahead.{ahead_of};
-ghost use Rattle.tried_gates.specs.Tries.{leftOut, NodeFormed, GatesTried};
+ghost use Rattle.tried_gates.specs.Tries.{left_out, NodeFormed, GatesTried};
 
 use cyclotomic::Coefficient;
 use index::LookupBy;
@@ -40,12 +42,12 @@ pub fn try_gates(
     right: &mut [Coefficient; 4096],
 ) -> Tried
     requires bounds { (limits.width ≤ 5) × (node < count) × (limits.entries ≤ 1000000) × (limits.gates ≤ 64) }
-    requires gates { gates.now ≡ unskipped (leftOut limits node codes.old (held limits.width exponent m.now)) (generators limits.width limits.basis) }
-    requires prints { prints.now ≡ map (candidatePrint limits.width (held limits.width exponent m.now)) gates.now }
-    requires nodes { nodes.now ≡ ahead_of (toldBy by) index.old fingerprints.old count prints.now }
-    requires formed { NodeFormed (toldMode mode) (toldBy by) limits count node exponent fingerprints.old parents.old codes.old index.old m.now }
+    requires gates { gates.now ≡ unskipped (left_out limits node codes.old (held limits.width exponent m.now)) (generators limits.width limits.basis) }
+    requires prints { prints.now ≡ map (candidate_print limits.width (held limits.width exponent m.now)) gates.now }
+    requires nodes { nodes.now ≡ ahead_of (told_by by) index.old fingerprints.old count prints.now }
+    requires formed { NodeFormed (told_mode mode) (told_by by) limits count node exponent fingerprints.old parents.old codes.old index.old m.now }
     requires long { (length left.old ≡ places) × (length right.old ≡ places) }
-    ensures tried { GatesTried (toldMode mode) (toldBy by) limits count node exponent m.now
+    ensures tried { GatesTried (told_mode mode) (told_by by) limits count node exponent m.now
         fingerprints.old parents.old codes.old index.old
         fingerprints.new parents.new codes.new index.new result }
     ensures long { (length left.new ≡ places) × (length right.new ≡ places) }

@@ -1,10 +1,12 @@
 // Equality of two matrices up to phase, `equivalent_up_to_global_phase` in matrix.rs of the original. The entries of
 // one matrix are turned as they are read, so that no matrix is copied. Only answers ask for it, so it stands beside the
 // fingerprints and not below them.
+#![tactic(auto)]
+
 ghost use Rattle.std.specs.Prelude.{◌≡◌, ◌*◌, ◌^◌, ◌≤◌, length};
 ghost use Rattle.exact.specs.Places.{read, held};
 ghost use Rattle.exact.proofs.Words.{AllSmall};
-ghost use Rattle.exact.specs.Phase.{upToPhase};
+ghost use Rattle.exact.specs.Phase.{up_to_phase};
 
 use cyclotomic::Coefficient;
 
@@ -21,7 +23,7 @@ pub fn equivalent_up_to_global_phase(
     requires n_bound { n ≤ 5 }
     requires n_in_bounds { (4 * (2 ^ n * 2 ^ n) ≤ length left.now) × (4 * (2 ^ n * 2 ^ n) ≤ length right.now) }
     requires all_small { AllSmall n (read n left.now) × AllSmall n (read n right.now) }
-    ensures { result ≡ upToPhase n (held n j left.now) (held n k right.now) }
+    ensures { result ≡ up_to_phase n (held n j left.now) (held n k right.now) }
 {
     if j != k {
         return false;

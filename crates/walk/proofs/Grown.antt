@@ -6,7 +6,7 @@ use mathlib.Core.Bool.{true, false}
 use mathlib.Core.List.{List, [], ◌∷◌, ◌++◌, Memᴰ}
 use Prim.Native.Nat.{ℕ, suc, ◌≤◌, ◌<◌}
 use lib.ListN.{length, get_or}
-use Rattle.walk.specs.Walk.{Rules, Node, Build, root, isNil, listAt, prod, pruned, skipped, child}
+use Rattle.walk.specs.Walk.{Rules, Node, Build, root, is_nil, list_at, prod, pruned, skipped, child}
 
 -- the first list is the beginning of the second
 pub record Prefix {A : Type 0} (ns ms : List A) : Type 0 where
@@ -14,12 +14,12 @@ pub record Prefix {A : Type 0} (ns ms : List A) : Type 0 where
   pub is : ms ≡ ns ++ rest
 
 -- the parent of a node
-abbrev pub parentAt : List Node → ℕ → ℕ
-parentAt ns k = (get_or ns k root).parent
+abbrev pub parent_at : List Node → ℕ → ℕ
+parent_at ns k = (get_or ns k root).parent
 
 -- no node but the first has a parent past k
 abbrev pub ParentsTo : ℕ → List Node → Type 0
-ParentsTo k ns = (j : ℕ) → j < length ns → 0 < j → parentAt ns j ≤ k
+ParentsTo k ns = (j : ℕ) → j < length ns → 0 < j → parent_at ns j ≤ k
 
 module _ (R : Rules) where
   -- node 0, and then each a candidate that was not skipped, after a node that is there and is no lower than the parents
@@ -35,9 +35,9 @@ module _ (R : Rules) where
     pub below : n.parent < k
     pub code : ℕ
     pub generator : Memᴰ code R.generators
-    pub is : n.list ≡ code ∷ listAt ns n.parent
-    pub kept : pruned R code (listAt ns n.parent) ≡ false
-    pub fit : R.fits code (prod R (listAt ns n.parent)) ≡ true
+    pub is : n.list ≡ code ∷ list_at ns n.parent
+    pub kept : pruned R code (list_at ns n.parent) ≡ false
+    pub fit : R.fits code (prod R (list_at ns n.parent)) ≡ true
 
   -- The invariant of a width after a depth. The layers before the last are less deep than the completed depth; where
   -- the width is not saturated, the last layer is just as deep, and no parent lies past its beginning; where it is,
@@ -45,10 +45,10 @@ module _ (R : Rules) where
   pub record Layered (b : Build) : Type 0 where
     pub grown : Grown b.nodes
     pub start : b.last ≤ length b.nodes
-    pub before : (j : ℕ) → j < b.last → length (listAt b.nodes j) < b.depth
-    pub within : b.saturated ≡ false → (j : ℕ) → j < length b.nodes → b.last ≤ j → length (listAt b.nodes j) ≡ b.depth
+    pub before : (j : ℕ) → j < b.last → length (list_at b.nodes j) < b.depth
+    pub within : b.saturated ≡ false → (j : ℕ) → j < length b.nodes → b.last ≤ j → length (list_at b.nodes j) ≡ b.depth
     pub parents : b.saturated ≡ false → ParentsTo b.last b.nodes
-    pub deep : (j : ℕ) → j < length b.nodes → length (listAt b.nodes j) ≤ suc b.depth
+    pub deep : (j : ℕ) → j < length b.nodes → length (list_at b.nodes j) ≤ suc b.depth
 
   -- The invariant of a width at the end of its walk, with gate limit G and entry limit E: the count is at most E, and E
   -- where the width is saturated; no list is longer than G
@@ -57,7 +57,7 @@ module _ (R : Rules) where
     pub depth : b.depth ≤ G
     pub count : 0 < E → length b.nodes ≤ E
     pub full : b.saturated ≡ true → E ≤ length b.nodes
-    pub limit : (k : ℕ) → k < length b.nodes → length (listAt b.nodes k) ≤ G
+    pub limit : (k : ℕ) → k < length b.nodes → length (list_at b.nodes k) ≤ G
     -- an unsaturated one ended because G depths were walked, or the last depth added nothing, or there are no
     -- generators
-    pub why : b.saturated ≡ false → (b.depth ≡ G) ⊎ (b.last ≡ length b.nodes) ⊎ (isNil R.generators ≡ true)
+    pub why : b.saturated ≡ false → (b.depth ≡ G) ⊎ (b.last ≡ length b.nodes) ⊎ (is_nil R.generators ≡ true)

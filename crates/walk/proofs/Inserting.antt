@@ -14,25 +14,25 @@ use borrow.Author.Tests.{eqb-true, eqb-false}
 use Rattle.ints.specs.Lists.{pick}
 use Rattle.circuit.specs.Codes.{mark}
 use Rattle.walk.specs.Lookup.{Lookup, found, none}
-use Rattle.walk.specs.Index.{place_of, freeOf, put_at, inserted, filled}
-use Rattle.walk.specs.IndexLaws.{atStep}
-use Rattle.walk.proofs.Rounds.{place-below, place-met}
-use Rattle.walk.proofs.Empties.{empties, empties-all, empties-set, empties-some}
+use Rattle.walk.specs.Index.{place_of, free_of, put_at, inserted, filled}
+use Rattle.walk.specs.IndexLaws.{at_step}
+use Rattle.walk.proofs.Rounds.{place_below, place_met}
+use Rattle.walk.proofs.Empties.{empties, empties_all, empties_set, empties_some}
 
 -- ---- the first empty place of a probe
 
 -- the place of step i is empty, and none before it from step j on
 pub record First (index : List ℕ) (f j i : ℕ) : Type 0 where
-  pub not-before : j ≤ i
+  pub not_before : j ≤ i
   pub empty : get_or index (place_of (length index) f i) 0 ≡ mark
   pub full : (a : ℕ) → j ≤ a → a < i → get_or index (place_of (length index) f a) 0 ≡ mark → ⊥
 
 -- where a place within the next m steps is empty, the first is found
-pub free-found : (index : List ℕ) (f m j e : ℕ) → j ≤ e → e < j + m → get_or index (place_of (length index) f e) 0 ≡ mark
-    → (i : ℕ) × (i ≤ e) × First index f j i × (freeOf index f j m ≡ found (place_of (length index) f i))
-unfolding freeOf
-free-found index f zero j e l h q = absurd (omega arith)
-free-found index f (suc m) j e l h q = by (eqb (get_or index (place_of (length index) f j) 0) mark) refl (λ ne. free-found index f m (suc j) e (further ne) (omega arith) q)
+pub free_found : (index : List ℕ) (f m j e : ℕ) → j ≤ e → e < j + m → get_or index (place_of (length index) f e) 0 ≡ mark
+    → (i : ℕ) × (i ≤ e) × First index f j i × (free_of index f j m ≡ found (place_of (length index) f i))
+unfolding free_of
+free_found index f zero j e l h q = absurd (omega arith)
+free_found index f (suc m) j e l h q = by (eqb (get_or index (place_of (length index) f j) 0) mark) refl (λ ne. free_found index f m (suc j) e (further ne) (omega arith) q)
   where
     further : (get_or index (place_of (length index) f j) 0 ≡ mark → ⊥) → suc j ≤ e
     further ne = at (ℕ_discrete j e)
@@ -43,18 +43,18 @@ free-found index f (suc m) j e l h q = by (eqb (get_or index (place_of (length i
 
     by : (b : Bool) → eqb (get_or index (place_of (length index) f j) 0) mark ≡ b
         → ((get_or index (place_of (length index) f j) 0 ≡ mark → ⊥)
-        → (i : ℕ) × (i ≤ e) × First index f (suc j) i × (freeOf index f (suc j) m ≡ found (place_of (length index) f i)))
-        → (i : ℕ) × (i ≤ e) × First index f j i × (pick b (found (place_of (length index) f j)) (freeOf index f (suc j) m) ≡ found (place_of (length index) f i))
+        → (i : ℕ) × (i ≤ e) × First index f (suc j) i × (free_of index f (suc j) m ≡ found (place_of (length index) f i)))
+        → (i : ℕ) × (i ≤ e) × First index f j i × (pick b (found (place_of (length index) f j)) (free_of index f (suc j) m) ≡ found (place_of (length index) f i))
     by true t rest = (
       j,
       l,
-      record { not-before = omega arith; empty = eqb-true (get_or index (place_of (length index) f j) 0) mark t; full = λ a u v. absurd (omega arith) },
+      record { not_before = omega arith; empty = eqb-true (get_or index (place_of (length index) f j) 0) mark t; full = λ a u v. absurd (omega arith) },
       refl,
     )
     by false t rest =
         let ne = eqb-false (get_or index (place_of (length index) f j) 0) mark t in
         let r = rest ne in
-        (r.0, r.1, record { not-before = omega (arith, r.2.not-before); empty = r.2.empty; full = λ a u v. passed ne r.2 a u v (ℕ_discrete a j) }, r.3)
+        (r.0, r.1, record { not_before = omega (arith, r.2.not_before); empty = r.2.empty; full = λ a u v. passed ne r.2 a u v (ℕ_discrete a j) }, r.3)
       where
         passed : (get_or index (place_of (length index) f j) 0 ≡ mark → ⊥) → {i : ℕ} → First index f (suc j) i
             → (a : ℕ) → j ≤ a → a < i → Dec (a ≡ j) → get_or index (place_of (length index) f a) 0 ≡ mark → ⊥
@@ -66,7 +66,7 @@ free-found index f (suc m) j e l h q = by (eqb (get_or index (place_of (length i
 module _ (fps : List ℕ) where
   -- what stands at step j of the probe of node v's fingerprint
   abbrev step_of : List ℕ → ℕ → ℕ → ℕ
-  step_of index v j = atStep index (get_or fps v 0) j
+  step_of index v j = at_step index (get_or fps v 0) j
 
   -- node v stands at step j of its probe, and no place before is empty
   pub record Stands (index : List ℕ) (v j : ℕ) : Type 0 where
@@ -90,7 +90,7 @@ module _ (fps : List ℕ) where
     nodes = λ p h. inl (get_or-replicate size p mark 0 (omega (arith, length-replicate size mark)));
     stands = λ v h. absurd (omega arith);
     earlier = λ w v j l h. absurd (omega arith);
-    room = rw (empties-all size, length-replicate) (omega arith);
+    room = rw (empties_all size, length-replicate) (omega arith);
   }
 
   -- ---- one node more
@@ -101,50 +101,50 @@ module _ (fps : List ℕ) where
 
     -- an empty place lies along the probe, so the node goes to the first of them
     gap : (p : ℕ) × (p < length index) × (get_or index p 0 ≡ mark)
-    gap = empties-some index (omega (arith, w.room))
+    gap = empties_some index (omega (arith, w.room))
 
     met : (j : ℕ) × (j < length index) × (place_of (length index) f j ≡ gap.0)
-    met = place-met (length index) f gap.0 gap.1
+    met = place_met (length index) f gap.0 gap.1
 
     at_gap : get_or index (place_of (length index) f met.0) 0 ≡ mark
     at_gap = ap (λ (p : ℕ). get_or index p 0) met.2 ∙ gap.2
 
-    free : (i : ℕ) × (i ≤ met.0) × First index f 0 i × (freeOf index f 0 (length index) ≡ found (place_of (length index) f i))
-    free = free-found index f (length index) 0 met.0 (omega arith) (omega (arith, met.1)) at_gap
+    free : (i : ℕ) × (i ≤ met.0) × First index f 0 i × (free_of index f 0 (length index) ≡ found (place_of (length index) f i))
+    free = free_found index f (length index) 0 met.0 (omega arith) (omega (arith, met.1)) at_gap
 
     abbrev place : ℕ
     place = place_of (length index) f free.0
 
     place_in : place < length index
-    place_in = place-below (length index) f free.0 (omega arith)
+    place_in = place_below (length index) f free.0 (omega arith)
 
     abbrev new : List ℕ
     new = set index place k
 
-    new-long : length new ≡ length index
-    new-long = length-set index place k
+    new_long : length new ≡ length index
+    new_long = length-set index place k
 
-    inserted-is : inserted index f k ≡ new
+    inserted_is : inserted index f k ≡ new
     unfolding inserted
-    inserted-is = ap (put_at index k) free.3
+    inserted_is = ap (put_at index k) free.3
 
-    new-at : get_or new place 0 ≡ k
-    new-at = get_or-set_same index place k 0 place_in
+    new_at : get_or new place 0 ≡ k
+    new_at = get_or-set_same index place k 0 place_in
 
-    new-other : (p : ℕ) → (p ≡ place → ⊥) → get_or new p 0 ≡ get_or index p 0
-    new-other p ne = get_or-set_other index place p k 0 ne
+    new_other : (p : ℕ) → (p ≡ place → ⊥) → get_or new p 0 ≡ get_or index p 0
+    new_other p ne = get_or-set_other index place p k 0 ne
 
     -- a place that is not empty keeps what it holds
     stays : (p : ℕ) → (get_or index p 0 ≡ mark → ⊥) → get_or new p 0 ≡ get_or index p 0
-    stays p ne = new-other p (λ e. ne (ap (λ (q : ℕ). get_or index q 0) e ∙ free.2.empty))
+    stays p ne = new_other p (λ e. ne (ap (λ (q : ℕ). get_or index q 0) e ∙ free.2.empty))
 
     -- an empty place after it was one before it
-    still-empty : (p : ℕ) → get_or new p 0 ≡ mark → get_or index p 0 ≡ mark
-    still-empty p e = by (ℕ_discrete p place)
+    still_empty : (p : ℕ) → get_or new p 0 ≡ mark → get_or index p 0 ≡ mark
+    still_empty p e = by (ℕ_discrete p place)
       where
         by : Dec (p ≡ place) → get_or index p 0 ≡ mark
         by (yes z) = ap (λ (q : ℕ). get_or index q 0) z ∙ free.2.empty
-        by (no z) = sym (new-other p z) ∙ e
+        by (no z) = sym (new_other p z) ∙ e
 
     -- a lower node stood where it stands
     stood : (p v : ℕ) → v < k → get_or new p 0 ≡ v → get_or index p 0 ≡ v
@@ -152,16 +152,16 @@ module _ (fps : List ℕ) where
       where
         by : Dec (p ≡ place) → get_or index p 0 ≡ v
         by (yes z) =
-            let q : k ≡ v = sym new-at ∙ ap (λ (a : ℕ). get_or new a 0) (sym z) ∙ e in
+            let q : k ≡ v = sym new_at ∙ ap (λ (a : ℕ). get_or new a 0) (sym z) ∙ e in
             absurd (omega arith)
-        by (no z) = sym (new-other p z) ∙ e
+        by (no z) = sym (new_other p z) ∙ e
 
-    not-mark : (v p : ℕ) → v < k → get_or index p 0 ≡ v → get_or index p 0 ≡ mark → ⊥
-    not-mark v p l e q = let z : v ≡ mark = sym e ∙ q in omega arith
+    not_mark : (v p : ℕ) → v < k → get_or index p 0 ≡ v → get_or index p 0 ≡ mark → ⊥
+    not_mark v p l e q = let z : v ≡ mark = sym e ∙ q in omega arith
 
     -- steps of the new part are steps of the old one: the length is the same
-    step-new : (v j : ℕ) → step_of new v j ≡ get_or new (place_of (length index) (get_or fps v 0) j) 0
-    step-new v j = ap (λ (s : ℕ). get_or new (place_of s (get_or fps v 0) j) 0) new-long
+    step_new : (v j : ℕ) → step_of new v j ≡ get_or new (place_of (length index) (get_or fps v 0) j) 0
+    step_new v j = ap (λ (s : ℕ). get_or new (place_of s (get_or fps v 0) j) 0) new_long
 
     -- no place before a node's own is empty: so the place of the new node is not among them
     before : (v j i : ℕ) → v < k → get_or fps v 0 ≡ f → Stands index v j → get_or index (place_of (length index) f i) 0 ≡ mark → j < i
@@ -175,34 +175,34 @@ module _ (fps : List ℕ) where
         by (no z) = absurd (at (ℕ_discrete i j))
           where
             at : Dec (i ≡ j) → ⊥
-            at (yes y) = not-mark v (place_of (length index) (get_or fps v 0) j) l s.here (subst (λ (a : ℕ). get_or index (place_of (length index) (get_or fps v 0) a) 0 ≡ mark) y eq)
+            at (yes y) = not_mark v (place_of (length index) (get_or fps v 0) j) l s.here (subst (λ (a : ℕ). get_or index (place_of (length index) (get_or fps v 0) a) 0 ≡ mark) y eq)
             at (no y) = s.full i (omega arith) eq
 
-    stands-new : (v : ℕ) → v < suc k → (j : ℕ) × Stands new v j
-    stands-new v h = by (ℕ_discrete v k)
+    stands_new : (v : ℕ) → v < suc k → (j : ℕ) × Stands new v j
+    stands_new v h = by (ℕ_discrete v k)
       where
         by : Dec (v ≡ k) → (j : ℕ) × Stands new v j
         by (yes z) =
             subst (λ (u : ℕ). (j : ℕ) × Stands new u j) (sym z) (
               free.0,
               record {
-                near = omega (arith, new-long, free.1, met.1);
-                here = step-new k free.0 ∙ new-at;
-                full = λ i l e. free.2.full i (omega arith) l (still-empty (place_of (length index) f i) (sym (step-new k i) ∙ e));
+                near = omega (arith, new_long, free.1, met.1);
+                here = step_new k free.0 ∙ new_at;
+                full = λ i l e. free.2.full i (omega arith) l (still_empty (place_of (length index) f i) (sym (step_new k i) ∙ e));
               },
             )
         by (no z) =
             let s = w.stands v (omega arith) in (
               s.0,
               record {
-                near = omega (arith, new-long, s.1.near);
-                here = step-new v s.0 ∙ stays (place_of (length index) (get_or fps v 0) s.0) (not-mark v _ (omega arith) s.1.here) ∙ s.1.here;
-                full = λ i l e. s.1.full i l (still-empty (place_of (length index) (get_or fps v 0) i) (sym (step-new v i) ∙ e));
+                near = omega (arith, new_long, s.1.near);
+                here = step_new v s.0 ∙ stays (place_of (length index) (get_or fps v 0) s.0) (not_mark v _ (omega arith) s.1.here) ∙ s.1.here;
+                full = λ i l e. s.1.full i l (still_empty (place_of (length index) (get_or fps v 0) i) (sym (step_new v i) ∙ e));
               },
             )
 
-    earlier-new : (u v j : ℕ) → v < u → u < suc k → get_or fps v 0 ≡ get_or fps u 0 → step_of new u j ≡ u → (i : ℕ) × (i < j) × (step_of new u i ≡ v)
-    earlier-new u v j l h e q = by (ℕ_discrete u k)
+    earlier_new : (u v j : ℕ) → v < u → u < suc k → get_or fps v 0 ≡ get_or fps u 0 → step_of new u j ≡ u → (i : ℕ) × (i < j) × (step_of new u i ≡ v)
+    earlier_new u v j l h e q = by (ℕ_discrete u k)
       where
         by : Dec (u ≡ k) → (i : ℕ) × (i < j) × (step_of new u i ≡ v)
         by (yes z) =
@@ -210,70 +210,70 @@ module _ (fps : List ℕ) where
             let s = w.stands v vk in
             let ev : get_or fps v 0 ≡ f = e ∙ ap (λ (a : ℕ). get_or fps a 0) z in
             -- the place of step j held nothing
-            let was : get_or index (place_of (length index) f j) 0 ≡ mark = empty-there z in
-            let kept : get_or new (place_of (length index) (get_or fps v 0) s.0) 0 ≡ v = stays _ (not-mark v _ vk s.1.here) ∙ s.1.here in
-            (s.0, before v s.0 j vk ev s.1 was, step-new u s.0 ∙ ap (λ (g : ℕ). get_or new (place_of (length index) g s.0) 0) (sym e) ∙ kept)
+            let was : get_or index (place_of (length index) f j) 0 ≡ mark = empty_there z in
+            let kept : get_or new (place_of (length index) (get_or fps v 0) s.0) 0 ≡ v = stays _ (not_mark v _ vk s.1.here) ∙ s.1.here in
+            (s.0, before v s.0 j vk ev s.1 was, step_new u s.0 ∙ ap (λ (g : ℕ). get_or new (place_of (length index) g s.0) 0) (sym e) ∙ kept)
           where
-            empty-there : u ≡ k → get_or index (place_of (length index) f j) 0 ≡ mark
-            empty-there z = on (ℕ_discrete (place_of (length index) f j) place)
+            empty_there : u ≡ k → get_or index (place_of (length index) f j) 0 ≡ mark
+            empty_there z = on (ℕ_discrete (place_of (length index) f j) place)
               where
-                is-k : get_or new (place_of (length index) f j) 0 ≡ k
-                is-k = ap (λ (a : ℕ). get_or new (place_of (length index) (get_or fps a 0) j) 0) (sym z) ∙ sym (step-new u j) ∙ q ∙ z
+                is_k : get_or new (place_of (length index) f j) 0 ≡ k
+                is_k = ap (λ (a : ℕ). get_or new (place_of (length index) (get_or fps a 0) j) 0) (sym z) ∙ sym (step_new u j) ∙ q ∙ z
 
                 on : Dec (place_of (length index) f j ≡ place) → get_or index (place_of (length index) f j) 0 ≡ mark
                 on (yes y) = ap (λ (a : ℕ). get_or index a 0) y ∙ free.2.empty
                 on (no y) =
-                    let r : get_or index (place_of (length index) f j) 0 ≡ k = sym (new-other (place_of (length index) f j) y) ∙ is-k in
-                    ⊎_elim (λ t. t) (λ t. absurd (omega arith)) (w.nodes (place_of (length index) f j) (place-below (length index) f j (omega arith)))
+                    let r : get_or index (place_of (length index) f j) 0 ≡ k = sym (new_other (place_of (length index) f j) y) ∙ is_k in
+                    ⊎_elim (λ t. t) (λ t. absurd (omega arith)) (w.nodes (place_of (length index) f j) (place_below (length index) f j (omega arith)))
         by (no z) =
             let uk : u < k = omega arith in
-            let r = w.earlier u v j l uk e (stood (place_of (length index) (get_or fps u 0) j) u uk (sym (step-new u j) ∙ q)) in
-            (r.0, r.1, step-new u r.0 ∙ stays _ (not-mark v _ (omega arith) r.2) ∙ r.2)
+            let r = w.earlier u v j l uk e (stood (place_of (length index) (get_or fps u 0) j) u uk (sym (step_new u j) ∙ q)) in
+            (r.0, r.1, step_new u r.0 ∙ stays _ (not_mark v _ (omega arith) r.2) ∙ r.2)
 
     holds_more : Holds new (suc k)
     holds_more = record {
       few = more;
       nodes = λ p h. by p h (ℕ_discrete p place);
-      stands = stands-new;
-      earlier = earlier-new;
-      room = omega (arith, new-long, w.room, empties-set index place k place_in free.2.empty (λ z. absurd (omega arith)));
+      stands = stands_new;
+      earlier = earlier_new;
+      room = omega (arith, new_long, w.room, empties_set index place k place_in free.2.empty (λ z. absurd (omega arith)));
     }
       where
         by : (p : ℕ) → p < length new → Dec (p ≡ place) → (get_or new p 0 ≡ mark) ⊎ (get_or new p 0 < suc k)
-        by p h (yes z) = inr (omega (arith, ap (λ (a : ℕ). get_or new a 0) z, new-at))
+        by p h (yes z) = inr (omega (arith, ap (λ (a : ℕ). get_or new a 0) z, new_at))
         by p h (no z) =
-            ⊎_elim (λ (t : get_or index p 0 ≡ mark). inl (new-other p z ∙ t)) (λ (t : get_or index p 0 < k). inr (omega (arith, new-other p z)))
-            (w.nodes p (omega (arith, new-long)))
+            ⊎_elim (λ (t : get_or index p 0 ≡ mark). inl (new_other p z ∙ t)) (λ (t : get_or index p 0 < k). inr (omega (arith, new_other p z)))
+            (w.nodes p (omega (arith, new_long)))
 
-    pub holds-inserted : Holds (inserted index (get_or fps k 0) k) (suc k)
-    holds-inserted = subst (λ (i : List ℕ). Holds i (suc k)) (sym inserted-is) holds_more
+    pub holds_inserted : Holds (inserted index (get_or fps k 0) k) (suc k)
+    holds_inserted = subst (λ (i : List ℕ). Holds i (suc k)) (sym inserted_is) holds_more
 
   -- ---- a filled part
 
-  pub filled-length : (size count : ℕ) → length (filled fps size count) ≡ size
+  pub filled_length : (size count : ℕ) → length (filled fps size count) ≡ size
   unfolding filled inserted
-  filled-length size zero = length-replicate size mark
-  filled-length size (suc count) =
+  filled_length size zero = length-replicate size mark
+  filled_length size (suc count) =
       let index : List ℕ = filled fps size count in
-      put-length index (freeOf index (get_or fps count 0) 0 (length index)) ∙ filled-length size count
+      put_length index (free_of index (get_or fps count 0) 0 (length index)) ∙ filled_length size count
     where
-      put-length : (index : List ℕ) (r : Lookup) → length (put_at index count r) ≡ length index
-      put-length index (found p) = length-set index p count
-      put-length index none = refl
+      put_length : (index : List ℕ) (r : Lookup) → length (put_at index count r) ≡ length index
+      put_length index (found p) = length-set index p count
+      put_length index none = refl
 
-  pub filled-holds : (size count : ℕ) → count ≤ size → count ≤ mark → Holds (filled fps size count) count
+  pub filled_holds : (size count : ℕ) → count ≤ size → count ≤ mark → Holds (filled fps size count) count
   unfolding filled
-  filled-holds size zero h l = cleared size
-  filled-holds size (suc count) h l =
-      let w = filled-holds size count (omega arith) (omega arith) in
-      let s : count < length (filled fps size count) = omega (arith, filled-length size count) in
-      holds-inserted (filled fps size count) count w (omega arith) s
+  filled_holds size zero h l = cleared size
+  filled_holds size (suc count) h l =
+      let w = filled_holds size count (omega arith) (omega arith) in
+      let s : count < length (filled fps size count) = omega (arith, filled_length size count) in
+      holds_inserted (filled fps size count) count w (omega arith) s
 
 -- only the fingerprints of the nodes put in count: so a build that puts each node in as it is appended leaves what a
 -- fill leaves
-pub filled-cong : (fps gps : List ℕ) (size count : ℕ) → ((v : ℕ) → v < count → get_or fps v 0 ≡ get_or gps v 0) → filled fps size count ≡ filled gps size count
+pub filled_cong : (fps gps : List ℕ) (size count : ℕ) → ((v : ℕ) → v < count → get_or fps v 0 ≡ get_or gps v 0) → filled fps size count ≡ filled gps size count
 unfolding filled
-filled-cong fps gps size zero h = refl
-filled-cong fps gps size (suc count) h =
+filled_cong fps gps size zero h = refl
+filled_cong fps gps size (suc count) h =
     ap (λ (f : ℕ). inserted (filled fps size count) f count) (h count (omega arith))
-    ∙ ap (λ (i : List ℕ). inserted i (get_or gps count 0) count) (filled-cong fps gps size count (λ v l. h v (omega arith)))
+    ∙ ap (λ (i : List ℕ). inserted i (get_or gps count 0) count) (filled_cong fps gps size count (λ v l. h v (omega arith)))

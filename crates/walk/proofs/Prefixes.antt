@@ -12,11 +12,11 @@ use lib.ListN.{length}
 use Rattle.ints.specs.Lists.{pick}
 use Rattle.ints.proofs.Bools.{clash}
 use Rattle.exact.proofs.Values.{pick_ind}
-use Rattle.walk.specs.Walk.{Rules, State, Build, skipped, child, try, tryAll, layer, opened, walked, settled, deeper, ended, depths, begin, isNil, walk}
+use Rattle.walk.specs.Walk.{Rules, State, Build, skipped, child, try, try_all, layer, opened, walked, settled, deeper, ended, depths, begin, is_nil, walk}
 use Rattle.walk.proofs.Grown.{Prefix}
-use Rattle.walk.proofs.Sequences.{prefix_refl, prefix-snoc, prefix_trans}
-use Rattle.walk.proofs.Candidates.{grownBy, filled, try-later, layer-later, try-saturated}
-use Rattle.walk.proofs.Layers.{settled-nodes, deeper-nodes, deeper-depth}
+use Rattle.walk.proofs.Sequences.{prefix_refl, prefix_snoc, prefix_trans}
+use Rattle.walk.proofs.Candidates.{grown_by, filled, try_later, layer_later, try_saturated}
+use Rattle.walk.proofs.Layers.{settled_nodes, deeper_nodes, deeper_depth}
 
 -- the walk with the smaller entry limit has come just as far, or is saturated and its nodes are the first of the
 -- other's
@@ -33,60 +33,60 @@ module _ (R : Rules) where
     fork s t false false true h x = inr (refl, x)
     fork s t false false false h x = inl refl
 
-    try-ahead : (s t : State) (k g : ℕ) → Ahead s t → Ahead (try R E s k g) (try R E' t k g)
+    try_ahead : (s t : State) (k g : ℕ) → Ahead s t → Ahead (try R E s k g) (try R E' t k g)
     unfolding try
-    try-ahead s t k g (inl e) =
+    try_ahead s t k g (inl e) =
         subst (λ (z : State). Ahead (try R E s k g) (try R E' z k g)) e
-        (fork s (grownBy R s k g) (s.saturated || skipped R s.nodes k g) (ltb (length s.nodes) E) (ltb (length s.nodes) E')
-        (λ h. lt-ltb (length s.nodes) E' (omega (arith, ltb-true (length s.nodes) E h))) (prefix-snoc s.nodes (child R s.nodes k g)))
-    try-ahead s t k g (inr p) =
-        subst (λ (z : State). Ahead z (try R E' t k g)) (sym (try-saturated R E s k g p.0))
-        (inr (p.0, prefix_trans p.1 (try-later R E' t k g).prefix))
+        (fork s (grown_by R s k g) (s.saturated || skipped R s.nodes k g) (ltb (length s.nodes) E) (ltb (length s.nodes) E')
+        (λ h. lt-ltb (length s.nodes) E' (omega (arith, ltb-true (length s.nodes) E h))) (prefix_snoc s.nodes (child R s.nodes k g)))
+    try_ahead s t k g (inr p) =
+        subst (λ (z : State). Ahead z (try R E' t k g)) (sym (try_saturated R E s k g p.0))
+        (inr (p.0, prefix_trans p.1 (try_later R E' t k g).prefix))
 
-    tryAll-ahead : (s t : State) (k : ℕ) (gs : List ℕ) → Ahead s t → Ahead (tryAll R E s k gs) (tryAll R E' t k gs)
-    unfolding tryAll
-    tryAll-ahead s t k [] r = r
-    tryAll-ahead s t k (g ∷ gs) r = tryAll-ahead (try R E s k g) (try R E' t k g) k gs (try-ahead s t k g r)
+    try_all_ahead : (s t : State) (k : ℕ) (gs : List ℕ) → Ahead s t → Ahead (try_all R E s k gs) (try_all R E' t k gs)
+    unfolding try_all
+    try_all_ahead s t k [] r = r
+    try_all_ahead s t k (g ∷ gs) r = try_all_ahead (try R E s k g) (try R E' t k g) k gs (try_ahead s t k g r)
 
-    layer-ahead : (s t : State) (k m : ℕ) → Ahead s t → Ahead (layer R E s k m) (layer R E' t k m)
+    layer_ahead : (s t : State) (k m : ℕ) → Ahead s t → Ahead (layer R E s k m) (layer R E' t k m)
     unfolding layer
-    layer-ahead s t k zero r = r
-    layer-ahead s t k (suc m) r =
-        layer-ahead (tryAll R E s k R.generators) (tryAll R E' t k R.generators) (suc k) m (tryAll-ahead s t k R.generators r)
+    layer_ahead s t k zero r = r
+    layer_ahead s t k (suc m) r =
+        layer_ahead (try_all R E s k R.generators) (try_all R E' t k R.generators) (suc k) m (try_all_ahead s t k R.generators r)
 
     -- one depth: the same width after it, or the smaller one is saturated and its nodes are the first of the other's
-    pub deeper-ahead : (b : Build)
+    pub deeper_ahead : (b : Build)
         → (deeper R E b ≡ deeper R E' b) ⊎ (((deeper R E b).saturated ≡ true) × Prefix (deeper R E b).nodes (deeper R E' b).nodes)
     unfolding deeper
-    deeper-ahead b = by (walked R E b) (walked R E' b) (layer-ahead (opened b) (opened b) b.last (length b.nodes - b.last) (inl refl))
+    deeper_ahead b = by (walked R E b) (walked R E' b) (layer_ahead (opened b) (opened b) b.last (length b.nodes - b.last) (inl refl))
       where
         by : (s t : State) → Ahead s t
             → (settled b s ≡ settled b t) ⊎ (((settled b s).saturated ≡ true) × Prefix (settled b s).nodes (settled b t).nodes)
         by s t (inl e) = inl (ap (settled b) e)
-        by s t (inr p) = inr (rw p.0, rw (settled-nodes b s, settled-nodes b t) p.1)
+        by s t (inr p) = inr (rw p.0, rw (settled_nodes b s, settled_nodes b t) p.1)
 
   -- the depths only append
-  deeper-prefix : (E : ℕ) (b : Build) → Prefix b.nodes (deeper R E b).nodes
-  deeper-prefix E b = rw (deeper-nodes R E b) (layer-later R E (opened b) b.last (length b.nodes - b.last)).prefix
+  deeper_prefix : (E : ℕ) (b : Build) → Prefix b.nodes (deeper R E b).nodes
+  deeper_prefix E b = rw (deeper_nodes R E b) (layer_later R E (opened b) b.last (length b.nodes - b.last)).prefix
 
-  pub depths-prefix : (E : ℕ) (m : ℕ) (b : Build) → Prefix b.nodes (depths R E b m).nodes
+  pub depths_prefix : (E : ℕ) (m : ℕ) (b : Build) → Prefix b.nodes (depths R E b m).nodes
   unfolding depths
-  depths-prefix E zero b = prefix_refl b.nodes
-  depths-prefix E (suc m) b =
+  depths_prefix E zero b = prefix_refl b.nodes
+  depths_prefix E (suc m) b =
       pick_ind (λ (r : Build). Prefix b.nodes r.nodes) (ended b) (λ e. prefix_refl b.nodes)
-      (λ e. prefix_trans (deeper-prefix E b) (depths-prefix E m (deeper R E b)))
+      (λ e. prefix_trans (deeper_prefix E b) (depths_prefix E m (deeper R E b)))
 
   -- a saturated width stays
-  depths-saturated : (E : ℕ) (m : ℕ) (b : Build) → b.saturated ≡ true → depths R E b m ≡ b
+  depths_saturated : (E : ℕ) (m : ℕ) (b : Build) → b.saturated ≡ true → depths R E b m ≡ b
   unfolding depths
-  depths-saturated E zero b e = refl
-  depths-saturated E (suc m) b e = rw e
+  depths_saturated E zero b e = refl
+  depths_saturated E (suc m) b e = rw e
 
-  depths-ahead : (E E' : ℕ) → E ≤ E' → (m m' : ℕ) → m ≤ m' → (b : Build) → Prefix (depths R E b m).nodes (depths R E' b m').nodes
+  depths_ahead : (E E' : ℕ) → E ≤ E' → (m m' : ℕ) → m ≤ m' → (b : Build) → Prefix (depths R E b m).nodes (depths R E' b m').nodes
   unfolding depths
-  depths-ahead E E' le zero m' l b = depths-prefix E' m' b
-  depths-ahead E E' le (suc m) zero l b = absurd (omega arith)
-  depths-ahead E E' le (suc m) (suc m') l b = both (ended b) (by (deeper-ahead E E' le b) (depths-ahead E E' le m m' (omega arith) (deeper R E b)))
+  depths_ahead E E' le zero m' l b = depths_prefix E' m' b
+  depths_ahead E E' le (suc m) zero l b = absurd (omega arith)
+  depths_ahead E E' le (suc m) (suc m') l b = both (ended b) (by (deeper_ahead E E' le b) (depths_ahead E E' le m m' (omega arith) (deeper R E b)))
     where
       both : (t : Bool) → Prefix (depths R E (deeper R E b) m).nodes (depths R E' (deeper R E' b) m').nodes
           → Prefix (pick t b (depths R E (deeper R E b) m)).nodes (pick t b (depths R E' (deeper R E' b) m')).nodes
@@ -97,11 +97,11 @@ module _ (R : Rules) where
           → Prefix (depths R E (deeper R E b) m).nodes (depths R E' (deeper R E b) m').nodes
           → Prefix (depths R E (deeper R E b) m).nodes (depths R E' (deeper R E' b) m').nodes
       by (inl e) x = subst (λ (c : Build). Prefix (depths R E (deeper R E b) m).nodes (depths R E' c m').nodes) e x
-      by (inr p) x = rw (depths-saturated E m (deeper R E b) p.0) (prefix_trans p.1 (depths-prefix E' m' (deeper R E' b)))
+      by (inr p) x = rw (depths_saturated E m (deeper R E b) p.0) (prefix_trans p.1 (depths_prefix E' m' (deeper R E' b)))
 
-  pub walk-prefix : (G G' E E' : ℕ) → G ≤ G' → E ≤ E' → Prefix (walk R G E).nodes (walk R G' E').nodes
+  pub walk_prefix : (G G' E E' : ℕ) → G ≤ G' → E ≤ E' → Prefix (walk R G E).nodes (walk R G' E').nodes
   unfolding walk
-  walk-prefix G G' E E' g e = both (isNil R.generators) (depths R E begin G) (depths R E' begin G') (depths-ahead E E' e G G' g begin)
+  walk_prefix G G' E E' g e = both (is_nil R.generators) (depths R E begin G) (depths R E' begin G') (depths_ahead E E' e G G' g begin)
     where
       both : (t : Bool) (r r' : Build) → Prefix r.nodes r'.nodes → Prefix (pick t begin r).nodes (pick t begin r').nodes
       both true r r' x = prefix_refl begin.nodes
@@ -110,11 +110,11 @@ module _ (R : Rules) where
   -- ---- the completed depth as the gate limit
 
   -- as many depths more as were completed, and the width is not saturated
-  depths-completed : (E m : ℕ) (b : Build) → b.saturated ≡ false
+  depths_completed : (E m : ℕ) (b : Build) → b.saturated ≡ false
       → ((k : ℕ) × (b.depth + k ≡ (depths R E b m).depth) × ((depths R E b k).saturated ≡ false))
   unfolding depths
-  depths-completed E zero b e = (0, omega arith, e)
-  depths-completed E (suc m) b e = by (ended b) (deeper R E b).saturated refl refl (λ f. depths-completed E m (deeper R E b) f)
+  depths_completed E zero b e = (0, omega arith, e)
+  depths_completed E (suc m) b e = by (ended b) (deeper R E b).saturated refl refl (λ f. depths_completed E m (deeper R E b) f)
     where
       by : (x y : Bool) → ended b ≡ x → (deeper R E b).saturated ≡ y
           → ((deeper R E b).saturated ≡ false
@@ -122,16 +122,16 @@ module _ (R : Rules) where
           → ((k : ℕ) × (b.depth + k ≡ (pick x b (depths R E (deeper R E b) m)).depth) × ((depths R E b k).saturated ≡ false))
       by true y p q rest = (0, omega arith, e)
       by false true p q rest =
-          let z = ap (λ (c : Build). c.depth) (depths-saturated E m (deeper R E b) q) in
-          (0, omega (arith, z, (deeper-depth R E b).1 q), e)
+          let z = ap (λ (c : Build). c.depth) (depths_saturated E m (deeper R E b) q) in
+          (0, omega (arith, z, (deeper_depth R E b).1 q), e)
       by false false p q rest =
           let (k, i, j) = rest q in
-          (suc k, omega (arith, i, (deeper-depth R E b).0 q), rw p j)
+          (suc k, omega (arith, i, (deeper_depth R E b).0 q), rw p j)
 
   -- a walk with its completed depth as the gate limit is not saturated
-  pub completed-unsaturated : (G E : ℕ) → (walk R (walk R G E).depth E).saturated ≡ false
+  pub completed_unsaturated : (G E : ℕ) → (walk R (walk R G E).depth E).saturated ≡ false
   unfolding walk depths
-  completed-unsaturated G E = by (isNil R.generators) (depths-completed E G begin refl)
+  completed_unsaturated G E = by (is_nil R.generators) (depths_completed E G begin refl)
     where
       by : (t : Bool) → (((k : ℕ) × (begin.depth + k ≡ (depths R E begin G).depth) × ((depths R E begin k).saturated ≡ false)))
           → (pick t begin (depths R E begin (pick t begin (depths R E begin G)).depth)).saturated ≡ false

@@ -16,9 +16,9 @@ use Rattle.walk.proofs.Grown.{Prefix}
 
 -- ---- tests
 
-pub or-false : (s t : Bool) → (s || t) ≡ false → (s ≡ false) × (t ≡ false)
-or-false true t e = clash refl e
-or-false false t e = (refl, e)
+pub or_false : (s t : Bool) → (s || t) ≡ false → (s ≡ false) × (t ≡ false)
+or_false true t e = clash refl e
+or_false false t e = (refl, e)
 
 pub or_cases : (s t : Bool) → (s || t) ≡ true → (s ≡ true) ⊎ (t ≡ true)
 or_cases true t e = inl refl
@@ -28,8 +28,8 @@ pub bool : (t : Bool) → (t ≡ true) ⊎ (t ≡ false)
 bool true = inl refl
 bool false = inr refl
 
-pub lt-or : (a b : ℕ) → (a < b) ⊎ (b ≤ a)
-lt-or a b = by (dec_lt a b)
+pub lt_or : (a b : ℕ) → (a < b) ⊎ (b ≤ a)
+lt_or a b = by (dec_lt a b)
   where
     by : Dec (a < b) → (a < b) ⊎ (b ≤ a)
     by (yes h) = inl h
@@ -37,17 +37,17 @@ lt-or a b = by (dec_lt a b)
 
 -- a test that holds of one of a list
 module _ {A : Type 0} (f : A → Bool) (d : A) where
-  pub any-true : (ns : List A) → any f ns ≡ true → (k : ℕ) × (k < length ns) × (f (get_or ns k d) ≡ true)
-  any-true [] e = clash e refl
-  any-true (n ∷ ns) e =
+  pub any_true : (ns : List A) → any f ns ≡ true → (k : ℕ) × (k < length ns) × (f (get_or ns k d) ≡ true)
+  any_true [] e = clash e refl
+  any_true (n ∷ ns) e =
       ⊎_elim (λ (h : f n ≡ true). (zero, zero-lt-suc _, h))
-      (λ (h : any f ns ≡ true). let r = any-true ns h in (suc r.0, omega (arith, r.1), r.2))
+      (λ (h : any f ns ≡ true). let r = any_true ns h in (suc r.0, omega (arith, r.1), r.2))
       (or_cases (f n) (any f ns) e)
 
   pub any_false : (ns : List A) → any f ns ≡ false → (k : ℕ) → k < length ns → f (get_or ns k d) ≡ false
   any_false [] e k h = absurd (not-suc-le-zero h)
-  any_false (n ∷ ns) e zero h = (or-false (f n) (any f ns) e).0
-  any_false (n ∷ ns) e (suc k) h = any_false ns (or-false (f n) (any f ns) e).1 k (le_of_suc-le-suc h)
+  any_false (n ∷ ns) e zero h = (or_false (f n) (any f ns) e).0
+  any_false (n ∷ ns) e (suc k) h = any_false ns (or_false (f n) (any f ns) e).1 k (le_of_suc-le-suc h)
 
   pub any_at : (ns : List A) (k : ℕ) → k < length ns → f (get_or ns k d) ≡ true → any f ns ≡ true
   any_at [] k h e = absurd (not-suc-le-zero h)
@@ -70,16 +70,16 @@ module _ {A : Type 0} (p : A → ℕ) where
 -- ---- one more at the end
 
 module _ {A : Type 0} (ns : List A) (n : A) where
-  pub length-snoc : length (ns ++ (n ∷ [])) ≡ suc (length ns)
-  length-snoc = simp length-append (omega arith)
+  pub length_snoc : length (ns ++ (n ∷ [])) ≡ suc (length ns)
+  length_snoc = simp length-append (omega arith)
 
   -- what holds at each number, and at the new one, holds at each of the longer list
   pub all_snoc : (d : A) (P : ℕ → A → Type 0) → ((k : ℕ) → k < length ns → P k (get_or ns k d)) → P (length ns) n
       → (k : ℕ) → k < length (ns ++ (n ∷ [])) → P k (get_or (ns ++ (n ∷ [])) k d)
   all_snoc d P h t k l =
       ⊎_elim (λ (p : k < length ns). rw (get_or-append ns (n ∷ []) d k p) (h k p))
-      (λ (p : length ns ≤ k). let e : k ≡ length ns = omega (arith, length-snoc) in rw (e, get_or-append_seam ns n [] d) t)
-      (lt-or k (length ns))
+      (λ (p : length ns ≤ k). let e : k ≡ length ns = omega (arith, length_snoc) in rw (e, get_or-append_seam ns n [] d) t)
+      (lt_or k (length ns))
 
 -- ---- beginnings
 
@@ -87,8 +87,8 @@ module _ {A : Type 0} where
   pub prefix_refl : (ns : List A) → Prefix ns ns
   prefix_refl ns = record { rest = []; is = sym (append-nil ns) }
 
-  pub prefix-snoc : (ns : List A) (n : A) → Prefix ns (ns ++ (n ∷ []))
-  prefix-snoc ns n = record { rest = n ∷ []; is = refl }
+  pub prefix_snoc : (ns : List A) (n : A) → Prefix ns (ns ++ (n ∷ []))
+  prefix_snoc ns n = record { rest = n ∷ []; is = refl }
 
   pub prefix_trans : {ls ns ms : List A} → Prefix ls ns → Prefix ns ms → Prefix ls ms
   prefix_trans {ls} p q = record {
@@ -96,8 +96,8 @@ module _ {A : Type 0} where
     is = q.is ∙ ap (λ (z : List A). z ++ q.rest) p.is ∙ append_assoc ls p.rest q.rest;
   }
 
-  pub prefix-at : {ns ms : List A} → Prefix ns ms → (k : ℕ) (d : A) → k < length ns → get_or ms k d ≡ get_or ns k d
-  prefix-at {ns} p k d h = rw p.is (get_or-append ns p.rest d k h)
+  pub prefix_at : {ns ms : List A} → Prefix ns ms → (k : ℕ) (d : A) → k < length ns → get_or ms k d ≡ get_or ns k d
+  prefix_at {ns} p k d h = rw p.is (get_or-append ns p.rest d k h)
 
-  pub prefix-length : {ns ms : List A} → Prefix ns ms → length ns ≤ length ms
-  prefix-length {ns} p = omega (arith, ap length p.is, length-append ns p.rest)
+  pub prefix_length : {ns ms : List A} → Prefix ns ms → length ns ≤ length ms
+  prefix_length {ns} p = omega (arith, ap length p.is, length-append ns p.rest)

@@ -3,7 +3,7 @@
 use Rattle.std.specs.Prelude.{List, ◌++◌, ℕ, length, drop}
 use Rattle.exact.specs.Matrix.{Exact}
 use Rattle.walk.specs.Chains.{Chain, good, bad}
-use Rattle.walk.specs.Finds.{WidthLimits, Part, Finding, node, chainAt, findOf}
+use Rattle.walk.specs.Finds.{WidthLimits, Part, Finding, node, chain_at, find_of}
 use Rattle.walk.specs.Finds as f
 
 -- ---- what is told, and what the lent list then holds
@@ -31,15 +31,15 @@ written out (good l) = outcome (given (length l)) (l ++ drop (length l) out)
 written out bad = outcome (refused 13 0) out
 
 -- the list of node k is written
-unfoldable pub writeOf : WidthLimits → Part → ℕ → List ℕ → Outcome
-writeOf limits part k out = written out (chainAt limits part k)
+unfoldable pub write_of : WidthLimits → Part → ℕ → List ℕ → Outcome
+write_of limits part k out = written out (chain_at limits part k)
 
 -- a find, followed by the write of the node found: with none, and with a refusal, the lent list is as it was
-abbrev pub thenWrite : (ℕ → Outcome) → List ℕ → Finding → Outcome
-thenWrite write out (node k m) = write k
-thenWrite write out f.none = outcome none out
-thenWrite write out (f.refused r p) = outcome (refused r p) out
+abbrev pub then_write : (ℕ → Outcome) → List ℕ → Finding → Outcome
+then_write write out (node k m) = write k
+then_write write out f.none = outcome none out
+then_write write out (f.refused r p) = outcome (refused r p) out
 
 -- the answer to the matrix x (SPECIFICATION 7.4 to 7.7)
 unfoldable pub answer_of : WidthLimits → Part → Exact → List ℕ → Outcome
-answer_of limits part x out = thenWrite (λ k. writeOf limits part k out) out (findOf limits part x)
+answer_of limits part x out = then_write (λ k. write_of limits part k out) out (find_of limits part x)

@@ -3,7 +3,7 @@
 -- memory. Assumes nothing.
 use Rattle.std.specs.Prelude.{Bool, ◌&&◌, List, [], ◌∷◌, ◌++◌, ℕ, zero, suc, eqb, ltb, get_or}
 use Rattle.ints.specs.Lists.{pick}
-use Rattle.circuit.specs.Codes.{validFor, mark}
+use Rattle.circuit.specs.Codes.{valid_for, mark}
 
 -- node 0 has both its marks (SPECIFICATION 6.3)
 unfoldable pub marked : List ℕ → List ℕ → Bool
@@ -24,9 +24,9 @@ then bad g = bad
 abbrev pub linked : ℕ → ℕ → List ℕ → List ℕ → Chain → ℕ → Chain
 linked n basis parents codes rest zero = pick (marked parents codes) (good []) bad
 linked n basis parents codes rest (suc node) =
-    pick (ltb (get_or parents (suc node) 0) (suc node) && validFor n basis (get_or codes (suc node) 0)) (then rest (get_or codes (suc node) 0)) bad
+    pick (ltb (get_or parents (suc node) 0) (suc node) && valid_for n basis (get_or codes (suc node) 0)) (then rest (get_or codes (suc node) 0)) bad
 
 -- a node's chain where so many gates are allowed: one with more is bad (SPECIFICATION 7.5)
-unfoldable pub chainOf : ℕ → ℕ → List ℕ → List ℕ → ℕ → ℕ → Chain
-chainOf n basis parents codes zero node = linked n basis parents codes bad node
-chainOf n basis parents codes (suc left) node = linked n basis parents codes (chainOf n basis parents codes left (get_or parents node 0)) node
+unfoldable pub chain_of : ℕ → ℕ → List ℕ → List ℕ → ℕ → ℕ → Chain
+chain_of n basis parents codes zero node = linked n basis parents codes bad node
+chain_of n basis parents codes (suc left) node = linked n basis parents codes (chain_of n basis parents codes left (get_or parents node 0)) node

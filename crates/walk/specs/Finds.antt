@@ -4,13 +4,13 @@ use Rattle.std.specs.Prelude.{Bool, true, false, ◌&&◌, List, ℕ, zero, suc,
 use Rattle.ints.specs.Lists.{pick}
 use Rattle.exact.specs.Matrix.{Exact}
 use Rattle.exact.specs.Lists.{product}
-use Rattle.exact.specs.Fits.{Steps, all_fit, unfitAt, steps}
-use Rattle.exact.specs.Phase.{upToPhase}
+use Rattle.exact.specs.Fits.{Steps, all_fit, unfit_at, steps}
+use Rattle.exact.specs.Phase.{up_to_phase}
 use Rattle.exact.specs.Fingerprint.{fingerprint}
 use Rattle.walk.specs.Lookup.{Lookup, found}
 use Rattle.walk.specs.Lookup as lookup
-use Rattle.walk.specs.Index.{By, lookedUp}
-use Rattle.walk.specs.Chains.{Chain, good, bad, chainOf}
+use Rattle.walk.specs.Index.{By, looked_up}
+use Rattle.walk.specs.Chains.{Chain, good, bad, chain_of}
 
 -- ---- what is asked of
 
@@ -31,19 +31,19 @@ pub record Part : Type 0 where
   pub by : By
   pub index : List ℕ
 
-abbrev pub partWith : By → List ℕ → List ℕ → List ℕ → ℕ → List ℕ → Part
-partWith by f u c count i = record { fingerprints = f; parents = u; codes = c; count = count; by = by; index = i }
+abbrev pub part_with : By → List ℕ → List ℕ → List ℕ → ℕ → List ℕ → Part
+part_with by f u c count i = record { fingerprints = f; parents = u; codes = c; count = count; by = by; index = i }
 
 -- ---- the recheck
 
 -- every step fits
-abbrev pub fitsAll : Steps → Bool
-fitsAll all_fit = true
-fitsAll (unfitAt i) = false
+abbrev pub fits_all : Steps → Bool
+fits_all all_fit = true
+fits_all (unfit_at i) = false
 
 -- a list passes for the matrix x: all its steps fit, and its product is equal up to phase to x (SPECIFICATION 7.6)
 unfoldable pub rechecked : ℕ → List ℕ → Exact → Bool
-rechecked n l x = fitsAll (steps n l) && upToPhase n (product n l) x
+rechecked n l x = fits_all (steps n l) && up_to_phase n (product n l) x
 
 -- ---- what is found
 
@@ -54,42 +54,42 @@ pub data Finding : Type 0 where
   refused : ℕ → ℕ → Finding
 
 -- the chain of a node in a width's part
-abbrev pub chainAt : WidthLimits → Part → ℕ → Chain
-chainAt limits part k = chainOf limits.width limits.basis part.parents part.codes limits.gates k
+abbrev pub chain_at : WidthLimits → Part → ℕ → Chain
+chain_at limits part k = chain_of limits.width limits.basis part.parents part.codes limits.gates k
 
 -- by the chain of node k: the node is found where its list passes the recheck, and 13 is told where the chain is bad;
 -- `rest` is what is found where the list does not pass (SPECIFICATION 7.5, 7.6)
-abbrev pub byChain : ℕ → Exact → ℕ → Finding → Chain → Finding
-byChain n x k rest (good l) = pick (rechecked n l x) (node k (length l)) rest
-byChain n x k rest bad = refused 13 0
+abbrev pub by_chain : ℕ → Exact → ℕ → Finding → Chain → Finding
+by_chain n x k rest (good l) = pick (rechecked n l x) (node k (length l)) rest
+by_chain n x k rest bad = refused 13 0
 
 -- by what the look-up gave: the chain of the node is read, and `further` goes on from the next node; no node, none
 -- (SPECIFICATION 7.4)
-abbrev pub byLookup : WidthLimits → Part → Exact → (ℕ → Finding) → Lookup → Finding
-byLookup limits part x further (found k) = byChain limits.width x k (further (suc k)) (chainAt limits part k)
-byLookup limits part x further lookup.none = none
+abbrev pub by_lookup : WidthLimits → Part → Exact → (ℕ → Finding) → Lookup → Finding
+by_lookup limits part x further (found k) = by_chain limits.width x k (further (suc k)) (chain_at limits part k)
+by_lookup limits part x further lookup.none = none
 
 -- the node to which a fingerprint leads, not below a start, by the scan or through the index
-abbrev pub lookedIn : Part → ℕ → ℕ → Lookup
-lookedIn part from y = lookedUp part.by part.index part.fingerprints part.count from y
+abbrev pub looked_in : Part → ℕ → ℕ → Lookup
+looked_in part from y = looked_up part.by part.index part.fingerprints part.count from y
 
 -- the nodes to which the fingerprint y leads, rising, until one is found for x or has a bad chain. At most m are looked
 -- at; each lies past the one before, so as many as there are nodes are enough
-unfoldable pub findFrom : WidthLimits → Part → ℕ → Exact → ℕ → ℕ → Finding
-findFrom limits part y x zero from = none
-findFrom limits part y x (suc m) from = byLookup limits part x (λ next. findFrom limits part y x m next) (lookedIn part from y)
+unfoldable pub find_from : WidthLimits → Part → ℕ → Exact → ℕ → ℕ → Finding
+find_from limits part y x zero from = none
+find_from limits part y x (suc m) from = by_lookup limits part x (λ next. find_from limits part y x m next) (looked_in part from y)
 
 -- the node found for the matrix x by the fingerprint y
-unfoldable pub findBy : WidthLimits → Part → ℕ → Exact → Finding
-findBy limits part y x = findFrom limits part y x part.count 0
+unfoldable pub find_by : WidthLimits → Part → ℕ → Exact → Finding
+find_by limits part y x = find_from limits part y x part.count 0
 
 -- by its own fingerprint. Where the look-up finds the scan's node this is the lowest node that has it and whose list
 -- passes the recheck, but for a bad chain before it (SPECIFICATION 7.4 to 7.6, 7.15; Meaning has the words)
-abbrev pub findOf : WidthLimits → Part → Exact → Finding
-findOf limits part x = findBy limits part (fingerprint limits.width x) x
+abbrev pub find_of : WidthLimits → Part → Exact → Finding
+find_of limits part x = find_by limits part (fingerprint limits.width x) x
 
 -- a node is found
-abbrev pub isNode : Finding → Bool
-isNode (node k m) = true
-isNode none = false
-isNode (refused r p) = false
+abbrev pub is_node : Finding → Bool
+is_node (node k m) = true
+is_node none = false
+is_node (refused r p) = false

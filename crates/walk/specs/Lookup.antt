@@ -9,10 +9,10 @@ pub data Lookup : Type 0 where
   none : Lookup
 
 -- the lowest of m nodes, from node i on, with the fingerprint
-abbrev pub lowestOf : List ℕ → ℕ → ℕ → ℕ → Lookup
-lowestOf fingerprints fingerprint i zero = none
-lowestOf fingerprints fingerprint i (suc m) = pick (eqb (get_or fingerprints i 0) fingerprint) (found i) (lowestOf fingerprints fingerprint (suc i) m)
+abbrev pub lowest_of : List ℕ → ℕ → ℕ → ℕ → Lookup
+lowest_of fingerprints fingerprint i zero = none
+lowest_of fingerprints fingerprint i (suc m) = pick (eqb (get_or fingerprints i 0) fingerprint) (found i) (lowest_of fingerprints fingerprint (suc i) m)
 
 -- the lowest node with the fingerprint, of those not below `from` and below the count (SPECIFICATION 7.4)
-unfoldable pub lowestFrom : List ℕ → ℕ → ℕ → ℕ → Lookup
-lowestFrom fingerprints count from fingerprint = lowestOf fingerprints fingerprint from (count - from)
+unfoldable pub lowest_from : List ℕ → ℕ → ℕ → ℕ → Lookup
+lowest_from fingerprints count from fingerprint = lowest_of fingerprints fingerprint from (count - from)

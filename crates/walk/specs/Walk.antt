@@ -59,8 +59,8 @@ abbrev pub gate : Node → ℕ
 gate n = get_or n.list 0 mark
 
 -- the list of node k
-abbrev pub listAt : List Node → ℕ → List ℕ
-listAt ns k = (get_or ns k root).list
+abbrev pub list_at : List Node → ℕ → List ℕ
+list_at ns k = (get_or ns k root).list
 
 -- the test holds of one of them
 abbrev pub any : {A : Type 0} → (A → Bool) → List A → Bool
@@ -68,9 +68,9 @@ any f [] = false
 any f (x ∷ xs) = f x || any f xs
 
 -- the list is empty
-abbrev pub isNil : List ℕ → Bool
-isNil [] = true
-isNil (x ∷ xs) = false
+abbrev pub is_nil : List ℕ → Bool
+is_nil [] = true
+is_nil (x ∷ xs) = false
 
 -- node 0 alone
 abbrev pub begin : Build
@@ -92,14 +92,14 @@ abbrev pub ended : Build → Bool
 ended b = b.saturated || eqb b.last (length b.nodes)
 
 -- the product of a list, newest gate first
-abbrev pub prodBy : {A : Type 0} → A → (ℕ → A → A) → List ℕ → A
-prodBy one act [] = one
-prodBy one act (g ∷ l) = act g (prodBy one act l)
+abbrev pub prod_by : {A : Type 0} → A → (ℕ → A → A) → List ℕ → A
+prod_by one act [] = one
+prod_by one act (g ∷ l) = act g (prod_by one act l)
 
 module _ (R : Rules) where
   -- it depends on the matrices alone, so it is the same in each mode
   abbrev pub prod : List ℕ → R.Mat
-  prod l = prodBy R.one R.act l
+  prod l = prod_by R.one R.act l
 
   -- skipped by its last two gates, first h and then g: g undoes h, or they share no qubit and their codes fall
   -- (SPECIFICATION 6.5)
@@ -113,16 +113,16 @@ module _ (R : Rules) where
 
   -- the matrix of the candidate: generator g after node k
   abbrev pub candidate : List Node → ℕ → ℕ → R.Mat
-  candidate ns k g = R.act g (prod (listAt ns k))
+  candidate ns k g = R.act g (prod (list_at ns k))
 
   -- the candidate is skipped: by its last two gates, because its step does not fit, or because it is known
   -- (SPECIFICATION 6.5 to 6.7)
   unfoldable pub skipped : List Node → ℕ → ℕ → Bool
-  skipped ns k g = pruned g (listAt ns k) || (not (R.fits g (prod (listAt ns k))) || any (knows (candidate ns k g)) ns)
+  skipped ns k g = pruned g (list_at ns k) || (not (R.fits g (prod (list_at ns k))) || any (knows (candidate ns k g)) ns)
 
   -- the node that the candidate becomes
   abbrev pub child : List Node → ℕ → ℕ → Node
-  child ns k g = record { parent = k; list = g ∷ listAt ns k }
+  child ns k g = record { parent = k; list = g ∷ list_at ns k }
 
   -- One candidate: where it is not skipped, it is appended if there is room, and otherwise makes the width saturated,
   -- after which nothing changes (SPECIFICATION 6.8). most: the most nodes that the width may come to have, which is E
@@ -135,14 +135,14 @@ module _ (R : Rules) where
       (record { nodes = s.nodes; saturated = true }))
 
   -- one node: the generators after node k, in order
-  unfoldable pub tryAll : ℕ → State → ℕ → List ℕ → State
-  tryAll most s k [] = s
-  tryAll most s k (g ∷ gs) = tryAll most (try most s k g) k gs
+  unfoldable pub try_all : ℕ → State → ℕ → List ℕ → State
+  try_all most s k [] = s
+  try_all most s k (g ∷ gs) = try_all most (try most s k g) k gs
 
   -- m nodes, in order from number k on
   unfoldable pub layer : ℕ → State → ℕ → ℕ → State
   layer most s k zero = s
-  layer most s k (suc m) = layer most (tryAll most s k R.generators) (suc k) m
+  layer most s k (suc m) = layer most (try_all most s k R.generators) (suc k) m
 
   -- the state after the next depth
   abbrev pub walked : ℕ → Build → State
@@ -161,4 +161,4 @@ module _ (R : Rules) where
 
   -- the walk of a width, at most G depths; without generators there is node 0 alone (SPECIFICATION 6.4, 6.9)
   unfoldable pub walk : ℕ → ℕ → Build
-  walk G E = pick (isNil R.generators) begin (depths E begin G)
+  walk G E = pick (is_nil R.generators) begin (depths E begin G)

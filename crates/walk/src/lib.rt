@@ -3,3 +3,5 @@
 //
 // Why over any rules: the walk takes what it is handed (matrices, what is known, what answers) as a parameter. Its laws
 // are proved once and hold in each mode, and a walk over two numbers shows what a clash of fingerprints does.
+
+#![tactic(auto)]

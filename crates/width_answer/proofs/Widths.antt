@@ -8,20 +8,20 @@ use lib.ListN.{length, take, drop, length-take, length-append}
 use lib.Seq.{length-take-le}
 use Rattle.exact.specs.Matrix.{Exact}
 use Rattle.exact.specs.Fingerprint.{fingerprint}
-use Rattle.synthesis_arena.specs.Lookup.{toldFound}
+use Rattle.synthesis_arena.specs.Lookup.{told_found}
 use Rattle.synthesis_arena.specs.declared.Found.{Found}
 use Rattle.synthesis_arena.specs.declared.Found.TheVariants.{At, NotFound}
 use Rattle.ints.specs.Lists.{pick}
 use Rattle.ints.proofs.Bools.{clash}
 use Rattle.walk.specs.Chains.{Chain, good, bad}
-use Rattle.walk.specs.Finds.{WidthLimits, Part, Finding, node, none, refused, rechecked, chainAt, byChain, byLookup, lookedIn, findFrom, findBy}
+use Rattle.walk.specs.Finds.{WidthLimits, Part, Finding, node, none, refused, rechecked, chain_at, by_chain, by_lookup, looked_in, find_from, find_by}
 use Rattle.walk.specs.Lookup.{found}
 use Rattle.walk.specs.Lookup as lookup
-use Rattle.walk.proofs.Indexed.{looked-node}
-use Rattle.walk.specs.Answers.{outcome, writeOf, thenWrite, answer_of}
+use Rattle.walk.proofs.Indexed.{looked_node}
+use Rattle.walk.specs.Answers.{outcome, write_of, then_write, answer_of}
 use Rattle.walk.specs.Answers as a
-use Rattle.walk.proofs.Meaning.{no-nodes, find-means, means}
-use Rattle.node_answer.specs.Answers.{toldFind, NodeFound}
+use Rattle.walk.proofs.Meaning.{no_nodes, find_means, means}
+use Rattle.node_answer.specs.Answers.{told_find, NodeFound}
 use Rattle.width_answer.specs.Answers.{PrintFound, ListFound}
 use Rattle.node_answer.specs.declared.Find.{Find}
 use Rattle.node_answer.specs.declared.Find.TheVariants as d
@@ -33,7 +33,7 @@ is_none none = true
 is_none (refused a i) = false
 
 -- what a chain gives where the search ends there, and where it goes on
-ends : (n : ℕ) (x : Exact) (k : ℕ) (rest : Finding) (c : Chain) → is_none (byChain n x k none c) ≡ false → byChain n x k none c ≡ byChain n x k rest c
+ends : (n : ℕ) (x : Exact) (k : ℕ) (rest : Finding) (c : Chain) → is_none (by_chain n x k none c) ≡ false → by_chain n x k none c ≡ by_chain n x k rest c
 ends n x k rest bad h = refl
 ends n x k rest (good l) h = by (rechecked n l x) h
   where
@@ -41,7 +41,7 @@ ends n x k rest (good l) h = by (rechecked n l x) h
     by true h = refl
     by false h = clash refl h
 
-goes_on : (n : ℕ) (x : Exact) (k : ℕ) (rest : Finding) (c : Chain) → byChain n x k none c ≡ none → byChain n x k rest c ≡ rest
+goes_on : (n : ℕ) (x : Exact) (k : ℕ) (rest : Finding) (c : Chain) → by_chain n x k none c ≡ none → by_chain n x k rest c ≡ rest
 goes_on n x k rest bad h = clash (ap is_none h) refl
 goes_on n x k rest (good l) h = by (rechecked n l x) h
   where
@@ -53,109 +53,109 @@ module _ (limits : WidthLimits) (part : Part) (y : ℕ) (x : Exact) where
   -- what is left of the search, from some place on that leads to node k, finds what the whole finds
   pub record Searching (k left : ℕ) : Type 0 where
     pub from : ℕ
-    pub looked : lookedIn part from y ≡ found k
-    pub rest : findFrom limits part y x left from ≡ findBy limits part y x
+    pub looked : looked_in part from y ≡ found k
+    pub rest : find_from limits part y x left from ≡ find_by limits part y x
 
-  pub search-start : {k : ℕ} → lookedIn part 0 y ≡ found k → Searching k part.count
-  unfolding findBy
-  search-start e = record { from = 0; looked = e; rest = refl }
+  pub search_start : {k : ℕ} → looked_in part 0 y ≡ found k → Searching k part.count
+  unfolding find_by
+  search_start e = record { from = 0; looked = e; rest = refl }
 
   -- where the look-up leads to no node, nothing more is found
-  no_more : (m from : ℕ) → lookedIn part from y ≡ lookup.none → none ≡ findFrom limits part y x m from
-  unfolding findFrom
+  no_more : (m from : ℕ) → looked_in part from y ≡ lookup.none → none ≡ find_from limits part y x m from
+  unfolding find_from
   no_more zero from e = refl
-  no_more (suc m) from e = ap (byLookup limits part x (λ next. findFrom limits part y x m next)) (sym e)
+  no_more (suc m) from e = ap (by_lookup limits part x (λ next. find_from limits part y x m next)) (sym e)
 
   -- the first look-up finds none
-  pub search-miss : {r : Found} → toldFound r ≡ lookedIn part 0 y → r ≡ NotFound → (list : List ℕ) → PrintFound limits part y x none list
-  unfolding findBy
-  search-miss told e list = record { is = no_more part.count 0 (sym told ∙ ap toldFound e); copies = λ out. refl }
+  pub search_miss : {r : Found} → told_found r ≡ looked_in part 0 y → r ≡ NotFound → (list : List ℕ) → PrintFound limits part y x none list
+  unfolding find_by
+  search_miss told e list = record { is = no_more part.count 0 (sym told ∙ ap told_found e); copies = λ out. refl }
 
   -- one turn, at the node that was looked up
   module _ {k left : ℕ} (s : Searching k left) where
-    pub search-below : k < part.count
-    search-below = (looked-node part.by part.index part.fingerprints part.count s.from y k s.looked).below
+    pub search_below : k < part.count
+    search_below = (looked_node part.by part.index part.fingerprints part.count s.from y k s.looked).below
 
     -- no turn is left
-    pub search-done : left ≡ 0 → (list : List ℕ) → PrintFound limits part y x none list
-    unfolding findFrom
-    search-done e list = record { is = ap (λ (m : ℕ). findFrom limits part y x m s.from) (sym e) ∙ s.rest; copies = λ out. refl }
+    pub search_done : left ≡ 0 → (list : List ℕ) → PrintFound limits part y x none list
+    unfolding find_from
+    search_done e list = record { is = ap (λ (m : ℕ). find_from limits part y x m s.from) (sym e) ∙ s.rest; copies = λ out. refl }
 
-    module _ (some : 0 < left) {g : Finding} {list : List ℕ} (w : NodeFound limits.width x (chainAt limits part) k g list) where
-      turned : byLookup limits part x (λ next. findFrom limits part y x (left - 1) next) (found k) ≡ findBy limits part y x
-      unfolding findFrom
+    module _ (some : 0 < left) {g : Finding} {list : List ℕ} (w : NodeFound limits.width x (chain_at limits part) k g list) where
+      turned : by_lookup limits part x (λ next. find_from limits part y x (left - 1) next) (found k) ≡ find_by limits part y x
+      unfolding find_from
       turned =
           let z : suc (left - 1) ≡ left = omega (arith, some) in
-          ap (byLookup limits part x (λ next. findFrom limits part y x (left - 1) next)) (sym s.looked)
-          ∙ ap (λ (m : ℕ). findFrom limits part y x m s.from) z ∙ s.rest
+          ap (by_lookup limits part x (λ next. find_from limits part y x (left - 1) next)) (sym s.looked)
+          ∙ ap (λ (m : ℕ). find_from limits part y x m s.from) z ∙ s.rest
 
       -- the node ends the search
-      pub search-ends : is_none g ≡ false → PrintFound limits part y x g list
-      unfolding writeOf
-      search-ends n = record {
-        is = w.is ∙ ends limits.width x k _ (chainAt limits part k) (sym (ap is_none w.is) ∙ n) ∙ turned;
+      pub search_ends : is_none g ≡ false → PrintFound limits part y x g list
+      unfolding write_of
+      search_ends n = record {
+        is = w.is ∙ ends limits.width x k _ (chain_at limits part k) (sym (ap is_none w.is) ∙ n) ∙ turned;
         copies = w.copies;
       }
 
       -- or is passed
-      passed : g ≡ none → findFrom limits part y x (left - 1) (k + 1) ≡ findBy limits part y x
+      passed : g ≡ none → find_from limits part y x (left - 1) (k + 1) ≡ find_by limits part y x
       passed n =
           let z : k + 1 ≡ suc k = omega arith in
-          ap (findFrom limits part y x (left - 1)) z
-          ∙ sym (goes_on limits.width x k (findFrom limits part y x (left - 1) (suc k)) (chainAt limits part k) (sym w.is ∙ n)) ∙ turned
+          ap (find_from limits part y x (left - 1)) z
+          ∙ sym (goes_on limits.width x k (find_from limits part y x (left - 1) (suc k)) (chain_at limits part k) (sym w.is ∙ n)) ∙ turned
 
       -- and the look-up past it tells the next node, or that there is none
-      module _ (n : g ≡ none) {r : Found} (told : toldFound r ≡ lookedIn part (k + 1) y) where
-        pub search-none : r ≡ NotFound → (after : List ℕ) → PrintFound limits part y x none after
-        search-none e after = record { is = no_more (left - 1) (k + 1) (sym told ∙ ap toldFound e) ∙ passed n; copies = λ out. refl }
+      module _ (n : g ≡ none) {r : Found} (told : told_found r ≡ looked_in part (k + 1) y) where
+        pub search_none : r ≡ NotFound → (after : List ℕ) → PrintFound limits part y x none after
+        search_none e after = record { is = no_more (left - 1) (k + 1) (sym told ∙ ap told_found e) ∙ passed n; copies = λ out. refl }
 
-        pub search-on : {j : ℕ} → r ≡ At j → Searching j (left - 1)
-        search-on e = record { from = k + 1; looked = sym told ∙ ap toldFound e; rest = passed n }
+        pub search_on : {j : ℕ} → r ≡ At j → Searching j (left - 1)
+        search_on e = record { from = k + 1; looked = sym told ∙ ap told_found e; rest = passed n }
 
 -- by the case that the answer is
-pub as-told : {n : ℕ} {x : Exact} {chain : ℕ → Chain} {k : ℕ} {list : List ℕ} {r s : Find} → r ≡ s → NodeFound n x chain k (toldFind r) list
-    → NodeFound n x chain k (toldFind s) list
-as-told {n} {x} {chain} {k} {list} e w = subst (λ (f : Find). NodeFound n x chain k (toldFind f) list) e w
+pub as_told : {n : ℕ} {x : Exact} {chain : ℕ → Chain} {k : ℕ} {list : List ℕ} {r s : Find} → r ≡ s → NodeFound n x chain k (told_find r) list
+    → NodeFound n x chain k (told_find s) list
+as_told {n} {x} {chain} {k} {list} e w = subst (λ (f : Find). NodeFound n x chain k (told_find f) list) e w
 
 -- by the matrix's own fingerprint
-pub own-print : (limits : WidthLimits) (part : Part) (x : Exact) {y : ℕ} → y ≡ fingerprint limits.width x → {g : Finding} {list : List ℕ}
+pub own_print : (limits : WidthLimits) (part : Part) (x : Exact) {y : ℕ} → y ≡ fingerprint limits.width x → {g : Finding} {list : List ℕ}
     → PrintFound limits part y x g list → ListFound limits part x g list
 unfolding answer_of
-own-print limits part x {y} e {g} w =
-    let h = w.is ∙ ap (λ (z : ℕ). findBy limits part z x) e in
-    record { is = h; copies = λ out. w.copies out ∙ ap (thenWrite (λ j. writeOf limits part j out) out) h }
+own_print limits part x {y} e {g} w =
+    let h = w.is ∙ ap (λ (z : ℕ). find_by limits part z x) e in
+    record { is = h; copies = λ out. w.copies out ∙ ap (then_write (λ j. write_of limits part j out) out) h }
 
 -- in a part without nodes nothing is found
-pub empty-found : (limits : WidthLimits) (part : Part) (x : Exact) (list : List ℕ) → part.count ≡ 0 → ListFound limits part x none list
+pub empty_found : (limits : WidthLimits) (part : Part) (x : Exact) (list : List ℕ) → part.count ≡ 0 → ListFound limits part x none list
 unfolding answer_of
-empty-found limits part x list e =
-    let h = sym (no-nodes limits part x e) in
-    record { is = h; copies = λ out. ap (thenWrite (λ j. writeOf limits part j out) out) h }
+empty_found limits part x list e =
+    let h = sym (no_nodes limits part x e) in
+    record { is = h; copies = λ out. ap (then_write (λ j. write_of limits part j out) out) h }
 
 -- what is found, with its list at hand, is answered
-module _ (limits : WidthLimits) (part : Part) (x : Exact) (out list : List ℕ) {r : Find} (w : ListFound limits part x (toldFind r) list) where
-  same : {s : Find} → r ≡ s → ListFound limits part x (toldFind s) list
-  same e = subst (λ (s : Find). ListFound limits part x (toldFind s) list) e w
+module _ (limits : WidthLimits) (part : Part) (x : Exact) (out list : List ℕ) {r : Find} (w : ListFound limits part x (told_find r) list) where
+  same : {s : Find} → r ≡ s → ListFound limits part x (told_find s) list
+  same e = subst (λ (s : Find). ListFound limits part x (told_find s) list) e w
 
-  pub answered-none : r ≡ d.Nothing → outcome a.none out ≡ answer_of limits part x out
-  answered-none e = (same e).copies out
+  pub answered_none : r ≡ d.Nothing → outcome a.none out ≡ answer_of limits part x out
+  answered_none e = (same e).copies out
 
-  pub answered-bad : r ≡ d.BadChain → outcome (a.refused 13 0) out ≡ answer_of limits part x out
-  answered-bad e = (same e).copies out
+  pub answered_bad : r ≡ d.BadChain → outcome (a.refused 13 0) out ≡ answer_of limits part x out
+  answered_bad e = (same e).copies out
 
   -- a list found is no longer than the limit
-  pub found-short : {k m : ℕ} → r ≡ d.Node k m → m ≤ limits.gates
-  found-short {k} {m} e = let (l, h, z) = ((find-means limits part x).is-node k m).0 (sym (same e).is) in omega (arith, z, h.gates.short)
+  pub found_short : {k m : ℕ} → r ≡ d.Node k m → m ≤ limits.gates
+  found_short {k} {m} e = let (l, h, z) = ((find_means limits part x).is_node_lem k m).0 (sym (same e).is) in omega (arith, z, h.gates.short)
 
   -- and it stands in the list
   pub found_within : {k m : ℕ} → r ≡ d.Node k m → m ≤ length list
   found_within {k} {m} e =
-      let (l, h, z, f) = ((means limits part x []).is-list m (take m list ++ drop m [])).0 (sym ((same e).copies [])) in
+      let (l, h, z, f) = ((means limits part x []).is_list m (take m list ++ drop m [])).0 (sym ((same e).copies [])) in
       omega (arith, z, length-take m list, sym (length-append (take m list) (drop m [])) ∙ ap length f ∙ length-append l (drop m []))
 
-  pub answered-list : {k m : ℕ} {after : List ℕ} → r ≡ d.Node k m → after ≡ take (m - 0) list ++ drop (length (take (m - 0) list)) out
+  pub answered_list : {k m : ℕ} {after : List ℕ} → r ≡ d.Node k m → after ≡ take (m - 0) list ++ drop (length (take (m - 0) list)) out
       → outcome (a.given m) after ≡ answer_of limits part x out
-  answered-list {k} {m} e f =
+  answered_list {k} {m} e f =
       let whole : m - 0 ≡ m = omega arith in
       ap (outcome (a.given m)) (f ∙ ap (λ (j : ℕ). take j list ++ drop (length (take j list)) out) whole
       ∙ ap (λ (j : ℕ). take m list ++ drop j out) (length-take-le m list (found_within e)))

@@ -2,16 +2,18 @@
 // to 7.6). murm.rs of the original, `Murm::synthesize`, below the public entries. A build that keeps clashing nodes
 // asks it too (crate `known`): it has looked the first node up already, so the search stands apart from the first
 // look-up.
+#![tactic(auto)]
+
 ghost use Rattle.std.specs.Prelude.{◌≡◌, ◌≤◌, length};
 ghost use Rattle.exact.specs.Matrix.{identity};
 ghost use Rattle.exact.specs.Places.{held};
 ghost use Rattle.places.specs.Places.{places};
 ghost use Rattle.places.specs.Held.{Holds};
 ghost use Rattle.walk.specs.Lookup.{found};
-ghost use Rattle.walk.specs.Finds.{partWith, lookedIn};
-ghost use Rattle.index.specs.Told.{toldBy};
-ghost use Rattle.synthesis_arena.specs.Limits.{toldLimits};
-ghost use Rattle.node_answer.specs.Answers.{AskedPlaces, toldFind};
+ghost use Rattle.walk.specs.Finds.{part_with, looked_in};
+ghost use Rattle.index.specs.Told.{told_by};
+ghost use Rattle.synthesis_arena.specs.Limits.{told_limits};
+ghost use Rattle.node_answer.specs.Answers.{AskedPlaces, told_find};
 ghost use Rattle.width_answer.specs.Answers.{PrintFound, ListFound};
 
 use cyclotomic::Coefficient;
@@ -42,11 +44,11 @@ pub fn find_at(
     requires width_bound { (limits.width ≤ 5) × (limits.gates ≤ length list.old) }
     requires count_in_bounds { (count ≤ length fingerprints.now) × (count ≤ length parents.now) × (count ≤ length codes.now) }
     requires asked_places { AskedPlaces limits.width query.now }
-    requires print_value { lookedIn (partWith (toldBy by) fingerprints.now parents.now codes.now count index.now) 0 print ≡ found node }
+    requires print_value { looked_in (part_with (told_by by) fingerprints.now parents.now codes.now count index.now) 0 print ≡ found node }
     requires holds { Holds limits.width 0 scratch.old identity }
-    ensures found { PrintFound (toldLimits limits)
-        (partWith (toldBy by) fingerprints.now parents.now codes.now count index.now) print
-        (held limits.width exponent query.now) (toldFind result) list.new }
+    ensures found { PrintFound (told_limits limits)
+        (part_with (told_by by) fingerprints.now parents.now codes.now count index.now) print
+        (held limits.width exponent query.now) (told_find result) list.new }
     ensures long { length scratch.new ≡ places }
 {
     let lookup = by;
@@ -90,9 +92,9 @@ pub fn find_width(
     requires width_bound { (limits.width ≤ 5) × (limits.gates ≤ length list.old) }
     requires count_in_bounds { (count ≤ length fingerprints.now) × (count ≤ length parents.now) × (count ≤ length codes.now) }
     requires asked_places { AskedPlaces limits.width query.now }
-    ensures { ListFound (toldLimits limits)
-        (partWith (toldBy by) fingerprints.now parents.now codes.now count index.now)
-        (held limits.width exponent query.now) (toldFind result) list.new }
+    ensures { ListFound (told_limits limits)
+        (part_with (told_by by) fingerprints.now parents.now codes.now count index.now)
+        (held limits.width exponent query.now) (told_find result) list.new }
 {
     let print = prints::unitary_fingerprint(query, limits.width as usize, exponent);
     let Found::At(node) = index::look_up(by, index, fingerprints, count, 0, print) else {

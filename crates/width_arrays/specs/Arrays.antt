@@ -2,16 +2,16 @@
 -- are the arrays of fingerprints, parents and codes and the part, and f0, u0, c0, i0 what they held before the build.
 -- Assumes nothing.
 use Rattle.std.specs.Prelude.{◌≡◌, Bool, false, List, ◌++◌, map, ℕ, suc, ◌≤◌, ◌<◌, length, drop}
-use Rattle.walk.specs.Walk.{Rules, Node, State, listAt, gate}
+use Rattle.walk.specs.Walk.{Rules, Node, State, list_at, gate}
 use Rattle.walk.specs.Modes.{Mode}
-use Rattle.walk.specs.AtWidth.{printOf, parent_of, atWidth}
+use Rattle.walk.specs.AtWidth.{print_of, parent_of, at_width}
 use Rattle.walk.specs.Index.{By, indexed, kept}
 use Rattle.walk.proofs.Grown.{Grown, ParentsTo}
 use Rattle.synthesis_arena.specs.declared.WidthLimits.{WidthLimits}
 
 -- what the walk is handed at the width and basis of the limits, in a mode
 abbrev pub rules : Mode → WidthLimits → Rules
-rules mode lim = atWidth mode lim.width lim.basis
+rules mode lim = at_width mode lim.width lim.basis
 
 -- the first places of an array hold what p says of the nodes, and the others what they held (SPECIFICATION 6.11)
 pub record Column (p : Node → ℕ) (old : List ℕ) (ns : List Node) (new : List ℕ) (n : ℕ) : Type 0 where
@@ -20,8 +20,8 @@ pub record Column (p : Node → ℕ) (old : List ℕ) (ns : List Node) (new : Li
 -- the three arrays hold the nodes, which are count: fingerprints, parents, codes, node 0's parent and code the mark;
 -- and the part of the index goes with them: it is what a fill leaves, and by the scan what it was (SPECIFICATION 7.14)
 pub record Columns (by : By) (lim : WidthLimits) (f0 u0 c0 i0 : List ℕ) (ns : List Node) (f u c i : List ℕ) (count : ℕ) : Type 0 where
-  pub count-is : count ≡ length ns
-  pub prints : Column (printOf lim.width) f0 ns f count
+  pub count_is : count ≡ length ns
+  pub prints : Column (print_of lim.width) f0 ns f count
   pub parents : Column parent_of u0 ns u count
   pub gates : Column gate c0 ns c count
   pub index : i ≡ kept by f count i0
@@ -29,9 +29,9 @@ pub record Columns (by : By) (lim : WidthLimits) (f0 u0 c0 i0 : List ℕ) (ns : 
 -- each array, and the part where it is used, has room for as many nodes as the entry limit allows
 pub record Long (by : By) (lim : WidthLimits) (f u c i : List ℕ) : Type 0 where
   pub in_f : lim.entries ≤ length f
-  pub in-u : lim.entries ≤ length u
+  pub in_u : lim.entries ≤ length u
   pub in_c : lim.entries ≤ length c
-  pub in-i : by ≡ indexed → lim.entries ≤ length i
+  pub in_i : by ≡ indexed → lim.entries ≤ length i
 
 -- the limits are within what a table may have; no more nodes than the entry limit, the node that is tried one of them,
 -- and room for all that the entry limit allows
@@ -60,8 +60,8 @@ pub record Live (mode : Mode) (by : By) (lim : WidthLimits) (f u c i : List ℕ)
   pub grown : Grown (rules mode lim) ns
   pub low : ParentsTo k ns
   pub few : length ns ≤ lim.entries
-  pub flat : (j : ℕ) → j < top → length (listAt ns j) ≤ d
-  pub short : (j : ℕ) → j < length ns → length (listAt ns j) ≤ suc d
+  pub flat : (j : ℕ) → j < top → length (list_at ns j) ≤ d
+  pub short : (j : ℕ) → j < length ns → length (list_at ns j) ≤ suc d
   pub deep : suc d ≤ lim.gates
   pub long : Long by lim f0 u0 c0 i0
 

@@ -1,8 +1,10 @@
 // The nodes of a width, put into its arrays and its part of the index one by one: node 0, and a candidate that the walk
 // does not skip (SPECIFICATION 6.3, 6.8). Whether a candidate is skipped is asked above this crate: what stands here
 // depends on the arrays alone, and an unskipped candidate at a full width is what saturates it.
+#![tactic(auto)]
+
 ghost use Rattle.std.specs.Prelude.{◌<◌, length};
-ghost use Rattle.index.specs.Told.{toldBy};
+ghost use Rattle.index.specs.Told.{told_by};
 ghost use Rattle.width_arrays.specs.Arrays.{Room};
 ghost use Rattle.width_arrays.specs.Put.{RootPut, NodePut};
 
@@ -27,7 +29,7 @@ pub fn put_root(
     index: &mut [u32],
 )
     requires room { (0 < length fingerprints.old) × (0 < length parents.old) × (0 < length codes.old) }
-    ensures put { RootPut (toldBy by) print
+    ensures put { RootPut (told_by by) print
         fingerprints.old parents.old codes.old index.old
         fingerprints.new parents.new codes.new index.new }
 {
@@ -52,8 +54,8 @@ pub fn put_node(
     codes: &mut [u32],
     index: &mut [u32],
 ) -> Tried
-    requires room { Room (toldBy by) limits count node fingerprints.old parents.old codes.old index.old }
-    ensures put { NodePut (toldBy by) limits count node gate print
+    requires room { Room (told_by by) limits count node fingerprints.old parents.old codes.old index.old }
+    ensures put { NodePut (told_by by) limits count node gate print
         fingerprints.old parents.old codes.old index.old
         fingerprints.new parents.new codes.new index.new result }
 {

@@ -13,13 +13,13 @@ use lib.ListN.{length}
 use Rattle.ints.specs.Lists.{pick}
 use Rattle.walk.specs.Modes.{Mode}
 use Rattle.walk.specs.Index.{By}
-use Rattle.walk.specs.Walk.{Rules, Node, State, Build, root, listAt, layer, settled, deeper, ended, depths, begin}
+use Rattle.walk.specs.Walk.{Rules, Node, State, Build, root, list_at, layer, settled, deeper, ended, depths, begin}
 use Rattle.walk.proofs.Grown.{Grown, alone, ParentsTo}
 use Rattle.synthesis_arena.specs.declared.WidthLimits.{WidthLimits}
 use Rattle.width_arrays.specs.Arrays.{rules, unsaturated, Columns, Long, Live, After}
 use Rattle.width_record.specs.declared.WidthTable.{WidthTable}
 use Rattle.width_depths.specs.Depths.{Start, Whole}
-use Rattle.tried_gates.proofs.Keeping.{TriedKept, kept-layer}
+use Rattle.tried_gates.proofs.Keeping.{TriedKept, kept_layer}
 
 -- what a width has come to, by its three numbers
 abbrev pub row : ℕ → ℕ → Bool → WidthTable
@@ -29,10 +29,10 @@ row count depth full = record { count = count; depth = depth; saturated = full }
 abbrev pub between : List Node → ℕ → ℕ → Build
 between ns lo d = record { nodes = ns; last = lo; depth = d; saturated = false }
 
-ended-stays : (R : Rules) (E : ℕ) (b : Build) (m : ℕ) → ended b ≡ true → depths R E b m ≡ b
+ended_stays : (R : Rules) (E : ℕ) (b : Build) (m : ℕ) → ended b ≡ true → depths R E b m ≡ b
 unfolding depths
-ended-stays R E b zero e = refl
-ended-stays R E b (suc m) e = rw e
+ended_stays R E b zero e = refl
+ended_stays R E b (suc m) e = rw e
 
 module _ (mode : Mode) (by : By) (lim : WidthLimits) (f0 u0 c0 i0 : List ℕ) (goal : Build) where
   abbrev R : Rules
@@ -51,12 +51,12 @@ module _ (mode : Mode) (by : By) (lim : WidthLimits) (f0 u0 c0 i0 : List ℕ) (g
     pub low : ParentsTo lo ns
     pub few : length ns ≤ lim.entries
     pub order : lo < count
-    pub flat : (j : ℕ) → j < length ns → length (listAt ns j) ≤ d
+    pub flat : (j : ℕ) → j < length ns → length (list_at ns j) ≤ d
     pub rest : depths R E (between ns lo d) (G - d) ≡ goal
 
   module _ {lo d : ℕ} {f u c i : List ℕ} {count : ℕ} (r : DepthRun lo d f u c i count) where
-    abbrev pub depth-run-live : suc d ≤ lim.gates → Long by lim f0 u0 c0 i0 → Live mode by lim f u c i count lo count
-    depth-run-live deep long = record {
+    abbrev pub depth_run_live : suc d ≤ lim.gates → Long by lim f0 u0 c0 i0 → Live mode by lim f u c i count lo count
+    depth_run_live deep long = record {
       f0 = f0;
       u0 = u0;
       c0 = c0;
@@ -67,7 +67,7 @@ module _ (mode : Mode) (by : By) (lim : WidthLimits) (f0 u0 c0 i0 : List ℕ) (g
       grown = r.grown;
       low = r.low;
       few = r.few;
-      flat = λ j q. r.flat j (omega (arith, r.columns.count-is));
+      flat = λ j q. r.flat j (omega (arith, r.columns.count_is));
       short = λ j q. omega (arith, r.flat j q);
       deep = deep;
       long = long;
@@ -77,9 +77,9 @@ module _ (mode : Mode) (by : By) (lim : WidthLimits) (f0 u0 c0 i0 : List ℕ) (g
         → Whole by lim goal f0 u0 c0 i0 f' u' c' i' (row count' d' b)
     whole {t} e {f'} {u'} {c'} {i'} {count'} {d'} {b} w p q = subst (λ (z : Build). Whole by lim z f0 u0 c0 i0 f' u' c' i' (row count' d' b)) e (record { columns = w; depth_is = p; full_is = q })
 
-    pub depth-run-end : G ≤ d → Whole by lim goal f0 u0 c0 i0 f u c i (row count d false)
+    pub depth_run_end : G ≤ d → Whole by lim goal f0 u0 c0 i0 f u c i (row count d false)
     unfolding depths
-    depth-run-end l =
+    depth_run_end l =
         let z : 0 ≡ G - d = omega arith in
         let e : between r.ns lo d ≡ goal = ap (depths R E (between r.ns lo d)) z ∙ r.rest in
         whole {t = between r.ns lo d} e r.columns refl refl
@@ -89,14 +89,14 @@ module _ (mode : Mode) (by : By) (lim : WidthLimits) (f0 u0 c0 i0 : List ℕ) (g
       next = layer R E (unsaturated r.ns) lo (length r.ns - lo)
 
       moved : After by lim f0 u0 c0 i0 next f' u' c' i' count' b
-      moved = subst (λ (z : ℕ). After by lim f0 u0 c0 i0 (layer R E (unsaturated r.ns) lo (z - lo)) f' u' c' i' count' b) r.columns.count-is a
+      moved = subst (λ (z : ℕ). After by lim f0 u0 c0 i0 (layer R E (unsaturated r.ns) lo (z - lo)) f' u' c' i' count' b) r.columns.count_is a
 
       -- the width is not ended, so the depth is walked
       round : depths R E (settled (between r.ns lo d) next) (G - suc d) ≡ goal
       unfolding depths deeper
       round =
           let z : suc (G - suc d) ≡ G - d = omega arith in
-          let e : eqb lo (length r.ns) ≡ false = ne_eqb lo (length r.ns) (λ q. absurd (omega (arith, r.order, r.columns.count-is))) in
+          let e : eqb lo (length r.ns) ≡ false = ne_eqb lo (length r.ns) (λ q. absurd (omega (arith, r.order, r.columns.count_is))) in
           sym (ap (λ (t : Bool). pick t (between r.ns lo d) (depths R E (settled (between r.ns lo d) next) (G - suc d))) e)
           ∙ ap (depths R E (between r.ns lo d)) z ∙ r.rest
 
@@ -107,42 +107,42 @@ module _ (mode : Mode) (by : By) (lim : WidthLimits) (f0 u0 c0 i0 : List ℕ) (g
       abbrev done : Build
       done = between next.nodes (length r.ns) (suc d)
 
-      round-cut : b ≡ true → cut ≡ goal
-      round-cut q =
-          sym (ended-stays R E cut (G - suc d) refl)
+      round_cut : b ≡ true → cut ≡ goal
+      round_cut q =
+          sym (ended_stays R E cut (G - suc d) refl)
           ∙ ap (λ (t : Bool). depths R E (pick t cut done) (G - suc d)) (sym (sym moved.full_is ∙ q)) ∙ round
 
-      round-done : b ≡ false → depths R E done (G - suc d) ≡ goal
-      round-done q = ap (λ (t : Bool). depths R E (pick t cut done) (G - suc d)) (sym (sym moved.full_is ∙ q)) ∙ round
+      round_done : b ≡ false → depths R E done (G - suc d) ≡ goal
+      round_done q = ap (λ (t : Bool). depths R E (pick t cut done) (G - suc d)) (sym (sym moved.full_is ∙ q)) ∙ round
 
-      pub depth-run-full : b ≡ true → Whole by lim goal f0 u0 c0 i0 f' u' c' i' (row count' d true)
-      depth-run-full q = whole {t = cut} (round-cut q) moved.columns refl refl
+      pub depth_run_full : b ≡ true → Whole by lim goal f0 u0 c0 i0 f' u' c' i' (row count' d true)
+      depth_run_full q = whole {t = cut} (round_cut q) moved.columns refl refl
 
-      pub depth-run-none : b ≡ false → count' ≡ count → Whole by lim goal f0 u0 c0 i0 f' u' c' i' (row count (d + 1) false)
-      depth-run-none q e =
-          let s : eqb (length r.ns) (length next.nodes) ≡ true = eq-eqb (length r.ns) (length next.nodes) (omega (arith, moved.columns.count-is, r.columns.count-is)) in
+      pub depth_run_none : b ≡ false → count' ≡ count → Whole by lim goal f0 u0 c0 i0 f' u' c' i' (row count (d + 1) false)
+      depth_run_none q e =
+          let s : eqb (length r.ns) (length next.nodes) ≡ true = eq-eqb (length r.ns) (length next.nodes) (omega (arith, moved.columns.count_is, r.columns.count_is)) in
           subst (λ (z : ℕ). Whole by lim goal f0 u0 c0 i0 f' u' c' i' (row z (d + 1) false)) e
-          (whole {t = done} (sym (ended-stays R E done (G - suc d) s) ∙ round-done q) moved.columns (add-one d) refl)
+          (whole {t = done} (sym (ended_stays R E done (G - suc d) s) ∙ round_done q) moved.columns (add-one d) refl)
 
-      pub depth-run-next : b ≡ false → (count' ≡ count → ⊥) → DepthRun count (d + 1) f' u' c' i' count'
-      depth-run-next q e =
+      pub depth_run_next : b ≡ false → (count' ≡ count → ⊥) → DepthRun count (d + 1) f' u' c' i' count'
+      depth_run_next q e =
           let i : TriedKept R E d (length r.ns) (length r.ns) next.nodes
-          = kept-layer R E d (length r.ns) (unsaturated r.ns) lo (length r.ns - lo) (length r.ns) (omega (arith, r.order, r.columns.count-is)) (le_refl (length r.ns))
+          = kept_layer R E d (length r.ns) (unsaturated r.ns) lo (length r.ns - lo) (length r.ns) (omega (arith, r.order, r.columns.count_is)) (le_refl (length r.ns))
           (record { grown = r.grown; low = r.low; few = r.few; size = le_refl (length r.ns); flat = r.flat; short = λ j p. omega (arith, r.flat j p) }) in
           record {
             ns = next.nodes;
             columns = moved.columns;
             grown = i.grown;
-            low = λ j p z. omega (arith, i.low j p z, r.columns.count-is);
+            low = λ j p z. omega (arith, i.low j p z, r.columns.count_is);
             few = i.few;
-            order = omega (arith, e, i.size, r.columns.count-is, moved.columns.count-is);
+            order = omega (arith, e, i.size, r.columns.count_is, moved.columns.count_is);
             flat = λ j p. omega (arith, i.short j p);
             rest = ap (λ (z : ℕ). depths R E (between next.nodes count z) (G - z)) (add-one d)
-                ∙ ap (λ (z : ℕ). depths R E (between next.nodes z (suc d)) (G - suc d)) r.columns.count-is ∙ round-done q;
+                ∙ ap (λ (z : ℕ). depths R E (between next.nodes z (suc d)) (G - suc d)) r.columns.count_is ∙ round_done q;
           }
 
-pub depth-run-start : {mode : Mode} {by : By} {lim : WidthLimits} {f u c i : List ℕ} (h : Start by lim f u c i) → DepthRun mode by lim h.f0 h.u0 h.c0 h.i0 (depths (rules mode lim) lim.entries begin lim.gates) 0 0 f u c i 1
-depth-run-start {mode} {lim = lim} h =
+pub depth_run_start : {mode : Mode} {by : By} {lim : WidthLimits} {f u c i : List ℕ} (h : Start by lim f u c i) → DepthRun mode by lim h.f0 h.u0 h.c0 h.i0 (depths (rules mode lim) lim.entries begin lim.gates) 0 0 f u c i 1
+depth_run_start {mode} {lim = lim} h =
     let z : lim.gates - 0 ≡ lim.gates = omega arith in
     record {
       ns = root ∷ [];

@@ -1,10 +1,12 @@
 // The depths of a width, 1 to G, from node 0 on (SPECIFICATION 6.4, 6.9, 6.10): a depth that is walked to its end is
 // completed, one that adds no node is the last, and one in which the width is saturated does not count. A crate of its
 // own, so that what ends a build is proved apart from the layers.
+#![tactic(auto)]
+
 ghost use Rattle.std.specs.Prelude.{◌≡◌, ◌≤◌};
 ghost use Rattle.generators.specs.Generators.{generators};
-ghost use Rattle.index.specs.Told.{toldBy};
-ghost use Rattle.known.specs.Known.{toldMode};
+ghost use Rattle.index.specs.Told.{told_by};
+ghost use Rattle.known.specs.Known.{told_mode};
 ghost use Rattle.width_depths.specs.Depths.{Start, Deepened};
 
 use index::LookupBy;
@@ -25,8 +27,8 @@ pub fn deepen_all(
 ) -> WidthTable
     requires bounds { (limits.width ≤ 5) × (limits.gates ≤ 64) × (limits.entries ≤ 1000000) }
     requires generators { gates.now ≡ generators limits.width limits.basis }
-    requires start { Start (toldBy by) limits fingerprints.old parents.old codes.old index.old }
-    ensures deepened { Deepened (toldMode mode) (toldBy by) limits
+    requires start { Start (told_by by) limits fingerprints.old parents.old codes.old index.old }
+    ensures deepened { Deepened (told_mode mode) (told_by by) limits
         fingerprints.old parents.old codes.old index.old
         fingerprints.new parents.new codes.new index.new result }
 {

@@ -1,11 +1,13 @@
 // A width, layer by layer: node 0, and one depth more, in which each node of the last layer tries each generator
 // (SPECIFICATION 6.3 to 6.8). Only the last layer is tried: whatever follows an earlier node was tried when that node's
 // layer was the last. How many depths there are is decided above this crate.
+#![tactic(auto)]
+
 ghost use Rattle.std.specs.Prelude.{◌≡◌, [], ◌∷◌, ◌≤◌, ◌<◌, length};
 ghost use Rattle.generators.specs.Generators.{generators};
 ghost use Rattle.walk.specs.Walk.{root};
-ghost use Rattle.index.specs.Told.{toldBy};
-ghost use Rattle.known.specs.Known.{toldMode};
+ghost use Rattle.index.specs.Told.{told_by};
+ghost use Rattle.known.specs.Known.{told_mode};
 ghost use Rattle.width_arrays.specs.Arrays.{Columns, Live};
 ghost use Rattle.width_layer.specs.Layer.{LayerTried};
 
@@ -26,7 +28,7 @@ pub fn open_width(
 )
     requires narrow { limits.width ≤ 5 }
     requires room { (0 < length fingerprints.old) × (0 < length parents.old) × (0 < length codes.old) }
-    ensures opened { Columns (toldBy by) limits
+    ensures opened { Columns (told_by by) limits
         fingerprints.old parents.old codes.old index.old (root ∷ [])
         fingerprints.new parents.new codes.new index.new 1 }
 {
@@ -52,8 +54,8 @@ pub fn deepen(
 ) -> Tried
     requires bounds { (limits.width ≤ 5) × (first ≤ count) × (limits.entries ≤ 1000000) × (limits.gates ≤ 64) }
     requires generators { gates.now ≡ generators limits.width limits.basis }
-    requires live { Live (toldMode mode) (toldBy by) limits fingerprints.old parents.old codes.old index.old count first count }
-    ensures tried { LayerTried (toldMode mode) (toldBy by) limits first count
+    requires live { Live (told_mode mode) (told_by by) limits fingerprints.old parents.old codes.old index.old count first count }
+    ensures tried { LayerTried (told_mode mode) (told_by by) limits first count
         fingerprints.old parents.old codes.old index.old
         fingerprints.new parents.new codes.new index.new result }
 {

@@ -12,10 +12,12 @@
 // product of one that is not longer and nearer to being kept, and going on from that list comes to an end at one that
 // the walk tried. The model proves it (walk/proofs/Completeness); no table shows it, since a known candidate is skipped
 // in any case: the rules save work.
+#![tactic(auto)]
+
 ghost use Rattle.std.specs.Prelude.{◌≤◌, ◌<◌};
 ghost use Rattle.walk.specs.AtWidth.{built};
-ghost use Rattle.index.specs.Told.{toldBy};
-ghost use Rattle.known.specs.Known.{toldMode};
+ghost use Rattle.index.specs.Told.{told_by};
+ghost use Rattle.known.specs.Known.{told_mode};
 ghost use Rattle.width_arrays.specs.Arrays.{Long};
 ghost use Rattle.width_depths.specs.Depths.{Whole};
 
@@ -36,8 +38,8 @@ pub fn build_width(
     index: &mut [u32],
 ) -> WidthTable
     requires bounds { (limits.width ≤ 5) × (limits.gates ≤ 64) × (0 < limits.entries) × (limits.entries ≤ 1000000) }
-    requires long { Long (toldBy by) limits fingerprints.old parents.old codes.old index.old }
-    ensures whole { Whole (toldBy by) limits (built (toldMode mode) limits.width limits.basis limits.gates limits.entries)
+    requires long { Long (told_by by) limits fingerprints.old parents.old codes.old index.old }
+    ensures whole { Whole (told_by by) limits (built (told_mode mode) limits.width limits.basis limits.gates limits.entries)
         fingerprints.old parents.old codes.old index.old
         fingerprints.new parents.new codes.new index.new result }
 {

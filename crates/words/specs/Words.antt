@@ -6,8 +6,8 @@ abbrev pub words : ℕ
 words = 2 ^ 64
 
 -- the product modulo 2^64 (SPECIFICATION 5.2)
-unfoldable pub wordProduct : ℕ → ℕ → ℕ
-wordProduct a b = (a * b) % words
+unfoldable pub word_product : ℕ → ℕ → ℕ
+word_product a b = (a * b) % words
 
 -- rotated left by k: each bit moves up k places, and those that pass bit 63 come in again at bit 0 (SPECIFICATION 5.2)
 unfoldable pub rotated : ℕ → ℕ → ℕ

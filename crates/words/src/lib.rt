@@ -1,14 +1,16 @@
 // Words of 64 bits: products and rotations as the fingerprint's streams use them, and a coefficient as a word. The
 // language has no product that wraps and no rotation, so both are made of halves and shifts here, once; sums that wrap
 // are std's.
+#![tactic(auto)]
+
 ghost use Rattle.std.specs.Prelude.{◌≡◌};
-ghost use Rattle.words.specs.Words.{wordProduct, rotated, word};
+ghost use Rattle.words.specs.Words.{word_product, rotated, word};
 
 use coefficients::Coefficient;
 
 // The product modulo 2^64, from halves of 32 bits.
 pub fn wrapping_mul(a: u64, b: u64) -> u64
-    ensures { result ≡ wordProduct a b }
+    ensures { result ≡ word_product a b }
 {
     let low = a % 0x1_0000_0000;
     let high = a / 0x1_0000_0000;

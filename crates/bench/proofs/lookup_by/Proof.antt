@@ -7,8 +7,8 @@ use Rattle.bench.proofs.lookup_by.Tie as tie
 returns : tie.Need-returns
 returns c = rw (eq-eqb c.before.args.by 0 c.if1.true)
 
-returns-2 : tie.Need-returns-2
-returns-2 c = rw (ne_eqb c.before.args.by 0 (λ q. omega (arith, c.if1.false)))
+returns_2 : tie.Need-returns-2
+returns_2 c = rw (ne_eqb c.before.args.by 0 (λ q. omega (arith, c.if1.false)))
 
-pub lookup-by-spec : {M : Type 1} → statement M
-lookup-by-spec = tie.close (tie.spec returns returns-2)
+pub lookup_by_spec : {M : Type 1} → statement M
+lookup_by_spec = tie.close (tie.spec returns returns_2)

@@ -7,8 +7,8 @@ use Rattle.bench.proofs.mode_of.Tie as tie
 returns : tie.Need-returns
 returns c = rw (eq-eqb c.before.args.mode 0 c.if1.true)
 
-returns-2 : tie.Need-returns-2
-returns-2 c = rw (ne_eqb c.before.args.mode 0 (λ q. omega (arith, c.if1.false)))
+returns_2 : tie.Need-returns-2
+returns_2 c = rw (ne_eqb c.before.args.mode 0 (λ q. omega (arith, c.if1.false)))
 
-pub mode-of-spec : {M : Type 1} → statement M
-mode-of-spec = tie.close (tie.spec returns returns-2)
+pub mode_of_spec : {M : Type 1} → statement M
+mode_of_spec = tie.close (tie.spec returns returns_2)

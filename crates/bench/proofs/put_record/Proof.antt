@@ -1,7 +1,7 @@
 -- `put_record` meets its contract: the five widths one after the other. Assumes nothing.
 use borrow.Author.Rules.{rules}
-use Rattle.murm_config.specs.Told.{toldWidth}
-use Rattle.bench.proofs.Places.{five-put}
+use Rattle.murm_config.specs.Told.{told_width}
+use Rattle.bench.proofs.Places.{five_put}
 use Rattle.bench.proofs.put_record.Statement.{statement}
 use Rattle.bench.proofs.put_record.Tie as tie
 
@@ -14,12 +14,12 @@ returns c =
     let p1 = p2.before.before.before.before in
     let s = p1.before.before.before in
     let t = s.args.table in
-    five-put (toldWidth t.width1) (toldWidth t.width2) (toldWidth t.width3) (toldWidth t.width4) (toldWidth t.width5)
+    five_put (told_width t.width1) (told_width t.width2) (told_width t.width3) (told_width t.width4) (told_width t.width5)
     s.args.numbers.now s.requires
     p1.put-width.ensures p2.put-width2.ensures p3.put-width3.ensures p4.put-width4.ensures p5.put-width5.ensures
 
-pub put-record-spec : {M : Type 1} → statement M
-put-record-spec =
+pub put_record_spec : {M : Type 1} → statement M
+put_record_spec =
     tie.close
     (tie.spec
     (λ c κs. search rules)

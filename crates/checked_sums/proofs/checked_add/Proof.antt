@@ -20,10 +20,10 @@ returns c =
     c.narrowed.ensures
     ∙ ap checked
     (each
-    (let q = c.before.before.before.before.before.before.before.before.before.before.plus in formed ◌+ℤ◌ (first s).a-kept (second s).a-kept q.type-inv q.ensures)
-    (let q = c.before.before.before.before.before.before.before.plus2 in formed ◌+ℤ◌ (first s).b-kept (second s).b-kept q.type-inv q.ensures)
-    (let q = c.before.before.before.before.plus3 in formed ◌+ℤ◌ (first s).c-kept (second s).c-kept q.type-inv q.ensures)
-    (let q = c.before.plus4 in formed ◌+ℤ◌ (first s).d-kept (second s).d-kept q.type-inv q.ensures))
+    (let q = c.before.before.before.before.before.before.before.before.before.before.plus in formed ◌+ℤ◌ (first s).a_kept (second s).a_kept q.type-inv q.ensures)
+    (let q = c.before.before.before.before.before.before.before.plus2 in formed ◌+ℤ◌ (first s).b_kept (second s).b_kept q.type-inv q.ensures)
+    (let q = c.before.before.before.before.plus3 in formed ◌+ℤ◌ (first s).c_kept (second s).c_kept q.type-inv q.ensures)
+    (let q = c.before.plus4 in formed ◌+ℤ◌ (first s).d_kept (second s).d_kept q.type-inv q.ensures))
 
-pub checked-add-spec : {M : Type 1} → statement M
-checked-add-spec = tie.close (tie.spec (λ c κs. tt) (λ c κs. tt) (λ c κs. tt) (λ c κs. tt) (λ c κs. tt) returns)
+pub checked_add_spec : {M : Type 1} → statement M
+checked_add_spec = tie.close (tie.spec (λ c κs. tt) (λ c κs. tt) (λ c κs. tt) (λ c κs. tt) (λ c κs. tt) returns)

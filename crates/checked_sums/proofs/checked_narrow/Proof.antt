@@ -15,39 +15,39 @@ use Rattle.checked_sums.proofs.checked_narrow.Tie as tie
 a_in : (c : tie.Else1) → withinLimit c.before.before.args.a ≡ true
 a_in c = inside c.before.before.ranges.a c.before.in-limit.ensures c.if1.false
 
-b-in : (c : tie.Else2) → withinLimit c.before.before.before.before.args.b ≡ true
-b-in c = inside c.before.before.before.before.ranges.b c.before.in-limit2.ensures c.if2.false
+b_in : (c : tie.Else2) → withinLimit c.before.before.before.before.args.b ≡ true
+b_in c = inside c.before.before.before.before.ranges.b c.before.in-limit2.ensures c.if2.false
 
-c-in : (c : tie.Else3) → withinLimit c.before.before.before.before.before.before.args.c ≡ true
-c-in c = inside c.before.before.before.before.before.before.ranges.c c.before.in-limit3.ensures c.if3.false
+c_in : (c : tie.Else3) → withinLimit c.before.before.before.before.before.before.args.c ≡ true
+c_in c = inside c.before.before.before.before.before.before.ranges.c c.before.in-limit3.ensures c.if3.false
 
-d-in : (c : tie.Else4) → withinLimit c.before.before.before.before.before.before.before.before.args.d ≡ true
-d-in c = inside c.before.before.before.before.before.before.before.before.ranges.d c.before.in-limit4.ensures c.if4.false
+d_in : (c : tie.Else4) → withinLimit c.before.before.before.before.before.before.before.before.args.d ≡ true
+d_in c = inside c.before.before.before.before.before.before.before.before.ranges.d c.before.in-limit4.ensures c.if4.false
 
 returns : tie.Need-returns
 unfolding fits checked
 returns c = rw (outside c.before.before.ranges.a c.before.in-limit.ensures c.if1.true)
 
-returns-2 : tie.Need-returns-2
+returns_2 : tie.Need-returns-2
 unfolding fits checked
-returns-2 c =
+returns_2 c =
     let one = c.before.before in
     rw (a_in one, outside one.before.before.ranges.b c.before.in-limit2.ensures c.if2.true)
 
-returns-3 : tie.Need-returns-3
+returns_3 : tie.Need-returns-3
 unfolding fits checked
-returns-3 c =
+returns_3 c =
     let two = c.before.before in
     let one = two.before.before in
-    rw (a_in one, b-in two, outside one.before.before.ranges.c c.before.in-limit3.ensures c.if3.true)
+    rw (a_in one, b_in two, outside one.before.before.ranges.c c.before.in-limit3.ensures c.if3.true)
 
-returns-4 : tie.Need-returns-4
+returns_4 : tie.Need-returns-4
 unfolding fits checked
-returns-4 c =
+returns_4 c =
     let three = c.before.before in
     let two = three.before.before in
     let one = two.before.before in
-    rw (a_in one, b-in two, c-in three, outside one.before.before.ranges.d c.before.in-limit4.ensures c.if4.true)
+    rw (a_in one, b_in two, c_in three, outside one.before.before.ranges.d c.before.in-limit4.ensures c.if4.true)
 
 narrow-coefficient-requires : tie.Need-narrow-coefficient-requires
 narrow-coefficient-requires c κs =
@@ -69,9 +69,9 @@ narrow-coefficient-requires-4 c κs =
     let four = c.before.before.before in
     leb-true _ _ (holds four.before.in-limit4.ensures four.if4.false)
 
-returns-5 : tie.Need-returns-5
+returns_5 : tie.Need-returns-5
 unfolding fits checked
-returns-5 c =
+returns_5 c =
     let third = c.before in
     let second = third.before in
     let first = second.before in
@@ -81,9 +81,9 @@ returns-5 c =
     let start = two.before.before.before.before in
     rw (
       a_in two.before.before,
-      b-in two,
-      c-in three,
-      d-in four,
+      b_in two,
+      c_in three,
+      d_in four,
       said near first.narrow-coefficient.type-inv first.narrow-coefficient.ensures,
       said near second.narrow-coefficient2.type-inv second.narrow-coefficient2.ensures,
       said near third.narrow-coefficient3.type-inv third.narrow-coefficient3.ensures,
@@ -94,20 +94,20 @@ returns-5 c =
       to_z-of_z start.ranges.d,
     )
 
-pub checked-narrow-spec : {M : Type 1} → statement M
-checked-narrow-spec =
+pub checked_narrow_spec : {M : Type 1} → statement M
+checked_narrow_spec =
     tie.close
     (tie.spec
     (λ c κs. tt)
     returns
     (λ c κs. tt)
-    returns-2
+    returns_2
     (λ c κs. tt)
-    returns-3
+    returns_3
     (λ c κs. tt)
-    returns-4
+    returns_4
     narrow-coefficient-requires
     narrow-coefficient-requires-2
     narrow-coefficient-requires-3
     narrow-coefficient-requires-4
-    returns-5)
+    returns_5)

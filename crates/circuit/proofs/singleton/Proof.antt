@@ -12,5 +12,5 @@ use Rattle.circuit.proofs.singleton.Tie as tie
 returns : tie.Need-returns
 returns c = shl_exact 1 c.args.q 32 (lit< tt) (omega arith) ∙ one-mul (2 ^ c.args.q)
 
-pub singleton-spec : {M : Type 1} → statement M
-singleton-spec = tie.close (tie.spec (λ c. search rules) returns)
+pub singleton_spec : {M : Type 1} → statement M
+singleton_spec = tie.close (tie.spec (λ c. search rules) returns)

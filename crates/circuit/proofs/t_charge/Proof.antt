@@ -8,7 +8,7 @@ use mathlib.Core.List.{List, []}
 use lib.ListN.{length, drop, drop_of_length-le}
 use borrow.Author.Rules.{rules}
 use Rattle.circuit.specs.Charge.{charge}
-use Rattle.circuit.proofs.Charges.{charge-most, charge-from}
+use Rattle.circuit.proofs.Charges.{charge_most, charge_from}
 use Rattle.circuit.proofs.t_charge.Statement.{statement}
 use Rattle.circuit.proofs.t_charge.Tie as tie
 
@@ -29,10 +29,10 @@ module _ (c : tie.After-t-charge invariant-loop decreases-loop) where
   total : c.before.before.before.loop.sum + c.t-charge.result + charge (drop (i + 1) codes) ≡ charge codes
   total =
       let rest = ap (λ (k : ℕ). charge (drop k codes)) (add-one i) in
-      omega (arith, rest, charge-from codes i (omega arith), c.t-charge.ensures, c.before.before.before.loop.invariant.1)
+      omega (arith, rest, charge_from codes i (omega arith), c.t-charge.ensures, c.before.before.before.loop.invariant.1)
 
 add-sum : tie.Need-overflow-add-sum invariant-loop decreases-loop
-add-sum c = record { fits = omega (arith, total c, charge-most c.before.before.before.before.before.args.codes.now) }
+add-sum c = record { fits = omega (arith, total c, charge_most c.before.before.before.before.before.args.codes.now) }
 
 loop-again : tie.Need-loop-preserved invariant-loop decreases-loop
 loop-again c = (search rules, total c)
@@ -44,8 +44,8 @@ returns c =
     let end : drop c.before.loop.i l ≡ [] = drop_of_length-le l {i = c.before.loop.i} (omega arith) in
     omega (arith, c.before.loop.invariant.1, ap charge end)
 
-pub t-charge-spec : {M : Type 1} → statement M
-t-charge-spec =
+pub t_charge_spec : {M : Type 1} → statement M
+t_charge_spec =
     tie.close
     (tie.spec
     invariant-loop

@@ -1,6 +1,6 @@
 -- `answer` meets its contract: the lent arrays are zeros. Assumes nothing.
 use borrow.Author.Rules.{rules}
-use Rattle.circuits_output.proofs.Whole.{places_count, zeros-are, some-text, text-put}
+use Rattle.circuits_output.proofs.Whole.{places_count, zeros_are, some_text, text_put}
 use Rattle.circuits.proofs.answer.Statement.{statement}
 use Rattle.circuits.proofs.answer.Tie as tie
 
@@ -20,18 +20,18 @@ returns : tie.Need-returns
 returns c =
     let s = c.before.before.before.before.before.before.before.before.before.before.before.before.before.before.before.before.before.before in
     let d = c.before.before.before.before.before.before.before.before.circuits in
-    let z = zeros-are c.before.before.before.before.before.before.before.before.before.before.before.before.before.before.before.fingerprint-space.ensures c.before.before.before.before.before.before.before.before.before.before.before.before.before.before.node-space.ensures c.before.before.before.before.before.before.before.before.before.before.before.before.before.node-space2.ensures in
-    text-put s.args.input.now s.args.out.now _ d.result z s.requires d.ensures _ d.auto.1.1.1.1.0 c.before.n.given.1
+    let z = zeros_are c.before.before.before.before.before.before.before.before.before.before.before.before.before.before.before.fingerprint-space.ensures c.before.before.before.before.before.before.before.before.before.before.before.before.before.before.node-space.ensures c.before.before.before.before.before.before.before.before.before.before.before.before.before.node-space2.ensures in
+    text_put s.args.input.now s.args.out.now _ d.result z s.requires d.ensures _ d.auto.1.1.1.1.0 c.before.n.given.1
 
-returns-2 : tie.Need-returns-2
-returns-2 c =
+returns_2 : tie.Need-returns-2
+returns_2 c =
     let s = c.before.before.before.before.before.before.before.before.before.before.before.before.before.before.before.before.before in
     let d = c.before.before.before.before.before.before.before.circuits in
-    let z = zeros-are c.before.before.before.before.before.before.before.before.before.before.before.before.before.before.fingerprint-space.ensures c.before.before.before.before.before.before.before.before.before.before.before.before.before.node-space.ensures c.before.before.before.before.before.before.before.before.before.before.before.before.node-space2.ensures in
-    absurd (some-text s.args.input.now s.args.out.now _ d.result z s.requires d.ensures c.enum_told.given.1)
+    let z = zeros_are c.before.before.before.before.before.before.before.before.before.before.before.before.before.before.fingerprint-space.ensures c.before.before.before.before.before.before.before.before.before.before.before.before.before.node-space.ensures c.before.before.before.before.before.before.before.before.before.before.before.before.node-space2.ensures in
+    absurd (some_text s.args.input.now s.args.out.now _ d.result z s.requires d.ensures c.enum_told.given.1)
 
-pub answer-spec : {M : Type 1} → statement M
-answer-spec =
+pub answer_spec : {M : Type 1} → statement M
+answer_spec =
     tie.close
     (tie.spec
     (λ c κs. search rules)
@@ -46,4 +46,4 @@ answer-spec =
     (λ c. search rules)
     returns
     (λ c. search rules)
-    returns-2)
+    returns_2)

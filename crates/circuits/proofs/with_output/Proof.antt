@@ -5,7 +5,7 @@ use Prim.Native.Nat.{ℕ, ◌≤◌}
 use native.Mathlib.Omega.{arith}
 use lib.ListN.{length-replicate}
 use Rattle.circuits_built.specs.Built.{room_for}
-use Rattle.circuits_output.proofs.Whole.{room-is}
+use Rattle.circuits_output.proofs.Whole.{room_is}
 use Rattle.circuits.proofs.with_output.Statement.{statement}
 use Rattle.circuits.proofs.with_output.Tie as tie
 
@@ -16,7 +16,7 @@ slice-aggregate-write-answer : tie.Need-slice-aggregate-write-answer
 slice-aggregate-write-answer c = sym (length-replicate {0} {A = ℕ} 3133584 0)
 
 write-answer-requires : tie.Need-write-answer-requires
-write-answer-requires c κs = reaches (sym (length-replicate {0} {A = ℕ} 3133584 0)) room-is
+write-answer-requires c κs = reaches (sym (length-replicate {0} {A = ℕ} 3133584 0)) room_is
 
-pub with-output-spec : {M : Type 1} → statement M
-with-output-spec = tie.close (tie.spec slice-aggregate-write-answer write-answer-requires (λ c. tt))
+pub with_output_spec : {M : Type 1} → statement M
+with_output_spec = tie.close (tie.spec slice-aggregate-write-answer write-answer-requires (λ c. tt))

@@ -12,8 +12,8 @@ slice-reshare-prefix-write-all c = let d = c.before.before.answer in omega (arit
 slice-aggregate-write-all : tie.Need-slice-aggregate-write-all
 slice-aggregate-write-all c = sym (length-take-le c.before.before.before.answer.result c.before.before.before.answer.new.1.0 (slice-reshare-prefix-write-all c.before))
 
-pub write-answer-spec : {M : Type 1} → statement M
-write-answer-spec =
+pub write_answer_spec : {M : Type 1} → statement M
+write_answer_spec =
     tie.close
     (tie.spec
     (λ c κs. search rules)

@@ -3,10 +3,10 @@ use mathlib.Core.Path.{ap, ◌∙◌}
 use native.Mathlib.Omega.{arith}
 use borrow.Author.Rules.{rules}
 use Rattle.tables.specs.Checks.{arrays}
-use Rattle.murm_config.specs.Told.{toldMurm}
+use Rattle.murm_config.specs.Told.{told_murm}
 use Rattle.circuits_input.specs.Input.{ended}
 use Rattle.circuits_input.specs.Told.{end_of}
-use Rattle.circuits_answers.proofs.Replies.{line_reply}
+use Rattle.circuits_answers.proofs.Replies.{line_reply_lem}
 use Rattle.circuits_answers.proofs.answer_line.Statement.{statement}
 use Rattle.circuits_answers.proofs.answer_line.Tie as tie
 
@@ -23,17 +23,17 @@ returns : tie.Need-returns
 returns c =
     let s = c.before.before.before.before.before.before.before.before.before.before.before.before.before.before.before.before.before.before.args in
     c.before.before.answer-list.ensures
-    ∙ line_reply (toldMurm s.table) (arrays s.fingerprints.now s.parents.now s.codes.now) s.list.now (ended s.line.now) c.before.before.before.before.before.before.before.before.before.before.read-query.new.1.0 c.before.before.before.before.before.before.before.width.given.1
+    ∙ line_reply_lem (told_murm s.table) (arrays s.fingerprints.now s.parents.now s.codes.now) s.list.now (ended s.line.now) c.before.before.before.before.before.before.before.before.before.before.read-query.new.1.0 c.before.before.before.before.before.before.before.width.given.1
     c.before.before.before.before.before.before.before.before.before.before.read-query.ensures.is
 
-returns-2 : tie.Need-returns-2
-returns-2 c =
+returns_2 : tie.Need-returns-2
+returns_2 c =
     let s = c.before.before.before.before.before.before.before.before.before.before.before.before.args in
-    line_reply (toldMurm s.table) (arrays s.fingerprints.now s.parents.now s.codes.now) s.list.now (ended s.line.now) c.before.before.before.before.read-query.new.1.0 c.before.r.given.1
+    line_reply_lem (told_murm s.table) (arrays s.fingerprints.now s.parents.now s.codes.now) s.list.now (ended s.line.now) c.before.before.before.before.read-query.new.1.0 c.before.r.given.1
     c.before.before.before.before.read-query.ensures.is
 
-pub answer-line-spec : {M : Type 1} → statement M
-answer-line-spec =
+pub answer_line_spec : {M : Type 1} → statement M
+answer_line_spec =
     tie.close
     (tie.spec
     (λ c κs. search rules)
@@ -47,4 +47,4 @@ answer-line-spec =
     (λ c. search rules)
     (λ c. search rules)
     returns
-    returns-2)
+    returns_2)

@@ -8,8 +8,8 @@ use lib.ListN.{length, drop, length-append}
 use lib.Seq.{take_at}
 use Rattle.tables.specs.Tables.{query, synthesized}
 use Rattle.tables.specs.Checks.{arrays}
-use Rattle.murm_config.specs.Told.{toldMurm}
-use Rattle.circuits_answers.proofs.Replies.{lent-part, lent_length, list-reply}
+use Rattle.murm_config.specs.Told.{told_murm}
+use Rattle.circuits_answers.proofs.Replies.{lent_part, lent_length, list-reply}
 use Rattle.circuits_answers.proofs.answer_list.Statement.{statement}
 use Rattle.circuits_answers.proofs.answer_list.Tie as tie
 
@@ -30,23 +30,23 @@ slice-aggregate-answer-matrix c = sym (ap length (take_at c.before.before.before
 returns : tie.Need-returns
 returns c =
     let s = c.before.before.before.before.before.before.before.before.before.before.before.before.before.before.before.before.before.before.args in
-    let t = toldMurm s.table in
+    let t = told_murm s.table in
     let m = arrays s.fingerprints.now s.parents.now s.codes.now in
     let n = c.before.before.before.before.before.before.before.before.before.before.before.coefficient-count in
     let k = c.before.before.before.before.before.before.k.given.0.0 in
     c.before.before.answer-matrix.ensures
     ∙ (ap (λ (xs : List ℤ). synthesized t m (query s.width k xs) s.list.now) (take_at c.before.before.before.before.before.before.before.before.before.library-circuit-matrix.new.1.1.0 _ _ (count c.before.before.before.before.before.before.before.before))
-    ∙ list-reply t m s.list.now s.width s.gates.now c.before.before.before.before.before.before.k.given.1 (lent-part n.ensures.1 c.before.before.before.before.before.before.before.before.before.before.before.before.coefficient-space.ensures s.width n.ensures.0) c.before.before.before.before.before.before.before.before.before.library-circuit-matrix.ensures)
+    ∙ list-reply t m s.list.now s.width s.gates.now c.before.before.before.before.before.before.k.given.1 (lent_part n.ensures.1 c.before.before.before.before.before.before.before.before.before.before.before.before.coefficient-space.ensures s.width n.ensures.0) c.before.before.before.before.before.before.before.before.before.library-circuit-matrix.ensures)
 
-returns-2 : tie.Need-returns-2
-returns-2 c =
+returns_2 : tie.Need-returns-2
+returns_2 c =
     let s = c.before.before.before.before.before.before.before.before.before.before.before.before.before.args in
     let n = c.before.before.before.before.before.before.coefficient-count in
-    list-reply (toldMurm s.table) (arrays s.fingerprints.now s.parents.now s.codes.now) s.list.now s.width s.gates.now c.before.r.given.1
-    (lent-part n.ensures.1 c.before.before.before.before.before.before.before.coefficient-space.ensures s.width n.ensures.0) c.before.before.before.before.library-circuit-matrix.ensures
+    list-reply (told_murm s.table) (arrays s.fingerprints.now s.parents.now s.codes.now) s.list.now s.width s.gates.now c.before.r.given.1
+    (lent_part n.ensures.1 c.before.before.before.before.before.before.before.coefficient-space.ensures s.width n.ensures.0) c.before.before.before.before.library-circuit-matrix.ensures
 
-pub answer-list-spec : {M : Type 1} → statement M
-answer-list-spec =
+pub answer_list_spec : {M : Type 1} → statement M
+answer_list_spec =
     tie.close
     (tie.spec
     (λ c κs. search rules)
@@ -61,4 +61,4 @@ answer-list-spec =
     (λ c. search rules)
     (λ c. search rules)
     returns
-    returns-2)
+    returns_2)

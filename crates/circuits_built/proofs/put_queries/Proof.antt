@@ -4,14 +4,14 @@ use native.Mathlib.Omega.{arith}
 use borrow.Author.Rules.{rules}
 use lib.ListN.{length}
 use Rattle.tables.specs.Checks.{arrays}
-use Rattle.murm_config.specs.Told.{toldMurm}
-use Rattle.circuits_built.proofs.Asking.{Asking, asking-none, asking-cut, asking-on, asking-done}
+use Rattle.murm_config.specs.Told.{told_murm}
+use Rattle.circuits_built.proofs.Asking.{Asking, asking-none, asking_cut, asking-on, asking_done}
 use Rattle.circuits_built.proofs.put_queries.Statement.{statement}
 use Rattle.circuits_built.proofs.put_queries.Tie as tie
 
 abbrev invariant-loop : tie.invariant-loop
 invariant-loop fingerprints parents codes later out₀ at t p₀ i₀ out p i =
-    Asking (toldMurm t) (arrays fingerprints parents codes) later at out₀ out p i × (at + 187 * length later + 756 ≤ length out₀)
+    Asking (told_murm t) (arrays fingerprints parents codes) later at out₀ out p i × (at + 187 * length later + 756 ≤ length out₀)
 
 abbrev decreases-loop : tie.decreases-loop
 decreases-loop fingerprints parents codes later out₀ at t p₀ i₀ out p i = length later - i
@@ -20,7 +20,7 @@ loop-holds : tie.Need-loop-init invariant-loop decreases-loop
 loop-holds c = (asking-none _ _ _ (search rules), search rules)
 
 returns : tie.Need-returns invariant-loop decreases-loop
-returns c = asking-cut c.before.before.before.before.before.before.before.loop.invariant.0 _ c.before.before.before.before.before.find.ensures.0 (search rules) (search rules) c.before.before.Put-refused.ensures.0
+returns c = asking_cut c.before.before.before.before.before.before.before.loop.invariant.0 _ c.before.before.before.before.before.find.ensures.0 (search rules) (search rules) c.before.before.Put-refused.ensures.0
 
 loop-again : tie.Need-loop-preserved invariant-loop decreases-loop
 loop-again c =
@@ -30,11 +30,11 @@ loop-again c =
       l.invariant.1,
     )
 
-returns-2 : tie.Need-returns-2 invariant-loop decreases-loop
-returns-2 c = asking-done c.before.loop.invariant.0 (omega (arith, c.loop-test.false))
+returns_2 : tie.Need-returns-2 invariant-loop decreases-loop
+returns_2 c = asking_done c.before.loop.invariant.0 (omega (arith, c.loop-test.false))
 
-pub put-queries-spec : {M : Type 1} → statement M
-put-queries-spec =
+pub put_queries_spec : {M : Type 1} → statement M
+put_queries_spec =
     tie.close
     (tie.spec
     invariant-loop
@@ -52,4 +52,4 @@ put-queries-spec =
     (λ c. search rules)
     loop-again
     (λ c. search rules)
-    returns-2)
+    returns_2)

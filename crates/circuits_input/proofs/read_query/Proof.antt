@@ -6,17 +6,17 @@ use borrow.Author.Tests.{not-true, not-false}
 use Prim.Native.Nat.{◌≤◌}
 use lib.ListN.{length, take}
 use lib.Seq.{length-take-le}
-use Rattle.circuits_text.specs.Reading.{toldLine}
-use Rattle.circuits_text.proofs.Split.{line-fits}
-use Rattle.circuits_input.specs.Input.{questionBy, questionOf}
-use Rattle.circuits_input.proofs.LineReads.{read-numbers, read-broken, no-query, long-query, two-numbers, query-is}
+use Rattle.circuits_text.specs.Reading.{told_line}
+use Rattle.circuits_text.proofs.Split.{line_fits}
+use Rattle.circuits_input.specs.Input.{question_by, question_of}
+use Rattle.circuits_input.proofs.LineReads.{read_numbers, read-broken, no_query, long_query, two_numbers, query-is}
 use Rattle.circuits_input.proofs.read_query.Statement.{statement}
 use Rattle.circuits_input.proofs.read_query.Tie as tie
 
 fits : (c : tie.After-known-told) → c.before.n.given.0.0 ≤ length c.before.before.before.before.before.numbers.new.1.0
 fits c =
     let r = c.before.before.before.before.before.numbers in
-    omega (arith, line-fits r.ensures (ap toldLine c.before.n.given.1), r.auto.1.0)
+    omega (arith, line_fits r.ensures (ap told_line c.before.n.given.1), r.auto.1.0)
 
 slice-reshare-prefix-is-query : tie.Need-slice-reshare-prefix-is-query
 slice-reshare-prefix-is-query c = fits c
@@ -25,42 +25,42 @@ slice-aggregate-is-query : tie.Need-slice-aggregate-is-query
 slice-aggregate-is-query c = sym (length-take-le c.before.before.n.given.0.0 c.before.before.before.before.before.before.numbers.new.1.0 (fits c.before))
 
 returns : tie.Need-returns
-unfolding questionOf
+unfolding question_of
 returns c =
     let ns = take c.before.before.before.before.n.given.0.0 c.before.before.before.before.before.before.before.before.numbers.new.1.0 in
     let r = c.before.before.before.before.before.before.before.before.numbers.ensures in
     record {
-      is = sym (no-query ns (sym c.before.is-query.ensures ∙ not-true _ c.if1.true)) ∙ read-numbers questionBy r (ap toldLine c.before.before.before.before.n.given.1);
+      is = sym (no_query ns (sym c.before.is-query.ensures ∙ not-true _ c.if1.true)) ∙ read_numbers question_by r (ap told_line c.before.before.before.before.n.given.1);
       start = search rules;
       within = search rules;
     }
 
-returns-2 : tie.Need-returns-2
-unfolding questionOf
-returns-2 c =
+returns_2 : tie.Need-returns-2
+unfolding question_of
+returns_2 c =
     let n = c.before.before.before.before.before.n.given.0.0 in
     let now = c.before.before.before.before.before.before.before.before.before.numbers.new.1.0 in
     let r = c.before.before.before.before.before.before.before.before.before.numbers.ensures in
     let q = sym c.before.before.is-query.ensures ∙ not-false _ c.before.if1.false in
     let l = length-take-le n now (fits c.before.before.before.before) in
     record {
-      is = query-is n now q l ∙ read-numbers questionBy r (ap toldLine c.before.before.before.before.before.n.given.1);
-      start = omega (arith, two-numbers (take n now) q, l);
+      is = query-is n now q l ∙ read_numbers question_by r (ap told_line c.before.before.before.before.before.n.given.1);
+      start = omega (arith, two_numbers (take n now) q, l);
       within = fits c.before.before.before.before;
     }
 
-returns-3 : tie.Need-returns-3
-unfolding questionOf
-returns-3 c =
+returns_3 : tie.Need-returns-3
+unfolding question_of
+returns_3 c =
     let size = c.before.before.before.before.before.before.before.before.requires in
     record {
-      is = read-broken questionBy (λ ns h. long-query ns (omega (arith, h, size))) c.before.before.before.before.numbers.ensures (ap toldLine c.enum_told.given.1);
+      is = read-broken question_by (λ ns h. long_query ns (omega (arith, h, size))) c.before.before.before.before.numbers.ensures (ap told_line c.enum_told.given.1);
       start = search rules;
       within = search rules;
     }
 
-pub read-query-spec : {M : Type 1} → statement M
-read-query-spec =
+pub read_query_spec : {M : Type 1} → statement M
+read_query_spec =
     tie.close
     (tie.spec
     (λ c κs. search rules)
@@ -73,6 +73,6 @@ read-query-spec =
     (λ c. search rules)
     (λ c. search rules)
     (λ c. search rules)
-    returns-2
+    returns_2
     (λ c. search rules)
-    returns-3)
+    returns_3)

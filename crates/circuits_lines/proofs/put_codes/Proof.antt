@@ -6,19 +6,19 @@ use mathlib.Core.Path.{ap}
 use lib.ListN.{length, take}
 use lib.Seq.{take_all}
 use Rattle.circuits_text.proofs.Placing.{put_as}
-use Rattle.circuits_lines.specs.Lines.{spacedCodes}
-use Rattle.circuits_lines.proofs.Each.{Laid, laid_none, laid_on, codes-none, codes-more}
+use Rattle.circuits_lines.specs.Lines.{spaced_codes}
+use Rattle.circuits_lines.proofs.Each.{Laid, laid_none, laid_on, codes_none, codes_more}
 use Rattle.circuits_lines.proofs.put_codes.Statement.{statement}
 use Rattle.circuits_lines.proofs.put_codes.Tie as tie
 
 abbrev invariant-loop : tie.invariant-loop
-invariant-loop out₀ at codes p₀ i₀ out p i = (i ≤ length codes) × (p ≤ at + 11 * i) × Laid (spacedCodes (take i codes)) at p out₀ out
+invariant-loop out₀ at codes p₀ i₀ out p i = (i ≤ length codes) × (p ≤ at + 11 * i) × Laid (spaced_codes (take i codes)) at p out₀ out
 
 abbrev decreases-loop : tie.decreases-loop
 decreases-loop out₀ at codes p₀ i₀ out p i = length codes - i
 
 loop-holds : tie.Need-loop-init invariant-loop decreases-loop
-loop-holds c = (omega arith, omega arith, laid_none codes-none (omega arith))
+loop-holds c = (omega arith, omega arith, laid_none codes_none (omega arith))
 
 loop-again : tie.Need-loop-preserved invariant-loop decreases-loop
 loop-again c =
@@ -27,16 +27,16 @@ loop-again c =
     let test = c.before.before.before.before.before.loop-test.true in (
       omega (arith, test),
       omega (arith, l.invariant.1, d.ensures.1),
-      laid_on (codes-more _ _ test) l.invariant.2 d.ensures.0 d.auto.0,
+      laid_on (codes_more _ _ test) l.invariant.2 d.ensures.0 d.auto.0,
     )
 
 returns : tie.Need-returns invariant-loop decreases-loop
 returns c =
     let l = c.before.loop in
-    (put_as (ap spacedCodes (take_all l.i _ c.loop-test.false)) l.invariant.2.put, omega (arith, l.invariant.0, l.invariant.1))
+    (put_as (ap spaced_codes (take_all l.i _ c.loop-test.false)) l.invariant.2.put, omega (arith, l.invariant.0, l.invariant.1))
 
-pub put-codes-spec : {M : Type 1} → statement M
-put-codes-spec =
+pub put_codes_spec : {M : Type 1} → statement M
+put_codes_spec =
     tie.close
     (tie.spec
     invariant-loop

@@ -5,19 +5,19 @@ use native.Mathlib.Omega.{arith}
 use borrow.Author.Rules.{rules}
 use mathlib.Core.Path.{◌≡◌, ap}
 use Rattle.circuits_text.proofs.Placing.{put_as}
-use Rattle.circuits_lines.specs.Lines.{nodeLines}
-use Rattle.circuits_lines.proofs.Each.{Laid, laid_none, laid_on, nodes-none, nodes-more}
+use Rattle.circuits_lines.specs.Lines.{node_lines}
+use Rattle.circuits_lines.proofs.Each.{Laid, laid_none, laid_on, nodes_none, nodes-more}
 use Rattle.circuits_lines.proofs.put_nodes.Statement.{statement}
 use Rattle.circuits_lines.proofs.put_nodes.Tie as tie
 
 abbrev invariant-loop : tie.invariant-loop
-invariant-loop start count parents codes out₀ at p₀ i₀ out p i = (i ≤ count) × (p ≤ at + 33 * i) × Laid (nodeLines (drop start parents) (drop start codes) i) at p out₀ out
+invariant-loop start count parents codes out₀ at p₀ i₀ out p i = (i ≤ count) × (p ≤ at + 33 * i) × Laid (node_lines (drop start parents) (drop start codes) i) at p out₀ out
 
 abbrev decreases-loop : tie.decreases-loop
 decreases-loop start count parents codes out₀ at p₀ i₀ out p i = count - i
 
 loop-holds : tie.Need-loop-init invariant-loop decreases-loop
-loop-holds c = (omega arith, omega arith, laid_none (nodes-none _ _) (omega arith))
+loop-holds c = (omega arith, omega arith, laid_none (nodes_none _ _) (omega arith))
 
 loop-again : tie.Need-loop-preserved invariant-loop decreases-loop
 loop-again c =
@@ -34,10 +34,10 @@ returns c =
     let l = c.before.loop in
     let s = c.before.before.before.before.before.args in
     let e : l.i ≡ s.count = omega (arith, l.invariant.0, c.loop-test.false) in
-    (put_as (ap (nodeLines _ _) e) l.invariant.2.put, omega (arith, l.invariant.0, l.invariant.1))
+    (put_as (ap (node_lines _ _) e) l.invariant.2.put, omega (arith, l.invariant.0, l.invariant.1))
 
-pub put-nodes-spec : {M : Type 1} → statement M
-put-nodes-spec =
+pub put_nodes_spec : {M : Type 1} → statement M
+put_nodes_spec =
     tie.close
     (tie.spec
     invariant-loop

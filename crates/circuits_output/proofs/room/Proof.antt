@@ -8,9 +8,9 @@ returns : tie.Need-returns
 unfolding room_for
 returns c = search rules
 
-returns-2 : tie.Need-returns-2
+returns_2 : tie.Need-returns-2
 unfolding room_for
-returns-2 c = search rules
+returns_2 c = search rules
 
-pub room-spec : {M : Type 1} → statement M
-room-spec = tie.close (tie.spec returns (λ c. search rules) (λ c. search rules) returns-2)
+pub room_spec : {M : Type 1} → statement M
+room_spec = tie.close (tie.spec returns (λ c. search rules) (λ c. search rules) returns_2)

@@ -1,7 +1,7 @@
 -- `put_query` meets its contract. Assumes nothing.
 use borrow.Author.Rules.{rules}
 use Rattle.tables.specs.Checks.{arrays}
-use Rattle.murm_config.specs.Told.{toldMurm}
+use Rattle.murm_config.specs.Told.{told_murm}
 use Rattle.circuits_input.specs.Input.{ended}
 use Rattle.circuits_parts.proofs.Replies.{query-as}
 use Rattle.circuits_parts.proofs.put_query.Statement.{statement}
@@ -12,12 +12,12 @@ returns c =
     let s = c.before.before.before.before.before.before.before.before.before.before.before.before.before.before.args in
     let d = c.before.before.put-reply.ensures in
     let a = c.before.before.before.before.before.before.answer-line in (
-      query-as (toldMurm s.table) (arrays s.fingerprints.now s.parents.now s.codes.now) (ended s.line.now) a.result _ _ c.before.before.before.before.before.before.before.before.list-space.ensures a.ensures d.0,
+      query-as (told_murm s.table) (arrays s.fingerprints.now s.parents.now s.codes.now) (ended s.line.now) a.result _ _ c.before.before.before.before.before.before.before.before.list-space.ensures a.ensures d.0,
       d.1,
     )
 
-pub put-query-spec : {M : Type 1} → statement M
-put-query-spec =
+pub put_query_spec : {M : Type 1} → statement M
+put_query_spec =
     tie.close
     (tie.spec
     (λ c κs. search rules)

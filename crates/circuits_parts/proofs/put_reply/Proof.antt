@@ -4,7 +4,7 @@ use native.Mathlib.Omega.{arith}
 use borrow.Author.Rules.{rules}
 use lib.Seq.{length-take-le, take_all}
 use Rattle.circuits_text.proofs.Placing.{put_as}
-use Rattle.circuits_lines.specs.Lines.{noneLine, answerLine}
+use Rattle.circuits_lines.specs.Lines.{none_line, answer_line}
 use Rattle.circuits_parts.proofs.Replies.{reply-as}
 use Rattle.circuits_parts.proofs.put_reply.Statement.{statement}
 use Rattle.circuits_parts.proofs.put_reply.Tie as tie
@@ -15,7 +15,7 @@ returns c =
     let m = c.before.before.before.before.before.before.answer.given.0.0 in
     let d = c.before.before.put-answer.ensures in (
       reply-as s.args.list.now c.before.before.before.before.before.before.answer.given.1
-          (put_as (ap answerLine (sym (take_all m s.args.list.now (omega (arith, c.before.before.before.before.if1.true))))) d.0),
+          (put_as (ap answer_line (sym (take_all m s.args.list.now (omega (arith, c.before.before.before.before.if1.true))))) d.0),
       omega (arith, d.1, s.requires.1),
     )
 
@@ -27,27 +27,27 @@ put-answer-requires-2 c κs =
     let s = c.before.before.before.before.before.before.before.before in
     omega (arith, length-take-le c.before.before.before.before.answer.given.0.0 s.args.list.now (omega (arith, c.before.before.if1.false)), s.requires.0, s.requires.1, c.before.before.if1.false)
 
-returns-2 : tie.Need-returns-2
-returns-2 c =
+returns_2 : tie.Need-returns-2
+returns_2 c =
     let s = c.before.before.before.before.before.before.before.before.before.before.before in
     let d = c.before.before.put-answer2.ensures in (
       reply-as s.args.list.now c.before.before.before.before.before.before.before.answer.given.1 d.0,
       omega (arith, d.1, length-take-le c.before.before.before.before.before.before.before.answer.given.0.0 s.args.list.now (omega (arith, c.before.before.before.before.before.if1.false)), s.requires.1, c.before.before.before.before.before.if1.false),
     )
 
-returns-3 : tie.Need-returns-3
-unfolding noneLine
-returns-3 c =
+returns_3 : tie.Need-returns-3
+unfolding none_line
+returns_3 c =
     let d = c.before.before.put-bytes.ensures in
     (reply-as c.before.before.before.before.before.before.before.before.before.args.list.now c.before.before.before.before.before.enum_told.given.1 d, omega (arith, d.after))
 
-returns-4 : tie.Need-returns-4
-returns-4 c =
+returns_4 : tie.Need-returns-4
+returns_4 c =
     let d = c.before.before.Put-refused.ensures in
     (reply-as c.before.before.before.before.before.before.before.before.before.args.list.now c.before.before.before.before.before.answer2.given.1 d.0, omega (arith, d.1))
 
-pub put-reply-spec : {M : Type 1} → statement M
-put-reply-spec =
+pub put_reply_spec : {M : Type 1} → statement M
+put_reply_spec =
     tie.close
     (tie.spec
     (λ c. search rules)
@@ -62,8 +62,8 @@ put-reply-spec =
     (λ c. search rules)
     (λ c κs. search rules)
     (λ c. search rules)
-    returns-2
+    returns_2
     (λ c. search rules)
-    returns-3
+    returns_3
     (λ c. search rules)
-    returns-4)
+    returns_4)

@@ -22,8 +22,8 @@ returns c = (found_here c.before.before.before.loop.invariant c.before.before.lo
 loop-again : tie.Need-loop-preserved invariant-loop decreases-loop
 loop-again c = search-on c.before.before.before.loop.invariant c.before.before.loop-test.true c.if1.false
 
-returns-2 : tie.Need-returns-2 invariant-loop decreases-loop
-returns-2 c = (found_none c.before.loop.invariant c.loop-test.false, search rules)
+returns_2 : tie.Need-returns-2 invariant-loop decreases-loop
+returns_2 c = (found_none c.before.loop.invariant c.loop-test.false, search rules)
 
 pub find_spec : {M : Type 1} → statement M
 find_spec =
@@ -37,4 +37,4 @@ find_spec =
     (λ c. search rules)
     (λ c. search rules)
     loop-again
-    returns-2)
+    returns_2)

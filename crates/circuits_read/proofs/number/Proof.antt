@@ -18,19 +18,19 @@ decreases-loop word v₀ i₀ v i = length word - i
 returns : tie.Need-returns invariant-loop decreases-loop
 returns c = sym (word-short _ (omega arith))
 
-returns-2 : tie.Need-returns-2 invariant-loop decreases-loop
-returns-2 c = sym (word-long _ (omega arith) (omega arith))
+returns_2 : tie.Need-returns-2 invariant-loop decreases-loop
+returns_2 c = sym (word-long _ (omega arith) (omega arith))
 
 loop-holds : tie.Need-loop-init invariant-loop decreases-loop
 loop-holds c = record { some = search rules; few = search rules; within = search rules; small = search rules; same = refl; digits = refl }
 
-returns-3 : tie.Need-returns-3 invariant-loop decreases-loop
-returns-3 c =
+returns_3 : tie.Need-returns-3 invariant-loop decreases-loop
+returns_3 c =
     let l = c.before.before.before.loop in
     sym (word-other l.invariant (digit_low _ l.v l.i c.before.before.loop-test.true (omega arith)))
 
-returns-4 : tie.Need-returns-4 invariant-loop decreases-loop
-returns-4 c =
+returns_4 : tie.Need-returns-4 invariant-loop decreases-loop
+returns_4 c =
     let l = c.before.before.before.before.loop in
     sym (word-other l.invariant (digit-high _ l.v l.i c.before.before.before.loop-test.true (omega arith) (omega arith)))
 
@@ -44,30 +44,30 @@ loop-again : tie.Need-loop-preserved invariant-loop decreases-loop
 loop-again c =
     number-on c.before.before.before.before.loop.invariant c.before.before.before.loop-test.true (omega arith) (omega arith)
 
-returns-5 : tie.Need-returns-5 invariant-loop decreases-loop
-returns-5 c = sym (word-large c.before.before.loop.invariant c.before.loop-test.false (omega arith))
+returns_5 : tie.Need-returns-5 invariant-loop decreases-loop
+returns_5 c = sym (word-large c.before.before.loop.invariant c.before.loop-test.false (omega arith))
 
-returns-6 : tie.Need-returns-6 invariant-loop decreases-loop
-returns-6 c = sym (word_number c.before.before.loop.invariant c.before.loop-test.false (omega arith))
+returns_6 : tie.Need-returns-6 invariant-loop decreases-loop
+returns_6 c = sym (word_number c.before.before.loop.invariant c.before.loop-test.false (omega arith))
 
-pub number-spec : {M : Type 1} → statement M
-number-spec =
+pub number_spec : {M : Type 1} → statement M
+number_spec =
     tie.close
     (tie.spec
     invariant-loop
     decreases-loop
     returns
-    returns-2
+    returns_2
     loop-holds
     (λ c. search rules)
-    returns-3
-    returns-4
+    returns_3
+    returns_4
     mul-v
     (λ c. search rules)
     add-v
     (λ c. search rules)
     (λ c. search rules)
     loop-again
-    returns-5
+    returns_5
     (λ c. search rules)
-    returns-6)
+    returns_6)

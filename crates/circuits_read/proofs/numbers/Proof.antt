@@ -32,17 +32,17 @@ loop-again c =
     let is = sym n.number.ensures ∙ ap toldWord c.before.before.v.given.1 in
     read-on f.before.before.loop.invariant f.find.result f.find.ensures.0 _ f.before.loop-test.true is (omega arith)
 
-returns-2 : tie.Need-returns-2 invariant-loop decreases-loop
-returns-2 c =
+returns_2 : tie.Need-returns-2 invariant-loop decreases-loop
+returns_2 c =
     let f = c.before.before.before.before in
     let is = sym c.before.before.number.ensures ∙ ap toldWord c.enum_told.given.1 in
     read-other f.before.before.loop.invariant f.find.result f.find.ensures.0 is
 
-returns-3 : tie.Need-returns-3 invariant-loop decreases-loop
-returns-3 c = read-full c.before.loop.invariant c.loop-test.false
+returns_3 : tie.Need-returns-3 invariant-loop decreases-loop
+returns_3 c = read-full c.before.loop.invariant c.loop-test.false
 
-pub numbers-spec : {M : Type 1} → statement M
-numbers-spec =
+pub numbers_spec : {M : Type 1} → statement M
+numbers_spec =
     tie.close
     (tie.spec
     invariant-loop
@@ -64,6 +64,6 @@ numbers-spec =
     loop-again
     (λ c. search rules)
     (λ c. search rules)
-    returns-2
+    returns_2
     (λ c. search rules)
-    returns-3)
+    returns_3)

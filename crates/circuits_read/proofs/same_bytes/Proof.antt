@@ -19,17 +19,17 @@ returns c = sym (same-lengths _ _ c.if1.true)
 loop-holds : tie.Need-loop-init invariant-loop decreases-loop
 loop-holds c = record { lengths = c.if1.false; within = search rules; same = refl }
 
-returns-2 : tie.Need-returns-2 invariant-loop decreases-loop
-returns-2 c = same_differs c.before.before.before.before.loop.invariant c.before.before.before.loop-test.true c.if2.true
+returns_2 : tie.Need-returns-2 invariant-loop decreases-loop
+returns_2 c = same_differs c.before.before.before.before.loop.invariant c.before.before.before.loop-test.true c.if2.true
 
 loop-again : tie.Need-loop-preserved invariant-loop decreases-loop
 loop-again c = same-on c.before.before.before.before.loop.invariant c.before.before.before.loop-test.true c.if2.false
 
-returns-3 : tie.Need-returns-3 invariant-loop decreases-loop
-returns-3 c = same-done c.before.loop.invariant c.loop-test.false
+returns_3 : tie.Need-returns-3 invariant-loop decreases-loop
+returns_3 c = same-done c.before.loop.invariant c.loop-test.false
 
-pub same-bytes-spec : {M : Type 1} → statement M
-same-bytes-spec =
+pub same_bytes_spec : {M : Type 1} → statement M
+same_bytes_spec =
     tie.close
     (tie.spec
     invariant-loop
@@ -38,8 +38,8 @@ same-bytes-spec =
     loop-holds
     (λ c. search rules)
     (λ c. search rules)
-    returns-2
+    returns_2
     (λ c. search rules)
     (λ c. search rules)
     loop-again
-    returns-3)
+    returns_3)

@@ -3,7 +3,7 @@ use mathlib.Core.Path.{refl}
 use Prim.Native.Nat.{◌-◌}
 use borrow.Author.Rules.{rules}
 use lib.ListN.{length}
-use Rattle.circuits_text.proofs.Split.{Searching, found_here, found_none, search-on}
+use Rattle.circuits_text.proofs.Split.{Searching, found_here, found_none, search_on}
 use Rattle.circuits_text.proofs.find.Statement.{statement}
 use Rattle.circuits_text.proofs.find.Tie as tie
 
@@ -20,10 +20,10 @@ returns : tie.Need-returns invariant-loop decreases-loop
 returns c = (found_here c.before.before.before.loop.invariant c.before.before.loop-test.true c.if1.true, search rules)
 
 loop-again : tie.Need-loop-preserved invariant-loop decreases-loop
-loop-again c = search-on c.before.before.before.loop.invariant c.before.before.loop-test.true c.if1.false
+loop-again c = search_on c.before.before.before.loop.invariant c.before.before.loop-test.true c.if1.false
 
-returns-2 : tie.Need-returns-2 invariant-loop decreases-loop
-returns-2 c = (found_none c.before.loop.invariant c.loop-test.false, search rules)
+returns_2 : tie.Need-returns-2 invariant-loop decreases-loop
+returns_2 c = (found_none c.before.loop.invariant c.loop-test.false, search rules)
 
 pub find_spec : {M : Type 1} → statement M
 find_spec =
@@ -37,4 +37,4 @@ find_spec =
     (λ c. search rules)
     (λ c. search rules)
     loop-again
-    returns-2)
+    returns_2)

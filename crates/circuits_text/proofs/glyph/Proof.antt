@@ -9,10 +9,10 @@ returns : tie.Need-returns
 unfolding glyph
 returns c = rw (lt-ltb _ _ c.if1.true)
 
-returns-2 : tie.Need-returns-2
+returns_2 : tie.Need-returns-2
 unfolding glyph
-returns-2 c = rw (le-ltb _ _ c.if1.false)
+returns_2 c = rw (le-ltb _ _ c.if1.false)
 
-pub glyph-spec : {M : Type 1} → statement M
-glyph-spec =
-    tie.close (tie.spec (λ c. search rules) (λ c. search rules) returns (λ c. search rules) (λ c. search rules) returns-2)
+pub glyph_spec : {M : Type 1} → statement M
+glyph_spec =
+    tie.close (tie.spec (λ c. search rules) (λ c. search rules) returns (λ c. search rules) (λ c. search rules) returns_2)

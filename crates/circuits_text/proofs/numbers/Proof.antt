@@ -4,8 +4,8 @@ use Prim.Native.Nat.{◌-◌}
 use native.Mathlib.Omega.{arith}
 use borrow.Author.Rules.{rules}
 use lib.ListN.{length}
-use Rattle.circuits_text.specs.Reading.{toldWord}
-use Rattle.circuits_text.proofs.Split.{Reading, read_none, read-last, read-on, read-other, read-full}
+use Rattle.circuits_text.specs.Reading.{told_word}
+use Rattle.circuits_text.proofs.Split.{Reading, read_none, read_last, read_on, read_other, read_full}
 use Rattle.circuits_text.proofs.numbers.Statement.{statement}
 use Rattle.circuits_text.proofs.numbers.Tie as tie
 
@@ -22,27 +22,27 @@ returns : tie.Need-returns invariant-loop decreases-loop
 returns c =
     let n = c.before.before.before.before in
     let f = n.before.before in
-    let is = sym n.number.ensures ∙ ap toldWord c.before.before.v.given.1 in
-    read-last f.before.before.loop.invariant f.find.result f.find.ensures.0 _ f.before.loop-test.true is (omega arith)
+    let is = sym n.number.ensures ∙ ap told_word c.before.before.v.given.1 in
+    read_last f.before.before.loop.invariant f.find.result f.find.ensures.0 _ f.before.loop-test.true is (omega arith)
 
 loop-again : tie.Need-loop-preserved invariant-loop decreases-loop
 loop-again c =
     let n = c.before.before.before.before in
     let f = n.before.before in
-    let is = sym n.number.ensures ∙ ap toldWord c.before.before.v.given.1 in
-    read-on f.before.before.loop.invariant f.find.result f.find.ensures.0 _ f.before.loop-test.true is (omega arith)
+    let is = sym n.number.ensures ∙ ap told_word c.before.before.v.given.1 in
+    read_on f.before.before.loop.invariant f.find.result f.find.ensures.0 _ f.before.loop-test.true is (omega arith)
 
-returns-2 : tie.Need-returns-2 invariant-loop decreases-loop
-returns-2 c =
+returns_2 : tie.Need-returns-2 invariant-loop decreases-loop
+returns_2 c =
     let f = c.before.before.before.before in
-    let is = sym c.before.before.number.ensures ∙ ap toldWord c.enum_told.given.1 in
-    read-other f.before.before.loop.invariant f.find.result f.find.ensures.0 is
+    let is = sym c.before.before.number.ensures ∙ ap told_word c.enum_told.given.1 in
+    read_other f.before.before.loop.invariant f.find.result f.find.ensures.0 is
 
-returns-3 : tie.Need-returns-3 invariant-loop decreases-loop
-returns-3 c = read-full c.before.loop.invariant c.loop-test.false
+returns_3 : tie.Need-returns-3 invariant-loop decreases-loop
+returns_3 c = read_full c.before.loop.invariant c.loop-test.false
 
-pub numbers-spec : {M : Type 1} → statement M
-numbers-spec =
+pub numbers_spec : {M : Type 1} → statement M
+numbers_spec =
     tie.close
     (tie.spec
     invariant-loop
@@ -64,6 +64,6 @@ numbers-spec =
     loop-again
     (λ c. search rules)
     (λ c. search rules)
-    returns-2
+    returns_2
     (λ c. search rules)
-    returns-3)
+    returns_3)

@@ -3,7 +3,7 @@ use Prim.Native.Nat.{◌-◌}
 use native.Mathlib.Omega.{arith}
 use borrow.Author.Rules.{rules}
 use lib.ListN.{length}
-use Rattle.circuits_text.proofs.Placing.{Putting, putting-none, putting-on, putting-done}
+use Rattle.circuits_text.proofs.Placing.{Putting, putting_none, putting_on, putting_done}
 use Rattle.circuits_text.proofs.put_bytes.Statement.{statement}
 use Rattle.circuits_text.proofs.put_bytes.Tie as tie
 
@@ -14,16 +14,16 @@ abbrev decreases-loop : tie.decreases-loop
 decreases-loop out₀ at bytes i₀ out i = length bytes - i
 
 loop-holds : tie.Need-loop-init invariant-loop decreases-loop
-loop-holds c = putting-none _ _ _ (omega arith)
+loop-holds c = putting_none _ _ _ (omega arith)
 
 loop-again : tie.Need-loop-preserved invariant-loop decreases-loop
-loop-again c = putting-on c.before.before.loop.invariant c.before.loop-test.true (omega arith)
+loop-again c = putting_on c.before.before.loop.invariant c.before.loop-test.true (omega arith)
 
 returns : tie.Need-returns invariant-loop decreases-loop
-returns c = putting-done c.before.loop.invariant c.loop-test.false
+returns c = putting_done c.before.loop.invariant c.loop-test.false
 
-pub put-bytes-spec : {M : Type 1} → statement M
-put-bytes-spec =
+pub put_bytes_spec : {M : Type 1} → statement M
+put_bytes_spec =
     tie.close
     (tie.spec
     invariant-loop

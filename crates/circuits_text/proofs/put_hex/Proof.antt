@@ -1,7 +1,7 @@
 -- `put_hex` meets its contract: the digits from i on are in their places. Assumes nothing.
 use mathlib.Core.Path.{refl}
 use borrow.Author.Rules.{rules}
-use Rattle.circuits_text.proofs.Placing.{Hexing, hex-none, hex-on, hex-done}
+use Rattle.circuits_text.proofs.Placing.{Hexing, hex_none, hex_on, hex_done}
 use Rattle.circuits_text.proofs.put_hex.Statement.{statement}
 use Rattle.circuits_text.proofs.put_hex.Tie as tie
 
@@ -12,16 +12,16 @@ abbrev decreases-loop : tie.decreases-loop
 decreases-loop out₀ at n rest₀ i₀ out rest i = i
 
 loop-holds : tie.Need-loop-init invariant-loop decreases-loop
-loop-holds c = hex-none _ _ _
+loop-holds c = hex_none _ _ _
 
 loop-again : tie.Need-loop-preserved invariant-loop decreases-loop
-loop-again c = hex-on c.before.before.loop.invariant c.before.before.before.before.requires _ c.before.loop-test.true c.glyph.ensures
+loop-again c = hex_on c.before.before.loop.invariant c.before.before.before.before.requires _ c.before.loop-test.true c.glyph.ensures
 
 returns : tie.Need-returns invariant-loop decreases-loop
-returns c = (hex-done c.before.loop.invariant c.before.before.before.requires c.loop-test.false, refl)
+returns c = (hex_done c.before.loop.invariant c.before.before.before.requires c.loop-test.false, refl)
 
-pub put-hex-spec : {M : Type 1} → statement M
-put-hex-spec =
+pub put_hex_spec : {M : Type 1} → statement M
+put_hex_spec =
     tie.close
     (tie.spec
     invariant-loop

@@ -7,5 +7,5 @@ use Rattle.coefficients.proofs.below.Tie as tie
 returns : tie.Need-returns
 returns c = λ i. lt_z (to_z-of_z c.ranges.x i) (to_z-of_z c.ranges.y i)
 
-pub below-spec : {M : Type 1} → statement M
-below-spec = tie.close (tie.spec returns)
+pub below_spec : {M : Type 1} → statement M
+below_spec = tie.close (tie.spec returns)

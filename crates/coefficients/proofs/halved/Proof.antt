@@ -4,22 +4,22 @@ use native.Mathlib.Omega.{arith}
 use mir.Facts.{to_z-of_z}
 use Rattle.ints.proofs.Machine.{said}
 use Rattle.coefficients.specs.Coefficients.{near}
-use Rattle.coefficients.proofs.Number.{half-abs, half-fits}
+use Rattle.coefficients.proofs.Number.{half_abs, half_fits}
 use Rattle.coefficients.proofs.halved.Statement.{statement}
 use Rattle.coefficients.proofs.halved.Tie as tie
 
 div_narrow : tie.Need-nonzero-div-narrow-coefficient
-div_narrow c = (omega arith, rw (to_z-of_z c.ranges.x) (half-fits c.ranges.x))
+div_narrow c = (omega arith, rw (to_z-of_z c.ranges.x) (half_fits c.ranges.x))
 
 narrow-coefficient-requires : tie.Need-narrow-coefficient-requires
 narrow-coefficient-requires c κs =
-    rw (to_z-of_z c.ranges.x, to_z-of_z (half-fits c.ranges.x)) (omega (arith, half-abs c.args.x, c.requires))
+    rw (to_z-of_z c.ranges.x, to_z-of_z (half_fits c.ranges.x)) (omega (arith, half_abs c.args.x, c.requires))
 
 returns : tie.Need-returns
 returns c =
     let b = c.before in
     said near c.narrow-coefficient.type-inv c.narrow-coefficient.ensures
-    ∙ rw (to_z-of_z b.ranges.x, to_z-of_z (half-fits b.ranges.x))
+    ∙ rw (to_z-of_z b.ranges.x, to_z-of_z (half_fits b.ranges.x))
 
-pub halved-spec : {M : Type 1} → statement M
-halved-spec = tie.close (tie.spec div_narrow narrow-coefficient-requires returns)
+pub halved_spec : {M : Type 1} → statement M
+halved_spec = tie.close (tie.spec div_narrow narrow-coefficient-requires returns)

@@ -9,8 +9,8 @@ use Rattle.coefficients.proofs.in_limit.Tie as tie
 returns : tie.Need-returns
 returns c = sym (low c.before.args.x (rw (to_z-of_z c.before.ranges.x) at c.if1.true))
 
-returns-2 : tie.Need-returns-2
-returns-2 c = rw (to_z-of_z c.before.ranges.x) (high c.before.args.x (rw (to_z-of_z c.before.ranges.x) at c.if1.false))
+returns_2 : tie.Need-returns-2
+returns_2 c = rw (to_z-of_z c.before.ranges.x) (high c.before.args.x (rw (to_z-of_z c.before.ranges.x) at c.if1.false))
 
-pub in-limit-spec : {M : Type 1} → statement M
-in-limit-spec = tie.close (tie.spec (λ c. search rules) returns returns-2)
+pub in_limit_spec : {M : Type 1} → statement M
+in_limit_spec = tie.close (tie.spec (λ c. search rules) returns returns_2)

@@ -28,5 +28,5 @@ returns c =
     said near c.narrow-coefficient.type-inv c.narrow-coefficient.ensures
     ∙ rw (to_z-of_z (sub-narrow-coefficient b), as_wide b.ranges.x) (+ℤ_idl _)
 
-pub negated-spec : {M : Type 1} → statement M
-negated-spec = tie.close (tie.spec cast-narrow sub-narrow-coefficient narrow-coefficient-requires returns)
+pub negated_spec : {M : Type 1} → statement M
+negated_spec = tie.close (tie.spec cast-narrow sub-narrow-coefficient narrow-coefficient-requires returns)

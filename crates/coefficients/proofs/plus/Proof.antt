@@ -11,5 +11,5 @@ add-result c = rw (as_wide c.ranges.x, as_wide c.ranges.y) (sum_fits c.ranges.x 
 returns : tie.Need-returns
 returns c = rw (to_z-of_z (add-result c), as_wide c.ranges.x, as_wide c.ranges.y)
 
-pub plus-spec : {M : Type 1} → statement M
-plus-spec = tie.close (tie.spec (λ c. widened c.ranges.x) (λ c. widened c.ranges.y) add-result returns)
+pub plus_spec : {M : Type 1} → statement M
+plus_spec = tie.close (tie.spec (λ c. widened c.ranges.x) (λ c. widened c.ranges.y) add-result returns)

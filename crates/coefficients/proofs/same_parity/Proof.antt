@@ -5,17 +5,17 @@ use mir.Val.{SFits}
 use mir.Facts.{to_z-of_z}
 use Rattle.coefficients.specs.Coefficients.{far}
 use Rattle.ints.proofs.Machine.{said}
-use Rattle.coefficients.proofs.Number.{half-fits, rem-same}
+use Rattle.coefficients.proofs.Number.{half_fits, rem_same}
 use Rattle.coefficients.proofs.same_parity.Statement.{statement}
 use Rattle.coefficients.proofs.same_parity.Tie as tie
 
 rem-result : tie.Need-nonzero-rem-result
 rem-result c =
     let f : SFits far c.plus.result = record { sfits = c.plus.type-inv } in
-    (omega arith, rw (to_z-of_z f) (half-fits f))
+    (omega arith, rw (to_z-of_z f) (half_fits f))
 
 returns : tie.Need-returns
-returns c = rw (said far c.plus.type-inv c.plus.ensures) (search (rules, rem-same))
+returns c = rw (said far c.plus.type-inv c.plus.ensures) (search (rules, rem_same))
 
-pub same-parity-spec : {M : Type 1} → statement M
-same-parity-spec = tie.close (tie.spec (λ c κs. search rules) rem-result returns)
+pub same_parity_spec : {M : Type 1} → statement M
+same_parity_spec = tie.close (tie.spec (λ c κs. search rules) rem-result returns)

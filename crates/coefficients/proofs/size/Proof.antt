@@ -24,10 +24,10 @@ returns c =
     rw (to_z-of_z (sub-result c), as_wide c.before.ranges.x)
     (size_below c.before.args.x (rw (as_wide c.before.ranges.x) at c.if1.true))
 
-returns-2 : tie.Need-returns-2
-returns-2 c =
+returns_2 : tie.Need-returns-2
+returns_2 c =
     rw (as_wide c.before.ranges.x)
     (size_above c.before.args.x (rw (as_wide c.before.ranges.x) at c.if1.false))
 
-pub size-spec : {M : Type 1} → statement M
-size-spec = tie.close (tie.spec cast-wide sub-result returns returns-2)
+pub size_spec : {M : Type 1} → statement M
+size_spec = tie.close (tie.spec cast-wide sub-result returns returns_2)

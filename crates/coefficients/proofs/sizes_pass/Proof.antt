@@ -4,7 +4,7 @@ use native.Mathlib.Omega.{arith}
 use mir.Facts.{to_z-of_z}
 use Rattle.coefficients.specs.Coefficients.{far}
 use Rattle.ints.proofs.Machine.{said}
-use Rattle.coefficients.proofs.Sizes.{size-range}
+use Rattle.coefficients.proofs.Sizes.{size_range}
 use Rattle.coefficients.proofs.sizes_pass.Statement.{statement}
 use Rattle.coefficients.proofs.sizes_pass.Tie as tie
 
@@ -17,7 +17,7 @@ add-result c =
       to_z-of_z s.ranges.x,
       to_z-of_z s.ranges.y,
     )
-    (record { sfits = omega (arith, size-range s.ranges.x, size-range s.ranges.y) })
+    (record { sfits = omega (arith, size_range s.ranges.x, size_range s.ranges.y) })
 
 returns : tie.Need-returns
 returns c =
@@ -30,5 +30,5 @@ returns c =
       to_z-of_z s.ranges.y,
     )
 
-pub sizes-pass-spec : {M : Type 1} → statement M
-sizes-pass-spec = tie.close (tie.spec (λ c κs. search rules) (λ c κs. search rules) add-result returns)
+pub sizes_pass_spec : {M : Type 1} → statement M
+sizes_pass_spec = tie.close (tie.spec (λ c κs. search rules) (λ c κs. search rules) add-result returns)

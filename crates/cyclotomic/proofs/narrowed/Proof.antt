@@ -20,12 +20,12 @@ returns c =
     (said near third.narrow-coefficient3.type-inv third.narrow-coefficient3.ensures ∙ to_z-of_z s.ranges.c)
     (said near c.narrow-coefficient4.type-inv c.narrow-coefficient4.ensures ∙ to_z-of_z s.ranges.d)
 
-pub narrowed-spec : {M : Type 1} → statement M
-narrowed-spec =
+pub narrowed_spec : {M : Type 1} → statement M
+narrowed_spec =
     tie.close
     (tie.spec
     (λ c κs. rw (to_z-of_z c.ranges.a) c.requires.a_small)
-    (λ c κs. let s = c.before in rw (to_z-of_z s.ranges.b) s.requires.b-small)
-    (λ c κs. let s = c.before.before in rw (to_z-of_z s.ranges.c) s.requires.c-small)
+    (λ c κs. let s = c.before in rw (to_z-of_z s.ranges.b) s.requires.b_small)
+    (λ c κs. let s = c.before.before in rw (to_z-of_z s.ranges.c) s.requires.c_small)
     (λ c κs. let s = c.before.before.before in rw (to_z-of_z s.ranges.d) s.requires.d_small)
     returns)

@@ -7,8 +7,8 @@ use lib.ListN.{length, take}
 use Rattle.circuit.specs.Codes.{valid}
 use Rattle.exact.specs.Places.{held}
 use Rattle.places.specs.Places.{places}
-use Rattle.fitting_gates.specs.Fitting.{unfit, candidatePrint}
-use Rattle.fitting_gates.proofs.TwoSifted.{TwoSifted, two_none, source-at, two-room, two-all, two-put}
+use Rattle.fitting_gates.specs.Fitting.{unfit, candidate_print}
+use Rattle.fitting_gates.proofs.TwoSifted.{TwoSifted, two_none, source_at, two_room, two_all, two_put}
 use borrow.Author.Rules.{rules}
 use Rattle.fitting_gates.proofs.fitting.Statement.{statement}
 use Rattle.fitting_gates.proofs.fitting.Tie as tie
@@ -16,7 +16,7 @@ use Rattle.fitting_gates.proofs.fitting.Tie as tie
 abbrev invariant-loop : tie.invariant-loop
 invariant-loop n exponent size kept₀ prints₀ m left₀ right₀ fit₀ j₀ kept prints left right fit j =
     (j ≤ size)
-    × TwoSifted (unfit n (held n exponent m)) (candidatePrint n (held n exponent m)) (take size kept₀) kept₀ prints₀ kept prints fit j
+    × TwoSifted (unfit n (held n exponent m)) (candidate_print n (held n exponent m)) (take size kept₀) kept₀ prints₀ kept prints fit j
     × (length left ≡ places) × (length right ≡ places)
 
 abbrev decreases-loop : tie.decreases-loop
@@ -38,7 +38,7 @@ two-prints-requires c κs =
     )
 
 put-formed-requires : tie.Need-put-formed-requires invariant-loop decreases-loop
-put-formed-requires c κs = two-room c.before.before.before.before.before.before.before.before.before.requires.1.1.0 c.before.before.before.before.before.before.before.before.loop.invariant.1 (omega (arith, c.before.before.before.before.before.before.before.loop-test.true))
+put-formed-requires c κs = two_room c.before.before.before.before.before.before.before.before.before.requires.1.1.0 c.before.before.before.before.before.before.before.before.loop.invariant.1 (omega (arith, c.before.before.before.before.before.before.before.loop-test.true))
 
 put-formed-requires-2 : tie.Need-put-formed-requires-2 invariant-loop decreases-loop
 put-formed-requires-2 c κs =
@@ -46,7 +46,7 @@ put-formed-requires-2 c κs =
     let l = c.before.before.before.before.before.before.before.before.before.before.before.loop in
     let t = c.before.before.before.before.before.before.before.before.before.before.loop-test.true in
     let e = c.before.before.put-formed.ensures in
-    two-room room (two-put _ _ room l.invariant.1 (omega (arith, t)) _ (source-at room l.invariant.1 l.j (omega arith) (omega (arith, t))) c.before.before.before.before.before.two-prints.ensures.0 e.0 e.1.0 e.1.1) t
+    two_room room (two_put _ _ room l.invariant.1 (omega (arith, t)) _ (source_at room l.invariant.1 l.j (omega arith) (omega (arith, t))) c.before.before.before.before.before.two-prints.ensures.0 e.0 e.1.0 e.1.1) t
 
 loop-again : tie.Need-loop-preserved invariant-loop decreases-loop
 loop-again c =
@@ -57,15 +57,15 @@ loop-again c =
     let e = c.before.before.before.put-formed.ensures in
     let f = c.put-formed2.ensures in
     let two : l.j + 1 + 1 ≡ l.j + 2 = omega arith in
-    let w = two-put _ _ room l.invariant.1 (omega (arith, t)) _ (source-at room l.invariant.1 l.j (omega arith) (omega (arith, t))) a.0 e.0 e.1.0 e.1.1 in (
+    let w = two_put _ _ room l.invariant.1 (omega (arith, t)) _ (source_at room l.invariant.1 l.j (omega arith) (omega (arith, t))) a.0 e.0 e.1.0 e.1.1 in (
       omega (arith, t),
-      rw (← two) (two-put _ _ room w t _ (source-at room l.invariant.1 (l.j + 1) (omega arith) t) a.1.0 f.0 f.1.0 f.1.1),
+      rw (← two) (two_put _ _ room w t _ (source_at room l.invariant.1 (l.j + 1) (omega arith) t) a.1.0 f.0 f.1.0 f.1.1),
       a.1.1.0,
       a.1.1.1,
     )
 
 returns : tie.Need-returns invariant-loop decreases-loop
-returns c = let l = c.before.before.loop in (two-all c.before.before.before.requires.1.1.0 l.invariant.1 (omega (arith, c.if1.true)) l.invariant.0, (l.invariant.2, l.invariant.3))
+returns c = let l = c.before.before.loop in (two_all c.before.before.before.requires.1.1.0 l.invariant.1 (omega (arith, c.if1.true)) l.invariant.0, (l.invariant.2, l.invariant.3))
 
 two-prints-requires-2 : tie.Need-two-prints-requires-2 invariant-loop decreases-loop
 two-prints-requires-2 c κs =
@@ -75,20 +75,20 @@ two-prints-requires-2 c κs =
     (p.0, ((v, v), (p.1.0, (l.invariant.2, l.invariant.3))))
 
 put-formed-requires-3 : tie.Need-put-formed-requires-3 invariant-loop decreases-loop
-put-formed-requires-3 c κs = two-room c.before.before.before.before.before.before.before.before.before.requires.1.1.0 c.before.before.before.before.before.before.before.before.loop.invariant.1 (omega (arith, c.before.before.before.before.before.before.if1.false))
+put-formed-requires-3 c κs = two_room c.before.before.before.before.before.before.before.before.before.requires.1.1.0 c.before.before.before.before.before.before.before.before.loop.invariant.1 (omega (arith, c.before.before.before.before.before.before.if1.false))
 
-returns-2 : tie.Need-returns-2 invariant-loop decreases-loop
-returns-2 c =
+returns_2 : tie.Need-returns-2 invariant-loop decreases-loop
+returns_2 c =
     let room = c.before.before.before.before.before.before.before.before.before.before.requires.1.1.0 in
     let l = c.before.before.before.before.before.before.before.before.before.loop in
     let t = c.before.before.before.before.before.before.before.if1.false in
     let a = c.before.before.before.two-prints2.ensures in
     let e = c.put-formed3.ensures in
-    let w = two-put _ _ room l.invariant.1 (omega (arith, t)) _ (source-at room l.invariant.1 l.j (omega arith) (omega (arith, t))) a.0 e.0 e.1.0 e.1.1 in
-    (two-all room w (omega (arith, c.before.before.before.before.before.before.before.before.loop-test.false)) (omega (arith, t)), a.1.1)
+    let w = two_put _ _ room l.invariant.1 (omega (arith, t)) _ (source_at room l.invariant.1 l.j (omega arith) (omega (arith, t))) a.0 e.0 e.1.0 e.1.1 in
+    (two_all room w (omega (arith, c.before.before.before.before.before.before.before.before.loop-test.false)) (omega (arith, t)), a.1.1)
 
-pub fitting-spec : {M : Type 1} → statement M
-fitting-spec =
+pub fitting_spec : {M : Type 1} → statement M
+fitting_spec =
     tie.close
     (tie.spec
     invariant-loop
@@ -97,9 +97,9 @@ fitting-spec =
     (λ c. omega (arith, c.loop.invariant.0, c.before.requires.1.1.0.few))
     (λ c. omega (arith, c.loop-test.true, c.before.before.requires.1.1.0.few))
     (λ c. search rules)
-    (λ c. omega (arith, c.loop-test.true, c.before.before.requires.1.1.0.few, c.before.loop.invariant.1.gates.long, c.before.before.requires.1.1.0.long-gates))
+    (λ c. omega (arith, c.loop-test.true, c.before.before.requires.1.1.0.few, c.before.loop.invariant.1.gates.long, c.before.before.requires.1.1.0.long_gates))
     (λ c. search rules)
-    (λ c. omega (arith, c.before.loop-test.true, c.before.before.before.requires.1.1.0.few, c.before.before.loop.invariant.1.gates.long, c.before.before.before.requires.1.1.0.long-gates))
+    (λ c. omega (arith, c.before.loop-test.true, c.before.before.before.requires.1.1.0.few, c.before.before.loop.invariant.1.gates.long, c.before.before.before.requires.1.1.0.long_gates))
     two-prints-requires
     put-formed-requires
     put-formed-requires-2
@@ -108,7 +108,7 @@ fitting-spec =
     loop-again
     returns
     (λ c. search rules)
-    (λ c. omega (arith, c.if1.false, c.before.before.before.requires.1.1.0.few, c.before.before.loop.invariant.1.gates.long, c.before.before.before.requires.1.1.0.long-gates))
+    (λ c. omega (arith, c.if1.false, c.before.before.before.requires.1.1.0.few, c.before.before.loop.invariant.1.gates.long, c.before.before.before.requires.1.1.0.long_gates))
     two-prints-requires-2
     put-formed-requires-3
-    returns-2)
+    returns_2)

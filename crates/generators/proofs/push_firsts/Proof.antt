@@ -4,7 +4,7 @@ use Prim.Native.Nat.{◌≤◌, ◌-◌}
 use native.Mathlib.Omega.{arith}
 use borrow.Author.Rules.{rules}
 use Rattle.generators.specs.Generators.{most, seconds}
-use Rattle.generators.proofs.Fills.{Filled, filled_none, filled_more, filled-room, filled-end}
+use Rattle.generators.proofs.Fills.{Filled, filled_none, filled_more, filled_room, filled_end}
 use Rattle.generators.proofs.push_firsts.Statement.{statement}
 use Rattle.generators.proofs.push_firsts.Tie as tie
 
@@ -22,16 +22,16 @@ push-seconds-requires c κs =
     let l = c.before.before in
     let p = l.before.requires in
     let t = c.before.loop-test.true in
-    (p.0, p.1, t, filled-room l.before.args.n most l.loop.invariant.1 t p.2)
+    (p.0, p.1, t, filled_room l.before.args.n most l.loop.invariant.1 t p.2)
 
 loop-again : tie.Need-loop-preserved invariant-loop decreases-loop
 loop-again c = (omega arith, filled_more c.before.before.before.loop.invariant.1 c.push-seconds.ensures.0 c.push-seconds.ensures.1)
 
 returns : tie.Need-returns invariant-loop decreases-loop
 returns c =
-    let f = filled-end c.before.before.args.n c.before.loop.invariant.1 (omega arith) in
+    let f = filled_end c.before.before.args.n c.before.loop.invariant.1 (omega arith) in
     (f.next, f.written)
 
-pub push-firsts-spec : {M : Type 1} → statement M
-push-firsts-spec =
+pub push_firsts_spec : {M : Type 1} → statement M
+push_firsts_spec =
     tie.close (tie.spec invariant-loop decreases-loop loop-holds push-seconds-requires (λ c. search rules) (λ c. search rules) loop-again returns)

@@ -5,7 +5,7 @@ use native.Mathlib.Omega.{arith}
 use borrow.Author.Rules.{rules}
 use Rattle.circuit.specs.Codes.{code_of}
 use Rattle.generators.specs.Generators.{most, kept}
-use Rattle.generators.proofs.Fills.{Filled, filled_none, filled_more, filled-room, filled-end}
+use Rattle.generators.proofs.Fills.{Filled, filled_none, filled_more, filled_room, filled_end}
 use Rattle.generators.proofs.push_thirds.Statement.{statement}
 use Rattle.generators.proofs.push_thirds.Tie as tie
 
@@ -23,7 +23,7 @@ push-valid-requires : tie.Need-push-valid-requires invariant-loop decreases-loop
 push-valid-requires c κs =
     let l = c.before.before.before in
     rw c.before.code_of_lem.ensures
-    (filled-room l.before.args.n most l.loop.invariant.1 c.before.before.loop-test.true l.before.requires.4)
+    (filled_room l.before.args.n most l.loop.invariant.1 c.before.before.loop-test.true l.before.requires.4)
 
 loop-again : tie.Need-loop-preserved invariant-loop decreases-loop
 loop-again c =
@@ -33,11 +33,11 @@ loop-again c =
 
 returns : tie.Need-returns invariant-loop decreases-loop
 returns c =
-    let f = filled-end c.before.before.args.n c.before.loop.invariant.1 (omega arith) in
+    let f = filled_end c.before.before.args.n c.before.loop.invariant.1 (omega arith) in
     (f.next, f.written)
 
-pub push-thirds-spec : {M : Type 1} → statement M
-push-thirds-spec =
+pub push_thirds_spec : {M : Type 1} → statement M
+push_thirds_spec =
     tie.close
     (tie.spec
     invariant-loop

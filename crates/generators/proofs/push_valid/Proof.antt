@@ -6,32 +6,32 @@ use Prim.Native.Nat.{◌+◌, ◌≤◌}
 use native.Mathlib.Omega.{arith}
 use borrow.Author.Rules.{rules}
 use borrow.Author.Tests.{not-true, not-false}
-use Rattle.circuit.specs.Codes.{validFor}
+use Rattle.circuit.specs.Codes.{valid_for}
 use Rattle.generators.specs.Generators.{most, kept}
 use Rattle.generators.proofs.push_valid.Statement.{statement}
 use Rattle.generators.proofs.push_valid.Tie as tie
 
-is-valid : (c : tie.Else1) → validFor c.before.before.args.n c.before.before.args.basis c.before.before.args.code ≡ true
-is-valid c = sym c.before.is-valid-for.ensures ∙ not-false _ c.if1.false
+is_valid : (c : tie.Else1) → valid_for c.before.before.args.n c.before.before.args.basis c.before.before.args.code ≡ true
+is_valid c = sym c.before.is-valid-for.ensures ∙ not-false _ c.if1.false
 
 returns : tie.Need-returns
 unfolding kept
 returns c =
     let s = c.before.before.args in
-    let e : validFor s.n s.basis s.code ≡ false = sym c.before.is-valid-for.ensures ∙ not-true _ c.if1.true in
+    let e : valid_for s.n s.basis s.code ≡ false = sym c.before.is-valid-for.ensures ∙ not-true _ c.if1.true in
     rw e (omega arith, refl)
 
 element-write-gates : tie.Need-element-write-gates
 unfolding kept
 element-write-gates c =
-    let h : c.before.before.args.count + 1 ≤ most = rw (is-valid c) at c.before.before.requires in
+    let h : c.before.before.args.count + 1 ≤ most = rw (is_valid c) at c.before.before.requires in
     omega arith
 
-returns-2 : tie.Need-returns-2
+returns_2 : tie.Need-returns-2
 unfolding kept
-returns-2 c = rw (is-valid c) (refl, refl)
+returns_2 c = rw (is_valid c) (refl, refl)
 
-pub push-valid-spec : {M : Type 1} → statement M
-push-valid-spec =
+pub push_valid_spec : {M : Type 1} → statement M
+push_valid_spec =
     tie.close
-    (tie.spec (λ c κs. search rules) returns (λ c. search rules) element-write-gates (λ c. search rules) returns-2)
+    (tie.spec (λ c κs. search rules) returns (λ c. search rules) element-write-gates (λ c. search rules) returns_2)

@@ -5,7 +5,7 @@ use borrow.Author.Rules.{rules}
 use mathlib.Core.Path.{refl, ◌∙◌}
 use mathlib.Core.Bool.{false}
 use Rattle.h_entries.specs.Sums.{Summed}
-use Rattle.h_entries.proofs.Runs.{summed-none, next_low, next-high, summed-more, summed-to}
+use Rattle.h_entries.proofs.Runs.{summed_none, next_low, next_high, summed_more, summed_to}
 use Rattle.h_entries.proofs.root_row.Statement.{statement}
 use Rattle.h_entries.proofs.root_row.Tie as tie
 
@@ -42,7 +42,7 @@ times-sqrt-2-requires-2 c κs =
     let g = c.before.before.before.before in
     let i = g.before.before.before.before.before.before in
     let p = i.before.before.requires.1 in
-    rw g.get2.ensures (next-high i.before.loop.invariant.1 p.0.0 i.loop-test.true p.1)
+    rw g.get2.ensures (next_high i.before.loop.invariant.1 p.0.0 i.loop-test.true p.1)
 
 loop-again : tie.Need-loop-preserved invariant-loop decreases-loop
 loop-again c =
@@ -50,21 +50,21 @@ loop-again c =
     let i = g.before.before.before.before.before.before in
     let s = i.before.before in (
       omega arith,
-      summed-more i.before.loop.invariant.1 s.requires.1.0.0 i.loop-test.true s.requires.0 s.requires.1.0.1
+      summed_more i.before.loop.invariant.1 s.requires.1.0.0 i.loop-test.true s.requires.0 s.requires.1.0.1
           (c.before.before.before.before.times-sqrt-2.ensures ∙ rw g.before.before.before.get.ensures refl) (c.before.times-sqrt-22.ensures ∙ rw g.get2.ensures refl)
           c.before.before.before.put-at.ensures c.put-at2.ensures,
     )
 
 returns : tie.Need-returns invariant-loop decreases-loop
-returns c = summed-to c.before.loop.invariant.1 c.before.loop.invariant.0 c.loop-test.false
+returns c = summed_to c.before.loop.invariant.1 c.before.loop.invariant.0 c.loop-test.false
 
-pub root-row-spec : {M : Type 1} → statement M
-root-row-spec =
+pub root_row_spec : {M : Type 1} → statement M
+root_row_spec =
     tie.close
     (tie.spec
     invariant-loop
     decreases-loop
-    (λ c. (search rules, summed-none _ _ _ _))
+    (λ c. (search rules, summed_none _ _ _ _))
     (λ c. search rules)
     get-requires
     (λ c. search rules)

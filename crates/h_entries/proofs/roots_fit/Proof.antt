@@ -7,10 +7,10 @@ use mathlib.Core.Path.{◌≡◌, refl, sym, ap, ◌∙◌}
 use mathlib.Core.Bool.{false}
 use Rattle.ints.proofs.Bools.{clash}
 use Rattle.cyclotomic.specs.Zomega.{Zω, fits, sqrt2}
-use Rattle.cyclotomic.proofs.Answers.{fits-small, small-fits}
+use Rattle.cyclotomic.proofs.Answers.{fits_small, small_fits}
 use Rattle.exact.specs.Places.{entry}
 use Rattle.h_entries.specs.Sums.{SumsFit}
-use Rattle.h_entries.proofs.Runs.{sums_none, sums-more, sums-to}
+use Rattle.h_entries.proofs.Runs.{sums_none, sums_more, sums_to}
 use Rattle.h_entries.proofs.roots_fit.Statement.{statement}
 use Rattle.h_entries.proofs.roots_fit.Tie as tie
 
@@ -35,7 +35,7 @@ get-requires c κs =
 returns : tie.Need-returns invariant-loop decreases-loop
 returns c = record {
   holds = λ h. clash h refl;
-  fails = λ h w. clash (small-fits _ (w.sum_fits c.before.before.before.before.before.loop.i c.before.before.before.before.loop-test.true)) (sym (first c.before) ∙ not-true _ c.if1.true);
+  fails = λ h w. clash (small_fits _ (w.sum_fits c.before.before.before.before.before.loop.i c.before.before.before.before.loop-test.true)) (sym (first c.before) ∙ not-true _ c.if1.true);
 }
 
 get-requires-2 : tie.Need-get-requires-2 invariant-loop decreases-loop
@@ -43,26 +43,26 @@ get-requires-2 c κs =
     let s = c.before.before.before.before.before.before.before in
     omega (arith, s.requires.0, s.requires.1)
 
-returns-2 : tie.Need-returns-2 invariant-loop decreases-loop
-returns-2 c = record {
+returns_2 : tie.Need-returns-2 invariant-loop decreases-loop
+returns_2 c = record {
   holds = λ h. clash h refl;
-  fails = λ h w. clash (small-fits _ (w.difference-fits c.before.before.before.before.before.before.before.before.before.loop.i c.before.before.before.before.before.before.before.before.loop-test.true)) (sym (second c.before) ∙ not-true _ c.if2.true);
+  fails = λ h w. clash (small_fits _ (w.difference_fits c.before.before.before.before.before.before.before.before.before.loop.i c.before.before.before.before.before.before.before.before.loop-test.true)) (sym (second c.before) ∙ not-true _ c.if2.true);
 }
 
 loop-again : tie.Need-loop-preserved invariant-loop decreases-loop
 loop-again c = (
   omega arith,
-  sums-more _ _ _ _ _ c.before.before.before.before.before.before.before.before.before.loop.invariant.1 (fits-small _ (sym (first c.before.before.before.before.before) ∙ not-false _ c.before.before.before.before.if1.false)) (fits-small _ (sym (second c.before) ∙ not-false _ c.if2.false)),
+  sums_more _ _ _ _ _ c.before.before.before.before.before.before.before.before.before.loop.invariant.1 (fits_small _ (sym (first c.before.before.before.before.before) ∙ not-false _ c.before.before.before.before.if1.false)) (fits_small _ (sym (second c.before) ∙ not-false _ c.if2.false)),
 )
 
-returns-3 : tie.Need-returns-3 invariant-loop decreases-loop
-returns-3 c = record {
-  holds = λ h. sums-to _ _ _ _ c.before.loop.invariant.1 c.before.loop.invariant.0 c.loop-test.false;
+returns_3 : tie.Need-returns-3 invariant-loop decreases-loop
+returns_3 c = record {
+  holds = λ h. sums_to _ _ _ _ c.before.loop.invariant.1 c.before.loop.invariant.0 c.loop-test.false;
   fails = λ h. clash refl h;
 }
 
-pub roots-fit-spec : {M : Type 1} → statement M
-roots-fit-spec =
+pub roots_fit_spec : {M : Type 1} → statement M
+roots_fit_spec =
     tie.close
     (tie.spec
     invariant-loop
@@ -75,8 +75,8 @@ roots-fit-spec =
     (λ c. search rules)
     get-requires-2
     (λ c κs. search rules)
-    returns-2
+    returns_2
     (λ c. search rules)
     (λ c. search rules)
     loop-again
-    returns-3)
+    returns_3)

@@ -9,7 +9,7 @@ use mir.Val.{to_z, of_z}
 use Rattle.coefficients.specs.Coefficients.{near}
 use Rattle.rows.specs.Work.{at}
 use Rattle.h_entries.specs.Sums.{SizesFit, Tells}
-use Rattle.h_entries.proofs.Runs.{sizes-none, sizes-more, sizes-to}
+use Rattle.h_entries.proofs.Runs.{sizes_none, sizes_more, sizes_to}
 use Rattle.h_entries.proofs.sizes_fit.Statement.{statement}
 use Rattle.h_entries.proofs.sizes_fit.Tie as tie
 
@@ -27,19 +27,19 @@ loop-again c =
     let x : to_z near (of_z near (at m (s.args.p + k.i))) ≡ at m (s.args.p + k.i) = search rules in
     let y : to_z near (of_z near (at m (s.args.q + k.i))) ≡ at m (s.args.q + k.i) = search rules in (
       omega arith,
-      sizes-more m s.args.p s.args.q k.over c.sizes-pass.result k.i k.invariant.1 (c.sizes-pass.ensures ∙ rw (x, y) refl),
+      sizes_more m s.args.p s.args.q k.over c.sizes-pass.result k.i k.invariant.1 (c.sizes-pass.ensures ∙ rw (x, y) refl),
     )
 
 returns : tie.Need-returns invariant-loop decreases-loop
-returns c = sizes-to c.before.loop.invariant.1 c.before.loop.invariant.0 c.loop-test.false
+returns c = sizes_to c.before.loop.invariant.1 c.before.loop.invariant.0 c.loop-test.false
 
-pub sizes-fit-spec : {M : Type 1} → statement M
-sizes-fit-spec =
+pub sizes_fit_spec : {M : Type 1} → statement M
+sizes_fit_spec =
     tie.close
     (tie.spec
     invariant-loop
     decreases-loop
-    (λ c. (search rules, sizes-none _ _ _))
+    (λ c. (search rules, sizes_none _ _ _))
     (λ c. search rules)
     (λ c. search rules)
     (λ c. search rules)

@@ -21,13 +21,13 @@ h-rows-requires c κs =
     let s = c.before.before.before.before in
     (s.requires.0, (s.requires.1, c.before.before.h-fits.ensures.holds (not-false _ c.before.if1.false)))
 
-returns-2 : tie.Need-returns-2
-returns-2 c = record {
+returns_2 : tie.Need-returns-2
+returns_2 c = record {
   long = c.h-rows.ensures.0;
   done = λ h. (c.h-rows.ensures.1.0, c.before.before.before.h-fits.ensures.holds (not-false _ c.before.before.if1.false));
   refused = λ h. clash refl h;
   kept = c.h-rows.ensures.1.1;
 }
 
-pub apply-h-left-spec : {M : Type 1} → statement M
-apply-h-left-spec = tie.close (tie.spec (λ c κs. search rules) returns h-rows-requires returns-2)
+pub apply_h_left_spec : {M : Type 1} → statement M
+apply_h_left_spec = tie.close (tie.spec (λ c κs. search rules) returns h-rows-requires returns_2)

@@ -4,7 +4,7 @@ use Prim.Native.Nat.{◌-◌, ◌^◌, ◌≤◌}
 use native.Mathlib.Omega.{arith}
 use borrow.Author.Rules.{rules}
 use mathlib.Core.Path.{◌∙◌}
-use Rattle.h_rows.proofs.HRows.{Halfway, half-start, row_next, row-worked, rows-worked}
+use Rattle.h_rows.proofs.HRows.{Halfway, half_start, row_next, row_worked, rows_worked}
 use Rattle.h_rows.proofs.controlled_h_rows.Statement.{statement}
 use Rattle.h_rows.proofs.controlled_h_rows.Tie as tie
 
@@ -26,23 +26,23 @@ loop-again : tie.Need-loop-preserved invariant-loop decreases-loop
 loop-again c =
     let k = c.before.before.before in
     let s = k.before.before.before in
-    (omega arith, row-worked s.args.control s.args.t s.requires.1.1.0 s.requires.1.0.1 k.before.before.dim.ensures k.before.mask.ensures k.loop.invariant.1 c.before.before.loop-test.true c.controlled-row-pair.ensures)
+    (omega arith, row_worked s.args.control s.args.t s.requires.1.1.0 s.requires.1.0.1 k.before.before.dim.ensures k.before.mask.ensures k.loop.invariant.1 c.before.before.loop-test.true c.controlled-row-pair.ensures)
 
 returns : tie.Need-returns invariant-loop decreases-loop
 returns c =
     let k = c.before in
     let s = k.before.before.before in
-    rows-worked s.args.control s.args.t s.requires.1.1.0 s.requires.1.0.1 k.before.before.dim.ensures k.before.mask.ensures k.loop.invariant.1 s.requires.0 c.loop-test.false
+    rows_worked s.args.control s.args.t s.requires.1.1.0 s.requires.1.0.1 k.before.before.dim.ensures k.before.mask.ensures k.loop.invariant.1 s.requires.0 c.loop-test.false
 
-pub controlled-h-rows-spec : {M : Type 1} → statement M
-controlled-h-rows-spec =
+pub controlled_h_rows_spec : {M : Type 1} → statement M
+controlled_h_rows_spec =
     tie.close
     (tie.spec
     invariant-loop
     decreases-loop
     (λ c κs. search rules)
     (λ c κs. search rules)
-    (λ c. (search rules, half-start _ _ _ _))
+    (λ c. (search rules, half_start _ _ _ _))
     controlled-row-pair-requires
     (λ c. search rules)
     (λ c. search rules)

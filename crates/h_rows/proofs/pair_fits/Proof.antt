@@ -6,7 +6,7 @@ use borrow.Author.Tests.{eq-eqb, ne_eqb}
 use mathlib.Core.Path.{refl}
 use lib.Bits.{bit_or}
 use Rattle.ints.proofs.Bools.{clash}
-use Rattle.h_rows.proofs.HRows.{Lie, pair-lies, pair-tells, all_have}
+use Rattle.h_rows.proofs.HRows.{Lie, pair_lies, pair_tells, all_have}
 use Rattle.h_rows.proofs.pair_fits.Statement.{statement}
 use Rattle.h_rows.proofs.pair_fits.Tie as tie
 
@@ -19,13 +19,13 @@ returns c = record {
 lies : (c : tie.After-dim) → Lie c.dim.result c.before.before.args.r (bit_or c.before.before.args.r c.before.before.args.bit)
 lies c =
     let p = c.before.before.requires in
-    pair-lies p.0 p.1 p.2 (ne_eqb _ _ c.before.if1.false) c.dim.ensures
+    pair_lies p.0 p.1 p.2 (ne_eqb _ _ c.before.if1.false) c.dim.ensures
 
-returns-2 : tie.Need-returns-2
-returns-2 c = pair-tells c.before.dim.ensures (ne_eqb _ _ c.before.before.if1.false) (all_have c.before.before.before.args.r) c.sizes-fit.ensures
+returns_2 : tie.Need-returns-2
+returns_2 c = pair_tells c.before.dim.ensures (ne_eqb _ _ c.before.before.if1.false) (all_have c.before.before.before.args.r) c.sizes-fit.ensures
 
-pub pair-fits-spec : {M : Type 1} → statement M
-pair-fits-spec =
+pub pair_fits_spec : {M : Type 1} → statement M
+pair_fits_spec =
     tie.close
     (tie.spec
     returns
@@ -36,4 +36,4 @@ pair-fits-spec =
     (λ c. omega (arith, lies c))
     (λ c. omega (arith, lies c))
     (λ c κs. omega (arith, lies c))
-    returns-2)
+    returns_2)

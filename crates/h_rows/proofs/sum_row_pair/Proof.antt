@@ -6,7 +6,7 @@ use borrow.Author.Tests.{eq-eqb, ne_eqb}
 use mathlib.Core.Path.{refl}
 use lib.Bits.{bit_or}
 use Rattle.ints.proofs.Bools.{clash}
-use Rattle.h_rows.proofs.HRows.{Lie, pair-lies, all_have}
+use Rattle.h_rows.proofs.HRows.{Lie, pair_lies, all_have}
 use Rattle.h_rows.proofs.sum_row_pair.Statement.{statement}
 use Rattle.h_rows.proofs.sum_row_pair.Tie as tie
 
@@ -16,20 +16,20 @@ returns c = record { pair = λ q. clash (eq-eqb _ _ c.if1.true) q; alone = λ q.
 lies : (c : tie.After-sum-row-arg) → Lie c.before.dim.result c.before.before.before.args.r (bit_or c.before.before.before.args.r c.before.before.before.args.bit)
 lies c =
     let p = c.before.before.before.requires.1.0 in
-    pair-lies p.0 p.1 p.2 (ne_eqb _ _ c.before.before.if1.false) c.before.dim.ensures
+    pair_lies p.0 p.1 p.2 (ne_eqb _ _ c.before.before.if1.false) c.before.dim.ensures
 
 sum-row-requires : tie.Need-sum-row-requires
 sum-row-requires c κs =
     let s = c.before.before.before in
     (s.requires.0, (lies c, rw c.before.dim.ensures (rw (all_have s.args.r) at (s.requires.1.1.pair (ne_eqb _ _ c.before.before.if1.false)))))
 
-returns-2 : tie.Need-returns-2
-returns-2 c = record {
+returns_2 : tie.Need-returns-2
+returns_2 c = record {
   pair = λ q. rw (all_have c.before.before.before.before.args.r) (rw c.before.before.dim.ensures at c.sum_row.ensures);
   alone = λ q. clash q (ne_eqb _ _ c.before.before.before.if1.false);
 }
 
-pub sum-row-pair-spec : {M : Type 1} → statement M
-sum-row-pair-spec =
+pub sum_row_pair_spec : {M : Type 1} → statement M
+sum_row_pair_spec =
     tie.close
-    (tie.spec returns (λ c κs. search rules) (λ c. omega (arith, lies c)) (λ c. omega (arith, lies c)) sum-row-requires returns-2)
+    (tie.spec returns (λ c κs. search rules) (λ c. omega (arith, lies c)) (λ c. omega (arith, lies c)) sum-row-requires returns_2)

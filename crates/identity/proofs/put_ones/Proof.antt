@@ -3,8 +3,8 @@ use Prim.Native.Nat.{◌+◌, ◌*◌, ◌^◌, ◌-◌, ◌<◌}
 use native.Mathlib.Nat.{mul-add}
 use native.Mathlib.Omega.{arith}
 use borrow.Author.Rules.{rules}
-use Rattle.places.proofs.Placed.{dim-le, place-fits}
-use Rattle.identity.proofs.Filling.{PlacesFilled, filled_none, filled_more, filled-end}
+use Rattle.places.proofs.Placed.{dim_le, place_fits}
+use Rattle.identity.proofs.Filling.{PlacesFilled, filled_none, filled_more, filled_end}
 use Rattle.identity.proofs.put_ones.Statement.{statement}
 use Rattle.identity.proofs.put_ones.Tie as tie
 
@@ -23,10 +23,10 @@ row c = omega (arith, c.before.before.dim.ensures)
 inside : (c : tie.In-loop invariant-loop decreases-loop) → c.before.loop.i * (c.before.before.dim.result + 1) < 1024
 inside c =
     rw c.before.before.dim.ensures
-    (omega (arith, mul-add c.before.loop.i (2 ^ c.before.before.before.args.n) 1, place-fits _ _ _ c.before.before.before.requires.0 (row c) (row c)))
+    (omega (arith, mul-add c.before.loop.i (2 ^ c.before.before.before.args.n) 1, place_fits _ _ _ c.before.before.before.requires.0 (row c) (row c)))
 
 add-put-at : tie.Need-overflow-add-put-at invariant-loop decreases-loop
-add-put-at c = omega (arith, c.before.before.before.dim.ensures, dim-le _ c.before.before.before.before.requires.0)
+add-put-at c = omega (arith, c.before.before.before.dim.ensures, dim_le _ c.before.before.before.before.requires.0)
 
 mul-put-at : tie.Need-overflow-mul-put-at invariant-loop decreases-loop
 mul-put-at c = omega (arith, inside c.before)
@@ -39,10 +39,10 @@ loop-again c =
     (omega (arith, mul-add c.before.before.before.before.loop.i (2 ^ c.before.before.before.before.before.before.args.n) 1)))
 
 returns : tie.Need-returns invariant-loop decreases-loop
-returns c = (filled-end _ _ c.before.loop.invariant (omega (arith, c.before.before.dim.ensures)), c.before.loop.invariant.kept)
+returns c = (filled_end _ _ c.before.loop.invariant (omega (arith, c.before.before.dim.ensures)), c.before.loop.invariant.kept)
 
-pub put-ones-spec : {M : Type 1} → statement M
-put-ones-spec =
+pub put_ones_spec : {M : Type 1} → statement M
+put_ones_spec =
     tie.close
     (tie.spec
     invariant-loop

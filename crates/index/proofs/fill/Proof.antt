@@ -6,7 +6,7 @@ use native.Mathlib.Omega.{arith}
 use lib.ListN.{length, length-replicate}
 use borrow.Author.Rules.{rules}
 use Rattle.walk.specs.Index.{filled}
-use Rattle.walk.proofs.Inserting.{filled-length}
+use Rattle.walk.proofs.Inserting.{filled_length}
 use Rattle.index.proofs.Steps.{fill_start, fill_more}
 use Rattle.index.proofs.fill.Statement.{statement}
 use Rattle.index.proofs.fill.Tie as tie
@@ -34,7 +34,7 @@ loop-again c = (
 )
 
 same_length : tie.Need-same-length invariant-loop decreases-loop
-same_length c = ap length c.before.loop.invariant.1 ∙ filled-length _ _ _ ∙ same c.before
+same_length c = ap length c.before.loop.invariant.1 ∙ filled_length _ _ _ ∙ same c.before
 
 returns : tie.Need-returns invariant-loop decreases-loop
 returns c =

@@ -10,8 +10,8 @@ use Rattle.index.proofs.next_place.Tie as tie
 returns : tie.Need-returns
 returns c = sym (ap (λ (x : ℕ). x % c.before.args.size) c.if1.true ∙ mod_self c.before.args.size)
 
-returns-2 : tie.Need-returns-2
-returns-2 c = sym (mod-eq_of_lt (omega (arith, c.before.requires, c.if1.false)))
+returns_2 : tie.Need-returns-2
+returns_2 c = sym (mod-eq_of_lt (omega (arith, c.before.requires, c.if1.false)))
 
-pub next-place-spec : {M : Type 1} → statement M
-next-place-spec = tie.close (tie.spec (λ c. search rules) returns returns-2)
+pub next_place_spec : {M : Type 1} → statement M
+next_place_spec = tie.close (tie.spec (λ c. search rules) returns returns_2)

@@ -19,8 +19,8 @@ slice-aggregate-lines-3 c = sym (length-replicate {0} {A = ℕ} 100000 0)
 slice-aggregate-lines-4 : tie.Need-slice-aggregate-lines-4
 slice-aggregate-lines-4 c = sym (length-replicate {0} {A = ℕ} 524288 0)
 
-pub answer-spec : {M : Type 1} → statement M
-answer-spec =
+pub answer_spec : {M : Type 1} → statement M
+answer_spec =
     tie.close
     (tie.spec
     (λ c κs. search rules)

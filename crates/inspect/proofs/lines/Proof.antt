@@ -48,8 +48,8 @@ loop-again c =
 slice-aggregate-write-all : tie.Need-slice-aggregate-write-all invariant-loop decreases-loop
 slice-aggregate-write-all c = sym (length-take-le c.before.before.loop.filled c.before.before.loop.out (search rules))
 
-pub lines-spec : {M : Type 1} → statement M
-lines-spec =
+pub lines_spec : {M : Type 1} → statement M
+lines_spec =
     tie.close
     (tie.spec
     invariant-loop

@@ -11,8 +11,8 @@ slice-aggregate-ask c =
     let s = c.before.before.before.before.before.before.before.before.before.before.before.before.before in
     sym (length-take-le n.result s.args.index.now n.ensures)
 
-pub put-asked-spec : {M : Type 1} → statement M
-put-asked-spec =
+pub put_asked_spec : {M : Type 1} → statement M
+put_asked_spec =
     tie.close
     (tie.spec
     (λ c. search rules)

@@ -12,8 +12,8 @@ slice-aggregate-put-circuit c = sym (length-take-le c.before.before.before.befor
 put-circuit-requires : tie.Need-put-circuit-requires
 put-circuit-requires c κs = (omega (arith, c.before.before.before.before.before.before.before.before.requires.0), omega (arith, slice-aggregate-put-circuit c, c.before.before.before.before.before.before.before.before.requires.1, c.before.before.if1.false))
 
-pub put-written-spec : {M : Type 1} → statement M
-put-written-spec =
+pub put_written_spec : {M : Type 1} → statement M
+put_written_spec =
     tie.close
     (tie.spec
     (λ c. search rules)

@@ -11,8 +11,8 @@ slice-aggregate-fill-index c =
     let s = c.before.before.before.before.before.before in
     sym (length-take-le n.result s.args.index.now n.ensures)
 
-pub fill-from-spec : {M : Type 1} → statement M
-fill-from-spec =
+pub fill_from_spec : {M : Type 1} → statement M
+fill_from_spec =
     tie.close
     (tie.spec
     (λ c κs. search rules)

@@ -12,8 +12,8 @@ invariant-loop start end index out₀ filled p₀ i₀ out p i = (p ≤ 65536) �
 abbrev decreases-loop : tie.decreases-loop
 decreases-loop start end index out₀ filled p₀ i₀ out p i = end - i
 
-pub put-part-spec : {M : Type 1} → statement M
-put-part-spec =
+pub put_part_spec : {M : Type 1} → statement M
+put_part_spec =
     tie.close
     (tie.spec
     invariant-loop

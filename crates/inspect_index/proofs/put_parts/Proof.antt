@@ -12,8 +12,8 @@ invariant-loop widths size index out₀ filled p₀ w₀ out p w = (p ≤ 65536)
 abbrev decreases-loop : tie.decreases-loop
 decreases-loop widths size index out₀ filled p₀ w₀ out p w = widths - w
 
-pub put-parts-spec : {M : Type 1} → statement M
-put-parts-spec =
+pub put_parts_spec : {M : Type 1} → statement M
+put_parts_spec =
     tie.close
     (tie.spec
     invariant-loop

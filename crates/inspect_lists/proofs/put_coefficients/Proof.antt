@@ -12,8 +12,8 @@ invariant-loop coefficients out₀ at p₀ i₀ out p i = (i ≤ length coeffici
 abbrev decreases-loop : tie.decreases-loop
 decreases-loop coefficients out₀ at p₀ i₀ out p i = length coefficients - i
 
-pub put-coefficients-spec : {M : Type 1} → statement M
-put-coefficients-spec =
+pub put_coefficients_spec : {M : Type 1} → statement M
+put_coefficients_spec =
     tie.close
     (tie.spec
     invariant-loop

@@ -25,8 +25,8 @@ slice-aggregate-put-matrix c = sym (ap length (take_at c.before.before.before.be
 put-matrix-requires : tie.Need-put-matrix-requires
 put-matrix-requires c κs = (omega (arith, c.before.before.before.before.before.before.before.before.before.before.before.before.requires), omega (arith, slice-aggregate-put-matrix c.before, c.before.before.before.before.before.before.before.before.coefficient-count.ensures.1))
 
-pub put-list-spec : {M : Type 1} → statement M
-put-list-spec =
+pub put_list_spec : {M : Type 1} → statement M
+put_list_spec =
     tie.close
     (tie.spec
     (λ c κs. search rules)

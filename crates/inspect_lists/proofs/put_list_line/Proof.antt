@@ -15,8 +15,8 @@ part-put-list-start c = omega (arith, c.before.before.before.before.before.read-
 part-put-list-end : tie.Need-slice-bounds-put-list-end
 part-put-list-end c = omega (arith, c.before.before.before.before.before.read-query.ensures.within, ap end_of c.before.before.width.given.1)
 
-pub put-list-line-spec : {M : Type 1} → statement M
-put-list-line-spec =
+pub put_list_line_spec : {M : Type 1} → statement M
+put_list_line_spec =
     tie.close
     (tie.spec
     (λ c. search rules)

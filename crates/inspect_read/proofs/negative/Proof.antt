@@ -16,8 +16,8 @@ one_less (suc m) h = record { sfits = omega arith }
 sub-t5 : tie.Need-overflow-sub-t5
 sub-t5 c = rw (to_z_pos near {n = c.before.before.args.n - 1} (omega arith)) (one_less (c.before.before.args.n - 1) (omega arith))
 
-pub negative-spec : {M : Type 1} → statement M
-negative-spec =
+pub negative_spec : {M : Type 1} → statement M
+negative_spec =
     tie.close
     (tie.spec
     (λ c. search rules)

@@ -22,8 +22,8 @@ loop-again c =
       rw length-set l.invariant.2,
     )
 
-pub read-coefficients-spec : {M : Type 1} → statement M
-read-coefficients-spec =
+pub read_coefficients_spec : {M : Type 1} → statement M
+read_coefficients_spec =
     tie.close
     (tie.spec
     invariant-loop

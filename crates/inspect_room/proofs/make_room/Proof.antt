@@ -10,6 +10,6 @@ slice-aggregate-write-all c =
     let s = c.before.before.before in
     sym (length-take-le s.args.filled s.args.out.now s.requires)
 
-pub make-room-spec : {M : Type 1} → statement M
-make-room-spec =
+pub make_room_spec : {M : Type 1} → statement M
+make_room_spec =
     tie.close (tie.spec (λ c. search rules) slice-aggregate-write-all (λ c κs. search rules) (λ c. search rules))

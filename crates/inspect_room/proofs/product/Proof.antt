@@ -13,5 +13,5 @@ mul-result c =
     let b : c.args.b ≤ 4294967295 = omega arith in
     record { fits = lt_of_le_of_lt (mul-le-mul a b) (lit< tt) }
 
-pub product-spec : {M : Type 1} → statement M
-product-spec = tie.close (tie.spec mul-result (λ c. search rules))
+pub product_spec : {M : Type 1} → statement M
+product_spec = tie.close (tie.spec mul-result (λ c. search rules))

@@ -11,8 +11,8 @@ slice-aggregate-build-by c =
     let s = c.before.before.before.before.before.before.before.before.before.before.before in
     sym (length-take-le n.result s.args.index.now n.ensures)
 
-pub build-spec : {M : Type 1} → statement M
-build-spec =
+pub build_spec : {M : Type 1} → statement M
+build_spec =
     tie.close
     (tie.spec
     (λ c κs. search rules)

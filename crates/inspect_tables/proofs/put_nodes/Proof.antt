@@ -12,8 +12,8 @@ invariant-loop start end fingerprints parents codes out₀ filled p₀ i₀ out 
 abbrev decreases-loop : tie.decreases-loop
 decreases-loop start end fingerprints parents codes out₀ filled p₀ i₀ out p i = end - i
 
-pub put-nodes-spec : {M : Type 1} → statement M
-put-nodes-spec =
+pub put_nodes_spec : {M : Type 1} → statement M
+put_nodes_spec =
     tie.close
     (tie.spec
     invariant-loop

@@ -12,8 +12,8 @@ invariant-loop fingerprints parents codes out₀ filled t q p₀ w₀ out p w = 
 abbrev decreases-loop : tie.decreases-loop
 decreases-loop fingerprints parents codes out₀ filled t q p₀ w₀ out p w = q - w
 
-pub put-widths-spec : {M : Type 1} → statement M
-put-widths-spec =
+pub put_widths_spec : {M : Type 1} → statement M
+put_widths_spec =
     tie.close
     (tie.spec
     invariant-loop

@@ -4,17 +4,17 @@ use mathlib.Core.Path.{refl, sym}
 use borrow.Author.Rules.{rules}
 use Rattle.ints.specs.Lists.{all, range}
 use Rattle.kinds.specs.Kinds.{number, dual, kind_at}
-use Rattle.kinds.proofs.ByNumber.{from-twelve, in_table}
+use Rattle.kinds.proofs.ByNumber.{from_twelve, in_table}
 use Rattle.kinds.proofs.dual_kind.Statement.{statement}
 use Rattle.kinds.proofs.dual_kind.Tie as tie
 
 returns : tie.Need-returns
 unfolding number dual kind_at all range
-returns c = sym (from-twelve (λ k. number (dual k)) 7 refl refl c.before.args.kind c.if1.true)
+returns c = sym (from_twelve (λ k. number (dual k)) 7 refl refl c.before.args.kind c.if1.true)
 
-returns-2 : tie.Need-returns-2
+returns_2 : tie.Need-returns-2
 unfolding number dual
-returns-2 c = in_table (λ k. number (dual k)) c.before.args.kind (omega arith)
+returns_2 c = in_table (λ k. number (dual k)) c.before.args.kind (omega arith)
 
-pub dual-kind-spec : {M : Type 1} → statement M
-dual-kind-spec = tie.close (tie.spec returns (λ c. search rules) (λ c. search rules) returns-2)
+pub dual_kind_spec : {M : Type 1} → statement M
+dual_kind_spec = tie.close (tie.spec returns (λ c. search rules) (λ c. search rules) returns_2)

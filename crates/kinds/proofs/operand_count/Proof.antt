@@ -6,9 +6,9 @@ use Rattle.kinds.proofs.ByNumber.{in_table}
 use Rattle.kinds.proofs.operand_count.Statement.{statement}
 use Rattle.kinds.proofs.operand_count.Tie as tie
 
-returns-2 : tie.Need-returns-2
+returns_2 : tie.Need-returns-2
 unfolding arity
-returns-2 c = in_table arity c.before.args.kind (omega arith)
+returns_2 c = in_table arity c.before.args.kind (omega arith)
 
-pub operand-count-spec : {M : Type 1} → statement M
-operand-count-spec = tie.close (tie.spec (λ c κs. search rules) (λ c. c.more-operands.ensures) (λ c. search rules) (λ c. search rules) returns-2)
+pub operand_count_spec : {M : Type 1} → statement M
+operand_count_spec = tie.close (tie.spec (λ c κs. search rules) (λ c. c.more-operands.ensures) (λ c. search rules) (λ c. search rules) returns_2)

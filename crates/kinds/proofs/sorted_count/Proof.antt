@@ -4,17 +4,17 @@ use mathlib.Core.Path.{refl, sym}
 use borrow.Author.Rules.{rules}
 use Rattle.ints.specs.Lists.{all, range}
 use Rattle.kinds.specs.Kinds.{sorted, kind_at}
-use Rattle.kinds.proofs.ByNumber.{from-twelve, in_table}
+use Rattle.kinds.proofs.ByNumber.{from_twelve, in_table}
 use Rattle.kinds.proofs.sorted_count.Statement.{statement}
 use Rattle.kinds.proofs.sorted_count.Tie as tie
 
 returns : tie.Need-returns
 unfolding sorted kind_at all range
-returns c = sym (from-twelve sorted 0 refl refl c.before.args.kind c.if1.true)
+returns c = sym (from_twelve sorted 0 refl refl c.before.args.kind c.if1.true)
 
-returns-2 : tie.Need-returns-2
+returns_2 : tie.Need-returns-2
 unfolding sorted
-returns-2 c = in_table sorted c.before.args.kind (omega arith)
+returns_2 c = in_table sorted c.before.args.kind (omega arith)
 
-pub sorted-count-spec : {M : Type 1} → statement M
-sorted-count-spec = tie.close (tie.spec returns (λ c. search rules) (λ c. search rules) returns-2)
+pub sorted_count_spec : {M : Type 1} → statement M
+sorted_count_spec = tie.close (tie.spec returns (λ c. search rules) (λ c. search rules) returns_2)

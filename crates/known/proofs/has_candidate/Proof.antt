@@ -3,7 +3,7 @@ use mathlib.Core.Path.{◌∙◌, subst}
 use native.Mathlib.Omega.{arith}
 use borrow.Author.Rules.{rules}
 use Rattle.ints.proofs.Bools.{clash}
-use Rattle.places.proofs.Placed.{area-le}
+use Rattle.places.proofs.Placed.{area_le}
 use Rattle.node_matrix.specs.Matrices.{OnCopy}
 use Rattle.node_matrix.proofs.Prints.{copy_done}
 use Rattle.walk.specs.Modes.{keeping}
@@ -21,15 +21,15 @@ has-equal-requires : tie.Need-has-equal-requires
 has-equal-requires c κs =
     let p = c.before.before.before.before.before.before.before.before.before.before.before.before.before.requires in
     let w = copy_done _ _ _ _ c.before.before.before.before.k.given.1 c.before.before.before.before.before.before.apply-to-copy.ensures.0 in
-    (p.0, (p.1.0, (p.1.1.0, ((omega (arith, area-le _ p.0.0, w.1.long), w.1.small), p.1.1.1.1.1.1))))
+    (p.0, (p.1.0, (p.1.1.0, ((omega (arith, area_le _ p.0.0, w.1.long), w.1.small), p.1.1.1.1.1.1))))
 
-returns-2 : tie.Need-returns-2
-returns-2 c =
+returns_2 : tie.Need-returns-2
+returns_2 c =
     let w = copy_done _ _ _ _ c.before.before.before.before.before.k.given.1 c.before.before.before.before.before.before.before.apply-to-copy.ensures.0 in
     (c.has-Equal.ensures.0 ∙ known_alike _ _ _ w.1.equal keeping, (w.1.long, c.has-Equal.ensures.1))
 
-pub has-candidate-spec : {M : Type 1} → statement M
-has-candidate-spec =
+pub has_candidate_spec : {M : Type 1} → statement M
+has_candidate_spec =
     tie.close
     (tie.spec
     (λ c. search rules)
@@ -38,4 +38,4 @@ has-candidate-spec =
     (λ c. search rules)
     returns
     has-equal-requires
-    returns-2)
+    returns_2)

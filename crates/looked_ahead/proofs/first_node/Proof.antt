@@ -7,8 +7,8 @@ use Rattle.looked_ahead.proofs.first_node.Tie as tie
 returns : tie.Need-returns
 returns c = sym (c.before.before.before.requires.1.leads c.if1.true)
 
-pub first-node-spec : {M : Type 1} → statement M
-first-node-spec =
+pub first_node_spec : {M : Type 1} → statement M
+first_node_spec =
     tie.close
     (tie.spec
     returns

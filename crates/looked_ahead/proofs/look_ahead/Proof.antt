@@ -5,15 +5,15 @@ use Prim.Native.Nat.{◌-◌, ◌≤◌}
 use native.Mathlib.Omega.{arith}
 use lib.ListN.{length, take, length-set}
 use borrow.Author.Rules.{rules}
-use Rattle.index.specs.Told.{toldBy}
+use Rattle.index.specs.Told.{told_by}
 use Rattle.looked_ahead.specs.Ahead.{ahead_of}
-use Rattle.looked_ahead.proofs.Ahead.{mapped-more}
+use Rattle.looked_ahead.proofs.Ahead.{mapped_more}
 use Rattle.looked_ahead.proofs.look_ahead.Statement.{statement}
 use Rattle.looked_ahead.proofs.look_ahead.Tie as tie
 
 abbrev invariant-loop : tie.invariant-loop
 invariant-loop count size prints fingerprints index nodes₀ lookup j₀ nodes j =
-    (j ≤ size) × (take j nodes ≡ ahead_of (toldBy lookup) index fingerprints count (take j prints)) × (length nodes ≡ 105)
+    (j ≤ size) × (take j nodes ≡ ahead_of (told_by lookup) index fingerprints count (take j prints)) × (length nodes ≡ 105)
 
 abbrev decreases-loop : tie.decreases-loop
 decreases-loop count size prints fingerprints index nodes₀ lookup j₀ nodes j = size - j
@@ -24,7 +24,7 @@ loop-again c =
     let l = c.before.before.before.loop in
     let t = c.before.before.loop-test.true in (
       omega (arith, t),
-      mapped-more _ s.args.prints.now l.nodes l.j (omega (arith, t, s.requires.1.0, s.requires.1.1)) (omega (arith, t, s.requires.1.0, l.invariant.2)) c.node-ahead.ensures l.invariant.1,
+      mapped_more _ s.args.prints.now l.nodes l.j (omega (arith, t, s.requires.1.0, s.requires.1.1)) (omega (arith, t, s.requires.1.0, l.invariant.2)) c.node-ahead.ensures l.invariant.1,
       length-set l.nodes l.j _ ∙ l.invariant.2,
     )
 
@@ -34,8 +34,8 @@ returns c =
     let e : l.j ≡ c.before.before.before.before.args.size = omega (arith, c.loop-test.false, l.invariant.0) in
     record { is = rw (← e) l.invariant.1; long = l.invariant.2 }
 
-pub look-ahead-spec : {M : Type 1} → statement M
-look-ahead-spec =
+pub look_ahead_spec : {M : Type 1} → statement M
+look_ahead_spec =
     tie.close
     (tie.spec
     invariant-loop

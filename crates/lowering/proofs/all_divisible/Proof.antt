@@ -9,7 +9,7 @@ use borrow.Author.Rules.{rules}
 use borrow.Author.Tests.{not-true, not-false}
 use Rattle.cyclotomic.specs.Zomega.{divisible}
 use Rattle.exact.specs.Places.{entry}
-use Rattle.places.proofs.Placed.{divisible-yes, divisible-no}
+use Rattle.places.proofs.Placed.{divisible_yes, divisible_no}
 use Rattle.lowering.proofs.all_divisible.Statement.{statement}
 use Rattle.lowering.proofs.all_divisible.Tie as tie
 
@@ -26,23 +26,23 @@ inside : (c : tie.In-loop invariant-loop decreases-loop) → 4 * c.before.loop.e
 inside c = omega (arith, c.before.before.before.requires.1, c.before.before.area.ensures, c.loop-test.true)
 
 -- the test is the entry's
-test-is : (c : tie.After-divisible-by-sqrt-2 invariant-loop decreases-loop)
+test_is : (c : tie.After-divisible-by-sqrt-2 invariant-loop decreases-loop)
     → divisible (entry c.before.before.before.before.before.args.m.now c.before.before.before.loop.e) ≡ c.divisible-by-sqrt-2.result
-test-is c = ap divisible (sym c.before.get.ensures) ∙ sym c.divisible-by-sqrt-2.ensures
+test_is c = ap divisible (sym c.before.get.ensures) ∙ sym c.divisible-by-sqrt-2.ensures
 
 returns : tie.Need-returns invariant-loop decreases-loop
 returns c =
-    sym (divisible-no _ _ _ (omega (arith, c.before.before.before.before.before.area.ensures)) (test-is c.before ∙ not-true _ c.if1.true))
+    sym (divisible_no _ _ _ (omega (arith, c.before.before.before.before.before.area.ensures)) (test_is c.before ∙ not-true _ c.if1.true))
 
 loop-again : tie.Need-loop-preserved invariant-loop decreases-loop
 loop-again c =
-    (omega arith, below_more _ _ c.before.before.before.before.loop.invariant.1 (test-is c.before ∙ not-false _ c.if1.false))
+    (omega arith, below_more _ _ c.before.before.before.before.loop.invariant.1 (test_is c.before ∙ not-false _ c.if1.false))
 
-returns-2 : tie.Need-returns-2 invariant-loop decreases-loop
-returns-2 c = sym (divisible-yes _ _ (λ j h. c.before.loop.invariant.1 j (omega (arith, c.before.before.area.ensures))))
+returns_2 : tie.Need-returns-2 invariant-loop decreases-loop
+returns_2 c = sym (divisible_yes _ _ (λ j h. c.before.loop.invariant.1 j (omega (arith, c.before.before.area.ensures))))
 
-pub all-divisible-spec : {M : Type 1} → statement M
-all-divisible-spec =
+pub all_divisible_spec : {M : Type 1} → statement M
+all_divisible_spec =
     tie.close
     (tie.spec
     invariant-loop
@@ -55,4 +55,4 @@ all-divisible-spec =
     (λ c. omega (arith, inside c.before.before.before))
     (λ c. search rules)
     loop-again
-    returns-2)
+    returns_2)

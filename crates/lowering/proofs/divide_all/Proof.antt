@@ -3,12 +3,12 @@ use mathlib.Core.Path.{◌≡◌, ap, ◌∙◌}
 use Prim.Native.Nat.{◌-◌, ◌≤◌, ◌<◌}
 use native.Mathlib.Omega.{arith}
 use borrow.Author.Rules.{rules}
-use Rattle.cyclotomic.specs.Zomega.{overSqrt2}
+use Rattle.cyclotomic.specs.Zomega.{over_sqrt2}
 use Rattle.exact.specs.Places.{entry}
 use Rattle.lowering.specs.Lowered.{Divided}
-use Rattle.places.proofs.Placed.{area-le, small_at, kept-entries}
-use Rattle.exact.proofs.Phases.{flat-lt}
-use Rattle.lowering.proofs.Divided.{divided-none, divided-more}
+use Rattle.places.proofs.Placed.{area_le, small_at, kept_entries}
+use Rattle.exact.proofs.Phases.{flat_lt}
+use Rattle.lowering.proofs.Divided.{divided_none, divided_more}
 use Rattle.lowering.proofs.divide_all.Statement.{statement}
 use Rattle.lowering.proofs.divide_all.Tie as tie
 
@@ -19,10 +19,10 @@ abbrev decreases-loop : tie.decreases-loop
 decreases-loop m₀ n size e₀ m e = size - e
 
 loop-holds : tie.Need-loop-init invariant-loop decreases-loop
-loop-holds c = (search rules, divided-none _)
+loop-holds c = (search rules, divided_none _)
 
 inside : (c : tie.In-loop invariant-loop decreases-loop) → c.before.loop.e < 1024
-inside c = omega (arith, area-le _ c.before.before.before.requires.1.0, c.before.before.area.ensures)
+inside c = omega (arith, area_le _ c.before.before.before.requires.1.0, c.before.before.area.ensures)
 
 -- the entry that was read is the first array's
 read_is : (c : tie.After-get invariant-loop decreases-loop)
@@ -43,10 +43,10 @@ add-e c = omega (arith, inside c.before.before.before.before.before.before)
 loop-again : tie.Need-loop-preserved invariant-loop decreases-loop
 loop-again c = (
   omega arith,
-  divided-more _ _ c.before.before.before.before.before.before.before.loop.invariant.1
+  divided_more _ _ c.before.before.before.before.before.before.before.loop.invariant.1
       c.before.before.before.before.before.before.before.before.before.requires.0
       (inside c.before.before.before.before.before.before)
-      (c.before.divide-by-sqrt-2.ensures ∙ ap overSqrt2 (read_is c.before.before.before))
+      (c.before.divide-by-sqrt-2.ensures ∙ ap over_sqrt2 (read_is c.before.before.before))
       c.put-at.ensures,
 )
 
@@ -55,13 +55,13 @@ returns c =
     let w = c.before.loop.invariant.1 in (
       w.long ∙ c.before.before.before.requires.0,
       (
-        record { at = λ r k p q. w.divided _ (omega (arith, flat-lt c.before.before.before.args.n r k p q, c.before.before.area.ensures)) },
-        kept-entries _ (λ k h. w.other k (omega (arith, c.before.loop.invariant.0, c.before.before.area.ensures))),
+        record { at = λ r k p q. w.divided _ (omega (arith, flat_lt c.before.before.before.args.n r k p q, c.before.before.area.ensures)) },
+        kept_entries _ (λ k h. w.other k (omega (arith, c.before.loop.invariant.0, c.before.before.area.ensures))),
       ),
     )
 
-pub divide-all-spec : {M : Type 1} → statement M
-divide-all-spec =
+pub divide_all_spec : {M : Type 1} → statement M
+divide_all_spec =
     tie.close
     (tie.spec
     invariant-loop

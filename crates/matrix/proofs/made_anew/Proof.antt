@@ -7,8 +7,8 @@ use Rattle.matrix.proofs.made_anew.Tie as tie
 returns : tie.Need-returns
 returns c = sym c.before.answer.given.1
 
-returns-2 : tie.Need-returns-2
-returns-2 c = sym c.enum_told.given.1
+returns_2 : tie.Need-returns-2
+returns_2 c = sym c.enum_told.given.1
 
-pub made-anew-spec : {M : Type 1} → statement M
-made-anew-spec = tie.close (tie.spec (λ c. search rules) (λ c. search rules) returns returns-2)
+pub made_anew_spec : {M : Type 1} → statement M
+made_anew_spec = tie.close (tie.spec (λ c. search rules) (λ c. search rules) returns returns_2)

@@ -2,18 +2,18 @@
 use borrow.Author.Rules.{rules}
 use mathlib.Core.Path.{refl}
 use native.Mathlib.Omega.{arith}
-use Rattle.tables.specs.Tables.{countAt}
-use Rattle.murm_config.specs.Told.{toldConfig, toldMurm}
-use Rattle.murm_part.proofs.Parts.{PartBounds, counted-part, record-counted, room}
-use Rattle.murm.proofs.Asked.{told-as}
+use Rattle.tables.specs.Tables.{count_at}
+use Rattle.murm_config.specs.Told.{told_config, told_murm}
+use Rattle.murm_part.proofs.Parts.{PartBounds, counted_part, record_counted, room}
+use Rattle.murm.proofs.Asked.{told_as}
 use Prim.Native.Nat.{◌-◌, ◌*◌}
 use Rattle.murm.proofs.write_part.Statement.{statement}
 use Rattle.murm.proofs.write_part.Tie as tie
 
-sound : (c : tie.Start) → PartBounds (toldConfig c.args.table.config) c.args.width (countAt (toldMurm c.args.table) c.args.width)
+sound : (c : tie.Start) → PartBounds (told_config c.args.table.config) c.args.width (count_at (told_murm c.args.table) c.args.width)
 sound c =
-    let t = toldMurm c.args.table in
-    counted-part t.limits c.args.width (countAt t c.args.width) (record-counted t c.args.width c.requires.good refl) (omega (arith, c.requires.node))
+    let t = told_murm c.args.table in
+    counted_part t.limits c.args.width (count_at t c.args.width) (record_counted t c.args.width c.requires.good refl) (omega (arith, c.requires.node))
 
 sub-start : tie.Need-overflow-sub-start
 sub-start c = omega (arith, (sound c.before.before.before.before).some)
@@ -28,13 +28,13 @@ mul-circuit : tie.Need-overflow-mul-circuit
 mul-circuit c = record { fits = omega (arith, (sound c.before.before.before.before).start) }
 
 part-circuit-end : tie.Need-slice-bounds-circuit-end
-part-circuit-end c = (sound c.before.before.before.before).inside _ c.before.before.before.before.requires.in-parents
+part-circuit-end c = (sound c.before.before.before.before).inside _ c.before.before.before.before.requires.in_parents
 
 mul-circuit-2 : tie.Need-overflow-mul-circuit-2
 mul-circuit-2 c = record { fits = omega (arith, (sound c.before.before.before.before.before).start) }
 
 part-circuit-end-2 : tie.Need-slice-bounds-circuit-end-2
-part-circuit-end-2 c = (sound c.before.before.before.before.before).inside _ c.before.before.before.before.before.requires.in-codes
+part-circuit-end-2 c = (sound c.before.before.before.before.before).inside _ c.before.before.before.before.before.requires.in_codes
 
 circuit-requires : tie.Need-circuit-requires
 circuit-requires c κs =
@@ -43,25 +43,25 @@ circuit-requires c κs =
     let a = s.args in
     let E = a.table.config.max_entries_per_qubit in
     let at = (a.width - 1) * E in (
-      omega (arith, room at E (toldMurm a.table).limits.entries a.parents.now (p.inside _ s.requires.in-parents) (omega arith), p.few, s.requires.node),
-      omega (arith, room at E (toldMurm a.table).limits.entries a.codes.now (p.inside _ s.requires.in-codes) (omega arith), p.few, s.requires.node),
+      omega (arith, room at E (told_murm a.table).limits.entries a.parents.now (p.inside _ s.requires.in_parents) (omega arith), p.few, s.requires.node),
+      omega (arith, room at E (told_murm a.table).limits.entries a.codes.now (p.inside _ s.requires.in_codes) (omega arith), p.few, s.requires.node),
       s.requires.long,
     )
 
 returns : tie.Need-returns
 returns c =
     let a = c.before.before.before.before.before.before.before.before.before.before.before.before.before.before.args in
-    told-as a.width a.table.config.basis.0 a.table.config.max_gates ((a.width - 1) * a.table.config.max_entries_per_qubit)
+    told_as a.width a.table.config.basis.0 a.table.config.max_gates ((a.width - 1) * a.table.config.max_entries_per_qubit)
     a.table.config.max_entries_per_qubit a.node a.parents.now a.codes.now a.out.now c.before.size.given.1 c.before.before.before.before.before.circuit.ensures
 
-returns-2 : tie.Need-returns-2
-returns-2 c =
+returns_2 : tie.Need-returns-2
+returns_2 c =
     let a = c.before.before.before.before.before.before.before.before.before.before.before.before.before.args in
-    told-as a.width a.table.config.basis.0 a.table.config.max_gates ((a.width - 1) * a.table.config.max_entries_per_qubit)
+    told_as a.width a.table.config.basis.0 a.table.config.max_gates ((a.width - 1) * a.table.config.max_entries_per_qubit)
     a.table.config.max_entries_per_qubit a.node a.parents.now a.codes.now a.out.now c.enum_told.given.1 c.before.before.before.before.circuit.ensures
 
-pub write-part-spec : {M : Type 1} → statement M
-write-part-spec =
+pub write_part_spec : {M : Type 1} → statement M
+write_part_spec =
     tie.close
     (tie.spec
     (λ c. search rules)
@@ -83,4 +83,4 @@ write-part-spec =
     (λ c. search rules)
     returns
     (λ c. search rules)
-    returns-2)
+    returns_2)

@@ -9,8 +9,8 @@ use Rattle.murm_c.proofs.cap.Tie as tie
 returns : tie.Need-returns
 returns c = (rw (lt-ltb 4294967295 c.before.args.position c.if1.true), omega (arith))
 
-returns-2 : tie.Need-returns-2
-returns-2 c = (rw (le-ltb 4294967295 c.before.args.position (omega (arith, c.if1.false))), omega (arith, c.if1.false))
+returns_2 : tie.Need-returns-2
+returns_2 c = (rw (le-ltb 4294967295 c.before.args.position (omega (arith, c.if1.false))), omega (arith, c.if1.false))
 
-pub cap-spec : {M : Type 1} → statement M
-cap-spec = tie.close (tie.spec returns returns-2)
+pub cap_spec : {M : Type 1} → statement M
+cap_spec = tie.close (tie.spec returns returns_2)

@@ -11,5 +11,5 @@ add-result c = record { fits = omega (arith, c.before.before.number_of.ensures.1
 returns : tie.Need-returns
 returns c = refusal_is c.before.before.number_of.ensures.0 c.before.before.number_of.ensures.1.0 c.cap.ensures.0
 
-pub refusal-number-spec : {M : Type 1} → statement M
-refusal-number-spec = tie.close (tie.spec (λ c κs. search rules) (λ c. search rules) (λ c κs. search rules) add-result returns)
+pub refusal_number_spec : {M : Type 1} → statement M
+refusal_number_spec = tie.close (tie.spec (λ c κs. search rules) (λ c. search rules) (λ c κs. search rules) add-result returns)

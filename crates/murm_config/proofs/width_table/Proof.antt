@@ -11,5 +11,5 @@ rest c =
     let h = c.match.rest in
     other_width _ _ _ _ _ _ _ h.0.0.0.0.1 h.0.0.0.1 h.0.0.1 h.0.1 h.1
 
-pub width-table-spec : {M : Type 1} → statement M
-width-table-spec = tie.close (tie.spec returns (λ c. rw c.before.match.keys2) (λ c. rw c.before.match.keys3) (λ c. rw c.before.match.keys4) (λ c. rw c.before.match.keys5) rest)
+pub width_table_spec : {M : Type 1} → statement M
+width_table_spec = tie.close (tie.spec returns (λ c. rw c.before.match.keys2) (λ c. rw c.before.match.keys3) (λ c. rw c.before.match.keys4) (λ c. rw c.before.match.keys5) rest)

@@ -2,11 +2,11 @@
 use borrow.Author.Rules.{rules}
 use native.Mathlib.Omega.{arith}
 use Rattle.refusal.proofs.Numbers.{some}
-use Rattle.tables.specs.Tables.{lookRows}
-use Rattle.tables.proofs.Asked.{numbered-look}
-use Rattle.index.specs.Told.{toldBy}
-use Rattle.murm_config.specs.Told.{toldMurm}
-use Rattle.murm_limits.proofs.Asking.{later_rows, first-refuses}
+use Rattle.tables.specs.Tables.{look_rows}
+use Rattle.tables.proofs.Asked.{numbered_look}
+use Rattle.index.specs.Told.{told_by}
+use Rattle.murm_config.specs.Told.{told_murm}
+use Rattle.murm_limits.proofs.Asking.{later_rows, first_refuses}
 use Rattle.murm_find.proofs.check_find.Statement.{statement}
 use Rattle.murm_find.proofs.check_find.Tie as tie
 
@@ -14,24 +14,24 @@ returns : tie.Need-returns
 returns c =
     let a = c.before.before.before.before.args in
     record {
-      told = later_rows (lookRows (toldMurm a.table) (toldBy a.by) a.prints a.parents a.codes a.places) _
-          (numbered-look (toldMurm a.table) (toldBy a.by) a.prints a.parents a.codes a.places)
+      told = later_rows (look_rows (told_murm a.table) (told_by a.by) a.prints a.parents a.codes a.places) _
+          (numbered_look (told_murm a.table) (told_by a.by) a.prints a.parents a.codes a.places)
           c.before.before.before.check-look.ensures c.before.enum_told.given.1 c.check-query.ensures.told;
       small = c.check-query.ensures.small;
     }
 
-returns-2 : tie.Need-returns-2
-returns-2 c =
+returns_2 : tie.Need-returns-2
+returns_2 c =
     let a = c.before.before.before.before.args in
     record {
-      told = first-refuses (lookRows (toldMurm a.table) (toldBy a.by) a.prints a.parents a.codes a.places) _
-          (numbered-look (toldMurm a.table) (toldBy a.by) a.prints a.parents a.codes a.places)
+      told = first_refuses (look_rows (told_murm a.table) (told_by a.by) a.prints a.parents a.codes a.places) _
+          (numbered_look (told_murm a.table) (told_by a.by) a.prints a.parents a.codes a.places)
           c.before.before.before.check-look.ensures c.before.r.given.1;
       small = λ e. absurd (omega (arith, some c.before.r.given.0.0, e));
     }
 
-pub check-find-spec : {M : Type 1} → statement M
-check-find-spec =
+pub check_find_spec : {M : Type 1} → statement M
+check_find_spec =
     tie.close
     (tie.spec
     (λ c κs. search rules)
@@ -39,4 +39,4 @@ check-find-spec =
     (λ c κs. search rules)
     (λ c. search rules)
     returns
-    returns-2)
+    returns_2)

@@ -6,11 +6,11 @@ use Rattle.murm_limits.proofs.bad_count.Tie as tie
 returns : tie.Need-returns
 returns c = rw (lt-ltb _ _ c.if1.true)
 
-returns-2 : tie.Need-returns-2
-returns-2 c = rw (le-ltb _ _ c.before.if1.false, eq-eqb c.before.before.args.count 0 c.if2.true)
+returns_2 : tie.Need-returns-2
+returns_2 c = rw (le-ltb _ _ c.before.if1.false, eq-eqb c.before.before.args.count 0 c.if2.true)
 
-returns-3 : tie.Need-returns-3
-returns-3 c = rw (le-ltb _ _ c.before.if1.false, ne_eqb c.before.before.args.count 0 c.if2.false)
+returns_3 : tie.Need-returns-3
+returns_3 c = rw (le-ltb _ _ c.before.if1.false, ne_eqb c.before.before.args.count 0 c.if2.false)
 
-pub bad-count-spec : {M : Type 1} → statement M
-bad-count-spec = tie.close (tie.spec returns returns-2 returns-3)
+pub bad_count_spec : {M : Type 1} → statement M
+bad_count_spec = tie.close (tie.spec returns returns_2 returns_3)

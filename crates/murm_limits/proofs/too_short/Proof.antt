@@ -14,11 +14,11 @@ mul-size c =
 returns : tie.Need-returns
 returns c = rw (lt-ltb _ _ c.if1.true)
 
-returns-2 : tie.Need-returns-2
-returns-2 c = rw (le-ltb _ _ c.before.if1.false, lt-ltb _ _ c.if2.true)
+returns_2 : tie.Need-returns-2
+returns_2 c = rw (le-ltb _ _ c.before.if1.false, lt-ltb _ _ c.if2.true)
 
-returns-3 : tie.Need-returns-3
-returns-3 c = rw (le-ltb _ _ c.before.if1.false, le-ltb _ _ c.if2.false)
+returns_3 : tie.Need-returns-3
+returns_3 c = rw (le-ltb _ _ c.before.if1.false, le-ltb _ _ c.if2.false)
 
-pub too-short-spec : {M : Type 1} → statement M
-too-short-spec = tie.close (tie.spec (λ c. search rules) (λ c. search rules) mul-size returns returns-2 returns-3)
+pub too_short_spec : {M : Type 1} → statement M
+too_short_spec = tie.close (tie.spec (λ c. search rules) (λ c. search rules) mul-size returns returns_2 returns_3)

@@ -26,8 +26,8 @@ returns c =
     let l = c.before.loop in
     sym (take_all l.i _ (omega arith)) ∙ l.invariant.2 ∙ take_all l.i _ (omega arith)
 
-pub copy-places-spec : {M : Type 1} → statement M
-copy-places-spec =
+pub copy_places_spec : {M : Type 1} → statement M
+copy_places_spec =
     tie.close
     (tie.spec
     invariant-loop

@@ -4,10 +4,10 @@ use borrow.Author.Rules.{rules}
 use Prim.Native.Nat.{◌+◌, ◌-◌}
 use native.Mathlib.Omega.{arith}
 use mathlib.Core.Path.{◌≡◌, sym, subst}
-use Rattle.synthesis_arena.specs.Limits.{toldLimits}
-use Rattle.index.specs.Told.{toldBy}
+use Rattle.synthesis_arena.specs.Limits.{told_limits}
+use Rattle.index.specs.Told.{told_by}
 use Rattle.node_answer.specs.Answers.{AskedPlaces}
-use Rattle.murm_part.proofs.Parts.{room, whole, same-slices}
+use Rattle.murm_part.proofs.Parts.{room, whole, same_slices}
 use Rattle.murm_part.proofs.find_from.Statement.{statement}
 use Rattle.murm_part.proofs.find_from.Tie as tie
 
@@ -32,11 +32,11 @@ returns c =
     let a = c.before.before.before.before.before.before.before.before.before.before.before.before.before.before.before.args in
     let e : a.start + a.limits.entries - a.start ≡ a.limits.entries = omega arith in
     let h : a.place + a.size - a.place ≡ a.size = omega arith in
-    same-slices (toldLimits a.limits) a.limits.width a.exponent a.matrix.now (toldBy a.by) a.start a.limits.entries
+    same_slices (told_limits a.limits) a.limits.width a.exponent a.matrix.now (told_by a.by) a.start a.limits.entries
     a.place a.size a.fingerprints.now a.parents.now a.codes.now a.index.now e h c.before.before.find-width.ensures
 
-pub find-from-spec : {M : Type 1} → statement M
-find-from-spec =
+pub find_from_spec : {M : Type 1} → statement M
+find_from_spec =
     tie.close
     (tie.spec
     (λ c. search rules)

@@ -4,26 +4,26 @@ use Prim.Native.Nat.{◌+◌, ◌-◌, ◌*◌, ◌≤◌}
 use native.Mathlib.Omega.{arith}
 use lib.ListN.{length}
 use Rattle.tables.specs.Checks.{arrays}
-use Rattle.tables.specs.Tables.{partSize}
+use Rattle.tables.specs.Tables.{part_size}
 use Rattle.tables.proofs.Accepted.{roomy}
-use Rattle.tables.proofs.Indexes.{part-fits}
-use Rattle.murm_limits.specs.Told.{toldConfig}
-use Rattle.murm_query.proofs.Rows.{allowed-size}
-use Rattle.murm_part.proofs.Parts.{PartBounds, counted-part}
+use Rattle.tables.proofs.Indexes.{part_fits}
+use Rattle.murm_limits.specs.Told.{told_config}
+use Rattle.murm_query.proofs.Rows.{allowed_size}
+use Rattle.murm_part.proofs.Parts.{PartBounds, counted_part}
 use Rattle.murm_part.proofs.find_part.Statement.{statement}
 use Rattle.murm_part.proofs.find_part.Tie as tie
 
-sound : (c : tie.Start) → PartBounds (toldConfig c.args.config) c.args.width c.args.count
-sound c = counted-part (toldConfig c.args.config) c.args.width c.args.count c.requires.0.0 c.requires.0.1
+sound : (c : tie.Start) → PartBounds (told_config c.args.config) c.args.width c.args.count
+sound c = counted_part (told_config c.args.config) c.args.width c.args.count c.requires.0.0 c.requires.0.1
 
 -- the part of the index lies within it
-place-fits : (c : tie.Start) → (c.args.width - 1) * partSize (toldConfig c.args.config) (length c.args.index.now) + partSize (toldConfig c.args.config) (length c.args.index.now) ≤ length c.args.index.now
-place-fits c =
+place_fits : (c : tie.Start) → (c.args.width - 1) * part_size (told_config c.args.config) (length c.args.index.now) + part_size (told_config c.args.config) (length c.args.index.now) ≤ length c.args.index.now
+place_fits c =
     let p = sound c in
-    part-fits (toldConfig c.args.config) (length c.args.index.now) (c.args.width - 1) (omega (arith, p.some, p.has))
+    part_fits (told_config c.args.config) (length c.args.index.now) (c.args.width - 1) (omega (arith, p.some, p.has))
 
 div-size : tie.Need-nonzero-div-size
-div-size c = c.before.before.before.before.before.before.before.requires.0.0.good.some-width
+div-size c = c.before.before.before.before.before.before.before.requires.0.0.good.some_width
 
 sub-before : tie.Need-overflow-sub-before
 sub-before c = omega (arith, (sound c.before.before.before.before.before.before.before).some)
@@ -32,7 +32,7 @@ mul-find-from : tie.Need-overflow-mul-find-from
 mul-find-from c = record { fits = omega (arith, (sound c.before.before.before.before.before.before.before.before.before).start) }
 
 mul-find-from-2 : tie.Need-overflow-mul-find-from-2
-mul-find-from-2 c = record { fits = omega (arith, place-fits c.before.before.before.before.before.before.before.before.before, c.before.before.before.before.before.before.before.before.before.well-formed) }
+mul-find-from-2 c = record { fits = omega (arith, place_fits c.before.before.before.before.before.before.before.before.before, c.before.before.before.before.before.before.before.before.before.well-formed) }
 
 find-from-requires : tie.Need-find-from-requires
 find-from-requires c κs =
@@ -40,13 +40,13 @@ find-from-requires c κs =
     let a = s.args in
     let p = sound s in
     let q = s.requires.1.1 in
-    let r = roomy (toldConfig a.config) (arrays a.fingerprints.now a.parents.now a.codes.now) s.requires.1.0 in (
+    let r = roomy (told_config a.config) (arrays a.fingerprints.now a.parents.now a.codes.now) s.requires.1.0 in (
       (p.width, omega (arith, p.gates, q.2)),
       (
         (p.start, p.entries, p.few),
         (
-          (p.inside _ r.0, p.inside _ r.1, p.inside _ r.2, omega (arith, place-fits s)),
-          ((allowed-size a.width a.exponent a.matrix.now q.0).1, q.1),
+          (p.inside _ r.0, p.inside _ r.1, p.inside _ r.2, omega (arith, place_fits s)),
+          ((allowed_size a.width a.exponent a.matrix.now q.0).1, q.1),
         ),
       ),
     )
@@ -54,8 +54,8 @@ find-from-requires c κs =
 returns : tie.Need-returns
 returns c = c.before.before.find-from.ensures
 
-pub find-part-spec : {M : Type 1} → statement M
-find-part-spec =
+pub find_part_spec : {M : Type 1} → statement M
+find_part_spec =
     tie.close
     (tie.spec
     (λ c. search rules)

@@ -9,7 +9,7 @@ use mir.Val.{to_z, of_z, SFits}
 use mir.Facts.{to_z-of_z}
 use borrow.Author.Rules.{rules}
 use Rattle.coefficients.specs.Coefficients.{near}
-use Rattle.murm_query.proofs.Least.{LeastTo, least-none, least-taken, least_kept, least-end}
+use Rattle.murm_query.proofs.Least.{LeastTo, least_none, least_taken, least_kept, least_end}
 use Rattle.murm_query.proofs.in_range.Statement.{statement}
 use Rattle.murm_query.proofs.in_range.Tie as tie
 
@@ -27,20 +27,20 @@ loop-again c =
     let f : SFits near x = search rules in
     let same : to_z near (of_z near x) ≡ x = to_z-of_z f in
     ⊎_elim
-    (λ w. rw (w.1, same) (least-taken l.invariant t f (rw same at w.0.taken)))
+    (λ w. rw (w.1, same) (least_taken l.invariant t f (rw same at w.0.taken)))
     (λ w. rw w.1 (least_kept l.invariant t f (rw same at w.0.left)))
     c.if1.branch
 
 returns : tie.Need-returns invariant-loop decreases-loop
-returns c = least-end c.before.before.loop.invariant (omega (arith, c.before.loop-test.false)) c.past-limit.result c.past-limit.ensures
+returns c = least_end c.before.before.loop.invariant (omega (arith, c.before.loop-test.false)) c.past-limit.result c.past-limit.ensures
 
-pub in-range-spec : {M : Type 1} → statement M
-in-range-spec =
+pub in_range_spec : {M : Type 1} → statement M
+in_range_spec =
     tie.close
     (tie.spec
     invariant-loop
     decreases-loop
-    (λ c. least-none _)
+    (λ c. least_none _)
     (λ c. search rules)
     (λ c. search rules)
     (λ c. search rules)

@@ -8,8 +8,8 @@ use Rattle.murm_query.proofs.is_divisible.Tie as tie
 returns : tie.Need-returns
 returns c = rw c.if1.true
 
-returns-2 : tie.Need-returns-2
-returns-2 c = rw (lt-ltb 0 c.before.before.args.k (omega arith)) c.all-divisible.ensures
+returns_2 : tie.Need-returns-2
+returns_2 c = rw (lt-ltb 0 c.before.before.args.k (omega arith)) c.all-divisible.ensures
 
-pub is-divisible-spec : {M : Type 1} → statement M
-is-divisible-spec = tie.close (tie.spec returns (λ c κs. search rules) returns-2)
+pub is_divisible_spec : {M : Type 1} → statement M
+is_divisible_spec = tie.close (tie.spec returns (λ c κs. search rules) returns_2)

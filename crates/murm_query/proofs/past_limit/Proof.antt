@@ -14,5 +14,5 @@ cast-result c = rw (to_z-of_z c.ranges.x) (sfits_widen tt c.ranges.x)
 returns : tie.Need-returns
 returns c = rw (read_wide near far tt c.ranges.x) (past_is c.args.x c.ranges.x)
 
-pub past-limit-spec : {M : Type 1} → statement M
-past-limit-spec = tie.close (tie.spec cast-result (λ c. search rules) returns)
+pub past_limit_spec : {M : Type 1} → statement M
+past_limit_spec = tie.close (tie.spec cast-result (λ c. search rules) returns)

@@ -7,7 +7,7 @@ use lib.ListN.{take, drop}
 use borrow.Author.Rules.{rules}
 use borrow.Rule.Slice.PartMut.{mid_of}
 use Rattle.walk.specs.Index.{indexed, kept}
-use Rattle.width_part.proofs.Parts.{lent_length, part-back}
+use Rattle.width_part.proofs.Parts.{lent_length, part_back}
 use Rattle.murm_widths.proofs.fill_part.Statement.{statement}
 use Rattle.murm_widths.proofs.fill_part.Tie as tie
 
@@ -22,12 +22,12 @@ returns c =
     let a = c.before.before.before.before.before.before.before.args in
     let start = a.v * a.entries in
     let e : start + a.entries - start ≡ a.entries = omega arith in
-    part-back (a.v * a.size) a.size (kept indexed (take a.entries (drop start a.fingerprints.now)) a.count) a.index.now _
+    part_back (a.v * a.size) a.size (kept indexed (take a.entries (drop start a.fingerprints.now)) a.count) a.index.now _
     (c.before.before.fill.ensures
     ∙ ap (λ (k : ℕ). kept indexed (take k (drop start a.fingerprints.now)) a.count (mid_of (a.v * a.size) (a.v * a.size + a.size - a.v * a.size) a.index.now)) e)
 
-pub fill-part-spec : {M : Type 1} → statement M
-fill-part-spec =
+pub fill_part_spec : {M : Type 1} → statement M
+fill_part_spec =
     tie.close
     (tie.spec
     (λ c. search rules)

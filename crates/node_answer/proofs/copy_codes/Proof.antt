@@ -4,7 +4,7 @@ use Prim.Native.Nat.{◌-◌}
 use native.Mathlib.Omega.{arith}
 use lib.ListN.{length}
 use borrow.Author.Rules.{rules}
-use Rattle.node_answer.proofs.Copies.{CodesCopied, copied_none, copied_more, copied-end}
+use Rattle.node_answer.proofs.Copies.{CodesCopied, copied_none, copied_more, copied_end}
 use Rattle.node_answer.proofs.copy_codes.Statement.{statement}
 use Rattle.node_answer.proofs.copy_codes.Tie as tie
 
@@ -18,10 +18,10 @@ loop-again : tie.Need-loop-preserved invariant-loop decreases-loop
 loop-again c = copied_more c.before.before.loop.invariant c.before.loop-test.true
 
 returns : tie.Need-returns invariant-loop decreases-loop
-returns c = copied-end c.before.loop.invariant (omega (arith, c.loop-test.false))
+returns c = copied_end c.before.loop.invariant (omega (arith, c.loop-test.false))
 
-pub copy-codes-spec : {M : Type 1} → statement M
-copy-codes-spec =
+pub copy_codes_spec : {M : Type 1} → statement M
+copy_codes_spec =
     tie.close
     (tie.spec
     invariant-loop

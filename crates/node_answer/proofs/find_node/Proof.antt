@@ -2,7 +2,7 @@
 use mathlib.Core.Path.{sym, ◌∙◌}
 use borrow.Author.Rules.{rules}
 use borrow.Author.Tests.{not-true, not-false}
-use Rattle.node_answer.proofs.Noded.{ReadList, listed, node-bad, node-none, node-found}
+use Rattle.node_answer.proofs.Noded.{ReadList, listed, node_bad, node_none, node_found}
 use Rattle.node_answer.proofs.find_node.Statement.{statement}
 use Rattle.node_answer.proofs.find_node.Tie as tie
 
@@ -11,7 +11,7 @@ read : (c : tie.After-size) → let s = c.before.before.before.before.before.bef
 read c = listed _ _ _ _ _ _ _ c.before.before.before.before.circuit.ensures c.size.given.1
 
 returns : tie.Need-returns
-returns c = (node-bad _ _ _ _ _ _ _ c.before.before.before.before.circuit.ensures _ _ c.enum_told.given.1, c.before.before.before.before.before.before.before.before.before.requires.1.1.1.long)
+returns c = (node_bad _ _ _ _ _ _ _ c.before.before.before.before.circuit.ensures _ _ c.enum_told.given.1, c.before.before.before.before.before.before.before.before.before.requires.1.1.1.long)
 
 part-recheck-end : tie.Need-slice-bounds-recheck-end
 part-recheck-end c = (read c.before.before).within
@@ -21,14 +21,14 @@ recheck-requires c κs =
     let p = c.before.before.before.before.before.before.before.before.before.before.before.before.before.before.requires in
     (p.0.0, ((read c.before.before.before.before.before).all_valid, (p.1.1.0, p.1.1.1)))
 
-returns-2 : tie.Need-returns-2
-returns-2 c = (node-none _ _ _ _ _ _ _ (read c.before.before.before.before.before.before.before) (sym c.before.recheck.ensures.0 ∙ not-true _ c.if1.true), c.before.recheck.ensures.1)
+returns_2 : tie.Need-returns-2
+returns_2 c = (node_none _ _ _ _ _ _ _ (read c.before.before.before.before.before.before.before) (sym c.before.recheck.ensures.0 ∙ not-true _ c.if1.true), c.before.recheck.ensures.1)
 
-returns-3 : tie.Need-returns-3
-returns-3 c = (node-found _ _ _ _ _ _ _ (read c.before.before.before.before.before.before.before) (sym c.before.recheck.ensures.0 ∙ not-false _ c.if1.false), c.before.recheck.ensures.1)
+returns_3 : tie.Need-returns-3
+returns_3 c = (node_found _ _ _ _ _ _ _ (read c.before.before.before.before.before.before.before) (sym c.before.recheck.ensures.0 ∙ not-false _ c.if1.false), c.before.recheck.ensures.1)
 
-pub find-node-spec : {M : Type 1} → statement M
-find-node-spec =
+pub find_node_spec : {M : Type 1} → statement M
+find_node_spec =
     tie.close
     (tie.spec
     (λ c κs. search rules)
@@ -42,6 +42,6 @@ find-node-spec =
     (λ c. search rules)
     recheck-requires
     (λ c. search rules)
-    returns-2
+    returns_2
     (λ c. search rules)
-    returns-3)
+    returns_3)

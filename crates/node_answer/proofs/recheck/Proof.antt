@@ -4,15 +4,15 @@ use Prim.Native.Nat.{ℕ, ◌*◌, ◌^◌, ◌≤◌}
 use native.Mathlib.Omega.{arith}
 use borrow.Author.Rules.{rules}
 use Rattle.places.specs.Places.{places}
-use Rattle.places.proofs.Placed.{area-le}
+use Rattle.places.proofs.Placed.{area_le}
 use Rattle.lists.proofs.Walking.{ended_at}
-use Rattle.node_answer.proofs.Rechecked.{recheck-test, recheck-unfit}
+use Rattle.node_answer.proofs.Rechecked.{recheck_test, recheck_unfit}
 use Rattle.node_answer.proofs.recheck.Statement.{statement}
 use Rattle.node_answer.proofs.recheck.Tie as tie
 
 -- the matrix is all there
 whole : (n size : ℕ) → n ≤ 5 → size ≡ places → 4 * (2 ^ n * 2 ^ n) ≤ size
-whole n size h e = omega (arith, area-le n h)
+whole n size h e = omega (arith, area_le n h)
 
 equivalent-up-to-global-phase-requires : tie.Need-equivalent-up-to-global-phase-requires
 equivalent-up-to-global-phase-requires c κs =
@@ -23,15 +23,15 @@ equivalent-up-to-global-phase-requires c κs =
 returns : tie.Need-returns
 returns c =
     let w = ended_at c.before.before.before.before.k.given.1 c.before.before.before.before.before.before.apply-gates.ensures.0 in
-    (recheck-test _ _ _ _ w.answer w.end c.equivalent-up-to-global-phase.ensures, w.end.long)
+    (recheck_test _ _ _ _ w.answer w.end c.equivalent-up-to-global-phase.ensures, w.end.long)
 
-returns-2 : tie.Need-returns-2
-returns-2 c =
+returns_2 : tie.Need-returns-2
+returns_2 c =
     let w = ended_at c.enum_told.given.1 c.before.before.apply-gates.ensures.0 in
-    (recheck-unfit _ _ _ w.answer, w.end.long)
+    (recheck_unfit _ _ _ w.answer, w.end.long)
 
-pub recheck-spec : {M : Type 1} → statement M
-recheck-spec =
+pub recheck_spec : {M : Type 1} → statement M
+recheck_spec =
     tie.close
     (tie.spec
     (λ c κs. search rules)
@@ -39,4 +39,4 @@ recheck-spec =
     equivalent-up-to-global-phase-requires
     (λ c. search rules)
     returns
-    returns-2)
+    returns_2)

@@ -4,7 +4,7 @@ use Prim.Native.Nat.{◌-◌, ◌≤◌}
 use native.Mathlib.Omega.{arith}
 use lib.ListN.{length, length-set}
 use borrow.Author.Rules.{rules}
-use Rattle.node_matrix.proofs.Copies.{on_none, on-more, on-to}
+use Rattle.node_matrix.proofs.Copies.{on_none, on_more, on_to}
 use Rattle.node_matrix.specs.Matrices.{CopiedOn}
 use Rattle.node_matrix.proofs.copy_block.Statement.{statement}
 use Rattle.node_matrix.proofs.copy_block.Tie as tie
@@ -26,14 +26,14 @@ loop-again c =
     let l = c.before.before.loop in (
       omega (arith, c.before.loop-test.true),
       simp length-set l.invariant.1,
-      on-more l.invariant.2 (omega (arith, c.before.loop-test.true, c.before.before.before.requires.1.1)) (search rules),
+      on_more l.invariant.2 (omega (arith, c.before.loop-test.true, c.before.before.before.requires.1.1)) (search rules),
     )
 
 returns : tie.Need-returns invariant-loop decreases-loop
-returns c = on-to c.before.loop.invariant.2 _ c.loop-test.false
+returns c = on_to c.before.loop.invariant.2 _ c.loop-test.false
 
-pub copy-block-spec : {M : Type 1} → statement M
-copy-block-spec =
+pub copy_block_spec : {M : Type 1} → statement M
+copy_block_spec =
     tie.close
     (tie.spec
     invariant-loop

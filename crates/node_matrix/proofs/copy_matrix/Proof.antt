@@ -3,8 +3,8 @@
 use Prim.Native.Nat.{◌-◌}
 use native.Mathlib.Omega.{arith}
 use borrow.Author.Rules.{rules}
-use Rattle.places.proofs.Placed.{area-le}
-use Rattle.node_matrix.proofs.Copies.{copied_none, copied-to}
+use Rattle.places.proofs.Placed.{area_le}
+use Rattle.node_matrix.proofs.Copies.{copied_none, copied_to}
 use Rattle.node_matrix.specs.Matrices.{Copied}
 use Rattle.node_matrix.proofs.copy_matrix.Statement.{statement}
 use Rattle.node_matrix.proofs.copy_matrix.Tie as tie
@@ -29,16 +29,16 @@ loop-again : tie.Need-loop-preserved invariant-loop decreases-loop
 loop-again c = c.before.copy-block.ensures.by _ c.before.before.before.before.before.loop.invariant
 
 returns : tie.Need-returns invariant-loop decreases-loop
-returns c = copied-to c.before.loop.invariant _ (omega (arith, c.loop-test.false, c.before.before.area.ensures))
+returns c = copied_to c.before.loop.invariant _ (omega (arith, c.loop-test.false, c.before.before.area.ensures))
 
-pub copy-matrix-spec : {M : Type 1} → statement M
-copy-matrix-spec =
+pub copy_matrix_spec : {M : Type 1} → statement M
+copy_matrix_spec =
     tie.close
     (tie.spec
     invariant-loop
     decreases-loop
     (λ c κs. search rules)
-    (λ c. omega (arith, area-le _ c.before.requires.0, c.area.ensures))
+    (λ c. omega (arith, area_le _ c.before.requires.0, c.area.ensures))
     (λ c. copied_none _ _)
     (λ c κs. c.loop-test.true)
     copy-block-requires

@@ -36,20 +36,20 @@ module _ (a b c : ℕ) where
 returns : tie.Need-returns
 returns c = let s = c.before.args in few s.a s.b s.c s.count c.if1.true
 
-returns-2 : tie.Need-returns-2
-returns-2 c = let s = c.before.before.args in wrong s.a s.b s.c s.count (omega arith) (omega arith) (omega arith)
+returns_2 : tie.Need-returns-2
+returns_2 c = let s = c.before.before.args in wrong s.a s.b s.c s.count (omega arith) (omega arith) (omega arith)
 
-returns-3 : tie.Need-returns-3
-returns-3 c =
+returns_3 : tie.Need-returns-3
+returns_3 c =
     let s = c.before.before.before.args in
     let e : 2 ≡ s.count = omega arith in
     sym (two s.a s.b s.c ∙ lt-ltb s.a s.b (omega arith)) ∙ ap (λ (m : ℕ). ordered m s.a s.b s.c) e
 
-returns-4 : tie.Need-returns-4
-returns-4 c =
+returns_4 : tie.Need-returns-4
+returns_4 c =
     let s = c.before.before.before.args in
     let e : 3 ≡ s.count = omega arith in
     sym (three s.a s.b s.c ∙ rw (lt-ltb s.a s.b (omega arith))) ∙ ap (λ (m : ℕ). ordered m s.a s.b s.c) e
 
-pub in-order-spec : {M : Type 1} → statement M
-in-order-spec = tie.close (tie.spec returns returns-2 returns-3 returns-4)
+pub in_order_spec : {M : Type 1} → statement M
+in_order_spec = tie.close (tie.spec returns returns_2 returns_3 returns_4)

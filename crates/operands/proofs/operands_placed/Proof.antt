@@ -13,18 +13,18 @@ returns c =
     let e : 1 ≡ s.count = omega arith in
     c.placed-1.ensures ∙ ap (λ (m : ℕ). placed s.n m s.a s.b s.c) e
 
-returns-2 : tie.Need-returns-2
-returns-2 c =
+returns_2 : tie.Need-returns-2
+returns_2 c =
     let s = c.before.before.before.args in
     let e : 2 ≡ s.count = omega arith in
     c.placed-2.ensures ∙ ap (λ (m : ℕ). placed s.n m s.a s.b s.c) e
 
-returns-3 : tie.Need-returns-3
-returns-3 c =
+returns_3 : tie.Need-returns-3
+returns_3 c =
     let s = c.before.before.before.args in
     let e : 3 ≡ s.count = omega arith in
     c.placed-3.ensures ∙ ap (λ (m : ℕ). placed s.n m s.a s.b s.c) e
 
-pub operands-placed-spec : {M : Type 1} → statement M
-operands-placed-spec =
-    tie.close (tie.spec (λ c κs. search rules) returns (λ c κs. search rules) returns-2 (λ c κs. search rules) returns-3)
+pub operands_placed_spec : {M : Type 1} → statement M
+operands_placed_spec =
+    tie.close (tie.spec (λ c κs. search rules) returns (λ c κs. search rules) returns_2 (λ c κs. search rules) returns_3)

@@ -6,5 +6,5 @@ use Rattle.operands.proofs.placed_1.Tie as tie
 returns : tie.Need-returns
 returns c = let s = c.args in one s.n s.a s.b s.c
 
-pub placed-1-spec : {M : Type 1} → statement M
-placed-1-spec = tie.close (tie.spec returns)
+pub placed_1_spec : {M : Type 1} → statement M
+placed_1_spec = tie.close (tie.spec returns)

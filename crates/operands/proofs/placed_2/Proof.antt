@@ -6,5 +6,5 @@ use Rattle.operands.proofs.placed_2.Tie as tie
 returns : tie.Need-returns
 returns c = let s = c.args in two s.n s.a s.b s.c
 
-pub placed-2-spec : {M : Type 1} → statement M
-placed-2-spec = tie.close (tie.spec returns)
+pub placed_2_spec : {M : Type 1} → statement M
+placed_2_spec = tie.close (tie.spec returns)

@@ -6,5 +6,5 @@ use Rattle.operands.proofs.placed_3.Tie as tie
 returns : tie.Need-returns
 returns c = let s = c.args in three s.n s.a s.b s.c
 
-pub placed-3-spec : {M : Type 1} → statement M
-placed-3-spec = tie.close (tie.spec returns)
+pub placed_3_spec : {M : Type 1} → statement M
+placed_3_spec = tie.close (tie.spec returns)

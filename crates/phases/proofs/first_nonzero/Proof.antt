@@ -6,14 +6,14 @@ use Prim.Native.Nat.{ℕ, ◌≤◌, ◌<◌, ◌-◌}
 use native.Mathlib.Omega.{arith}
 use borrow.Author.Count.{below_more}
 use borrow.Author.Rules.{rules}
-use Rattle.cyclotomic.specs.Zomega.{isZero}
+use Rattle.cyclotomic.specs.Zomega.{is_zero}
 use Rattle.coefficients.proofs.Number.{fails, holds}
 use Rattle.exact.specs.Places.{entry}
 use Rattle.phases.proofs.first_nonzero.Statement.{statement}
 use Rattle.phases.proofs.first_nonzero.Tie as tie
 
 abbrev invariant-loop : tie.invariant-loop
-invariant-loop m size e₀ e = (e ≤ size) × ((j : ℕ) → j < e → isZero (entry m j) ≡ true)
+invariant-loop m size e₀ e = (e ≤ size) × ((j : ℕ) → j < e → is_zero (entry m j) ≡ true)
 
 abbrev decreases-loop : tie.decreases-loop
 decreases-loop m size e₀ e = size - e
@@ -22,25 +22,25 @@ returns : tie.Need-returns invariant-loop decreases-loop
 returns c = record {
   within = omega arith;
   before = c.before.before.before.before.loop.invariant.1;
-  found = λ h. fails (c.before.is_zero.ensures ∙ ap isZero c.before.before.get.ensures) c.if1.true;
+  found = λ h. fails (c.before.is_zero.ensures ∙ ap is_zero c.before.before.get.ensures) c.if1.true;
 }
 
 loop-again : tie.Need-loop-preserved invariant-loop decreases-loop
 loop-again c = (
   omega arith,
   below_more _ _ c.before.before.before.before.loop.invariant.1
-      (holds (c.before.is_zero.ensures ∙ ap isZero c.before.before.get.ensures) c.if1.false),
+      (holds (c.before.is_zero.ensures ∙ ap is_zero c.before.before.get.ensures) c.if1.false),
 )
 
-returns-2 : tie.Need-returns-2 invariant-loop decreases-loop
-returns-2 c = record {
+returns_2 : tie.Need-returns-2 invariant-loop decreases-loop
+returns_2 c = record {
   within = omega arith;
   before = λ j h. c.before.loop.invariant.1 j (omega arith);
   found = λ h. absurd (omega arith);
 }
 
-pub first-nonzero-spec : {M : Type 1} → statement M
-first-nonzero-spec =
+pub first_nonzero_spec : {M : Type 1} → statement M
+first_nonzero_spec =
     tie.close
     (tie.spec
     invariant-loop
@@ -52,4 +52,4 @@ first-nonzero-spec =
     (λ c. search rules)
     (λ c. search rules)
     loop-again
-    returns-2)
+    returns_2)

@@ -4,10 +4,10 @@ use borrow.Author.Rules.{rules}
 use mathlib.Core.Path.{sym, ◌∙◌}
 use Prim.Native.Nat.{◌*◌, ◌^◌, ◌<◌}
 use native.Mathlib.Omega.{arith}
-use Rattle.cyclotomic.proofs.Squares.{small-zero}
+use Rattle.cyclotomic.proofs.Squares.{small_zero}
 use Rattle.places.proofs.Placed.{small_at}
 use Rattle.phases.specs.First.{FirstNonzero}
-use Rattle.phases.proofs.Pivots.{pivot-at, pivot-none}
+use Rattle.phases.proofs.Pivots.{pivot_at, pivot_none}
 use Rattle.phases.proofs.pivot.Statement.{statement}
 use Rattle.phases.proofs.pivot.Tie as tie
 
@@ -23,18 +23,18 @@ first-nonzero-requires c κs = rw c.area.ensures c.before.requires.1.0
 
 returns : tie.Need-returns
 returns c = (
-  c.zero.ensures ∙ sym (pivot-none _ 0 _ _ (found c.before.before) (omega (arith, c.before.before.before.area.ensures))),
-  rw c.zero.ensures small-zero,
+  c.zero.ensures ∙ sym (pivot_none _ 0 _ _ (found c.before.before) (omega (arith, c.before.before.before.area.ensures))),
+  rw c.zero.ensures small_zero,
 )
 
 get-requires : tie.Need-get-requires
 get-requires c κs = omega (arith, inside c, c.before.before.before.requires.1.0)
 
-returns-2 : tie.Need-returns-2
-returns-2 c = (
-  c.get.ensures ∙ sym (pivot-at _ 0 _ _ (found c.before.before) (inside c.before)),
+returns_2 : tie.Need-returns-2
+returns_2 c = (
+  c.get.ensures ∙ sym (pivot_at _ 0 _ _ (found c.before.before) (inside c.before)),
   rw c.get.ensures (small_at _ _ _ c.before.before.before.before.requires.1.1 (inside c.before)),
 )
 
-pub pivot-spec : {M : Type 1} → statement M
-pivot-spec = tie.close (tie.spec (λ c κs. search rules) first-nonzero-requires (λ c κs. search rules) returns get-requires returns-2)
+pub pivot_spec : {M : Type 1} → statement M
+pivot_spec = tie.close (tie.spec (λ c κs. search rules) first-nonzero-requires (λ c κs. search rules) returns get-requires returns_2)

@@ -7,5 +7,5 @@ use Rattle.places.proofs.dim.Tie as tie
 returns : tie.Need-returns
 returns c = shift_one c.args.n c.requires
 
-pub dim-spec : {M : Type 1} → statement M
-dim-spec = tie.close (tie.spec (λ c. search rules) returns)
+pub dim_spec : {M : Type 1} → statement M
+dim_spec = tie.close (tie.spec (λ c. search rules) returns)

@@ -7,5 +7,5 @@ use Rattle.places.proofs.mask.Tie as tie
 returns : tie.Need-returns
 returns c = shift_one c.args.t c.requires
 
-pub mask-spec : {M : Type 1} → statement M
-mask-spec = tie.close (tie.spec (λ c. search rules) returns)
+pub mask_spec : {M : Type 1} → statement M
+mask_spec = tie.close (tie.spec (λ c. search rules) returns)

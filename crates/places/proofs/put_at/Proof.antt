@@ -8,8 +8,8 @@ returns : tie.Need-returns
 unfolding put
 returns c = search rules
 
-pub put-at-spec : {M : Type 1} → statement M
-put-at-spec =
+pub put_at_spec : {M : Type 1} → statement M
+put_at_spec =
     tie.close
     (tie.spec
     (λ c. search rules)

@@ -2,7 +2,7 @@
 -- many entries are left.
 use Rattle.std.proofs.Common.{◌≡◌, ◌-◌, ◌≤◌, sym, refl, ◌∙◌, add-one, arith, rules}
 use Rattle.cyclotomic.specs.Zomega.{turn}
-use Rattle.exact.specs.Fingerprint.{mixAll, words_of}
+use Rattle.exact.specs.Fingerprint.{mix_all, words_of}
 use Rattle.exact.specs.Places.{entry}
 use Rattle.prints.specs.Prints.{streams}
 use Rattle.prints.proofs.Mixing.{words_last}
@@ -10,7 +10,7 @@ use Rattle.prints.proofs.mix_entries.Statement.{statement}
 use Rattle.prints.proofs.mix_entries.Tie as tie
 
 abbrev invariant-loop : tie.invariant-loop
-invariant-loop m size power t₀ e₀ t e = (e ≤ size) × (streams t ≡ mixAll (streams t₀) (words_of e (λ i. turn power (entry m i))))
+invariant-loop m size power t₀ e₀ t e = (e ≤ size) × (streams t ≡ mix_all (streams t₀) (words_of e (λ i. turn power (entry m i))))
 
 abbrev decreases-loop : tie.decreases-loop
 decreases-loop m size power t₀ e₀ t e = size - e
@@ -32,8 +32,8 @@ returns c =
     let q : c.before.loop.e ≡ c.before.before.args.size = omega arith in
     rw (sym q) c.before.loop.invariant.1
 
-pub mix-entries-spec : {M : Type 1} → statement M
-mix-entries-spec =
+pub mix_entries_spec : {M : Type 1} → statement M
+mix_entries_spec =
     tie.close
     (tie.spec
     invariant-loop

@@ -2,8 +2,8 @@
 -- are mixed in and folded.
 use Rattle.std.proofs.Common.{lt_of_le_of_lt, arith, lit<, rules}
 use Rattle.places.proofs.Placed.{small_at}
-use Rattle.phases.proofs.Pivots.{phase-of}
-use Rattle.prints.proofs.Mixing.{print-is}
+use Rattle.phases.proofs.Pivots.{phase_of_lem}
+use Rattle.prints.proofs.Mixing.{print_is}
 use Rattle.prints.proofs.unitary_fingerprint.Statement.{statement}
 use Rattle.prints.proofs.unitary_fingerprint.Tie as tie
 
@@ -18,11 +18,11 @@ returns : tie.Need-returns
 returns c =
     let s = c.before.before.before.before.before.before in
     rw (c.fold.ensures, c.before.mix-entries.ensures, c.before.before.head.ensures, c.before.before.before.area.ensures)
-    (print-is s.args.n s.args.k _ _ (lt_of_le_of_lt s.requires.0 (lit< tt)) (omega arith)
-    (phase-of _ _ _ _ c.before.before.before.before.least-power.ensures c.before.before.before.before.before.pivot.ensures.0))
+    (print_is s.args.n s.args.k _ _ (lt_of_le_of_lt s.requires.0 (lit< tt)) (omega arith)
+    (phase_of_lem _ _ _ _ c.before.before.before.before.least-power.ensures c.before.before.before.before.before.pivot.ensures.0))
 
-pub unitary-fingerprint-spec : {M : Type 1} → statement M
-unitary-fingerprint-spec =
+pub unitary_fingerprint_spec : {M : Type 1} → statement M
+unitary_fingerprint_spec =
     tie.close
     (tie.spec
     (λ c κs. search rules)

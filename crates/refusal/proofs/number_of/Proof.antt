@@ -3,17 +3,17 @@
 use mathlib.Core.Path.{◌≡◌, refl, sym, ap, ◌∙◌}
 use Prim.Native.Nat.{ℕ, ◌≤◌}
 use native.Mathlib.Omega.{arith}
-use Rattle.refusal.specs.Told.{Reason, reason, toldRefusal, number_of, position_of}
+use Rattle.refusal.specs.Told.{Reason, reason, told_refusal, number_of, position_of}
 use Rattle.refusal.specs.declared.Refusal.{Refusal}
 use Rattle.refusal.proofs.number_of.Statement.{statement}
 use Rattle.refusal.proofs.number_of.Tie as tie
 
 -- what is asked of an arm that answers k and i, where the definition tells its case so
-tells : {r x : Refusal} {k i : ℕ} → r ≡ x → toldRefusal x ≡ reason k i → k ≤ 99 → (k ≡ number_of r) × ((i ≡ position_of r) × (k ≤ 99))
-tells e t h = let s = sym (ap toldRefusal e ∙ t) in (ap (λ (z : Reason). z.number) s, (ap (λ (z : Reason). z.position) s, h))
+tells : {r x : Refusal} {k i : ℕ} → r ≡ x → told_refusal x ≡ reason k i → k ≤ 99 → (k ≡ number_of r) × ((i ≡ position_of r) × (k ≤ 99))
+tells e t h = let s = sym (ap told_refusal e ∙ t) in (ap (λ (z : Reason). z.number) s, (ap (λ (z : Reason). z.position) s, h))
 
-pub number-of-spec : {M : Type 1} → statement M
-number-of-spec =
+pub number_of_spec : {M : Type 1} → statement M
+number_of_spec =
     tie.close
     (tie.spec
     (λ c. c.match.keys1)

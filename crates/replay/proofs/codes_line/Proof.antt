@@ -10,8 +10,8 @@ invariant-loop width code₀ code = code ≤ 114688
 abbrev decreases-loop : tie.decreases-loop
 decreases-loop width code₀ code = 114688 - code
 
-pub codes-line-spec : {M : Type 1} → statement M
-codes-line-spec =
+pub codes_line_spec : {M : Type 1} → statement M
+codes_line_spec =
     tie.close
     (tie.spec
     invariant-loop

@@ -10,8 +10,8 @@ invariant-loop first lines width₀ width = width ≤ 6
 abbrev decreases-loop : tie.decreases-loop
 decreases-loop first lines width₀ width = 6 - width
 
-pub each-width-spec : {M : Type 1} → statement M
-each-width-spec =
+pub each_width_spec : {M : Type 1} → statement M
+each_width_spec =
     tie.close
     (tie.spec
     invariant-loop

@@ -10,8 +10,8 @@ invariant-loop width basis₀ basis = basis ≤ 3968
 abbrev decreases-loop : tie.decreases-loop
 decreases-loop width basis₀ basis = 3968 - basis
 
-pub generators-lines-spec : {M : Type 1} → statement M
-generators-lines-spec =
+pub generators_lines_spec : {M : Type 1} → statement M
+generators_lines_spec =
     tie.close
     (tie.spec
     invariant-loop

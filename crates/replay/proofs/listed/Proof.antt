@@ -10,8 +10,8 @@ invariant-loop gates count i₀ i = i ≤ count
 abbrev decreases-loop : tie.decreases-loop
 decreases-loop gates count i₀ i = count - i
 
-pub listed-spec : {M : Type 1} → statement M
-listed-spec =
+pub listed_spec : {M : Type 1} → statement M
+listed_spec =
     tie.close
     (tie.spec
     invariant-loop

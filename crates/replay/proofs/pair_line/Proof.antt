@@ -10,8 +10,8 @@ invariant-loop mode g gates count i₀ i = i ≤ count
 abbrev decreases-loop : tie.decreases-loop
 decreases-loop mode g gates count i₀ i = count - i
 
-pub pair-line-spec : {M : Type 1} → statement M
-pair-line-spec =
+pub pair_line_spec : {M : Type 1} → statement M
+pair_line_spec =
     tie.close
     (tie.spec
     invariant-loop

@@ -10,8 +10,8 @@ invariant-loop mode gates count i₀ i = i ≤ count
 abbrev decreases-loop : tie.decreases-loop
 decreases-loop mode gates count i₀ i = count - i
 
-pub pair-lines-spec : {M : Type 1} → statement M
-pair-lines-spec =
+pub pair_lines_spec : {M : Type 1} → statement M
+pair_lines_spec =
     tie.close
     (tie.spec
     invariant-loop

@@ -10,8 +10,8 @@ invariant-loop gates count i₀ t4 i = i ≤ count
 abbrev decreases-loop : tie.decreases-loop
 decreases-loop gates count i₀ t4 i = count - i
 
-pub qubits-lines-spec : {M : Type 1} → statement M
-qubits-lines-spec =
+pub qubits_lines_spec : {M : Type 1} → statement M
+qubits_lines_spec =
     tie.close
     (tie.spec
     invariant-loop

@@ -10,8 +10,8 @@ invariant-loop width kind step end code₀ code = (code ≤ 110848) × (end ≤ 
 abbrev decreases-loop : tie.decreases-loop
 decreases-loop width kind step end code₀ code = 110848 - code
 
-pub valid-line-spec : {M : Type 1} → statement M
-valid-line-spec =
+pub valid_line_spec : {M : Type 1} → statement M
+valid_line_spec =
     tie.close
     (tie.spec
     invariant-loop

@@ -10,8 +10,8 @@ invariant-loop width kind₀ kind = kind ≤ 27
 abbrev decreases-loop : tie.decreases-loop
 decreases-loop width kind₀ kind = 27 - kind
 
-pub valid-lines-spec : {M : Type 1} → statement M
-valid-lines-spec =
+pub valid_lines_spec : {M : Type 1} → statement M
+valid_lines_spec =
     tie.close
     (tie.spec
     invariant-loop

@@ -13,8 +13,8 @@ slice-aggregate-write-all c =
     let p = c.before.before.put_byte in
     sym (length-take-le p.result p.new.0 (array-share-prefix-line c.before))
 
-pub print-length-spec : {M : Type 1} → statement M
-print-length-spec =
+pub print_length_spec : {M : Type 1} → statement M
+print_length_spec =
     tie.close
     (tie.spec
     (λ c. search rules)

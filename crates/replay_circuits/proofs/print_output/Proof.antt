@@ -11,8 +11,8 @@ slice-aggregate-write-all c =
     let s = c.before.before.before.before in
     sym (length-take-le s.args.n s.args.out.now (omega (arith, c.before.before.if1.false)))
 
-pub print-output-spec : {M : Type 1} → statement M
-print-output-spec =
+pub print_output_spec : {M : Type 1} → statement M
+print_output_spec =
     tie.close
     (tie.spec
     (λ c κs. search rules)

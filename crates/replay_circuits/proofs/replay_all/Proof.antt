@@ -16,8 +16,8 @@ invariant-loop runs prints₀ parents₀ codes₀ out₀ at₀ prints parents co
 abbrev decreases-loop : tie.decreases-loop
 decreases-loop runs prints₀ parents₀ codes₀ out₀ at₀ prints parents codes out at = length runs - at
 
-pub replay-all-spec : {M : Type 1} → statement M
-replay-all-spec =
+pub replay_all_spec : {M : Type 1} → statement M
+replay_all_spec =
     tie.close
     (tie.spec
     invariant-loop

@@ -10,8 +10,8 @@ slice-aggregate-same-bytes : tie.Need-slice-aggregate-same-bytes
 slice-aggregate-same-bytes c =
     sym (length-take-le 4 c.before.before.before.args.line.now (omega (arith, c.before.if1.false)))
 
-pub run-length-spec : {M : Type 1} → statement M
-run-length-spec =
+pub run_length_spec : {M : Type 1} → statement M
+run_length_spec =
     tie.close
     (tie.spec
     (λ c. search rules)

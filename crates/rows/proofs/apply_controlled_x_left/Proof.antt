@@ -4,14 +4,14 @@ use Prim.Native.Nat.{◌-◌, ◌^◌}
 use native.Mathlib.Omega.{arith}
 use borrow.Author.Rules.{rules}
 use Rattle.exact.specs.Places.{read}
-use Rattle.rows.specs.Rows.{lowRow, exchangeRows}
-use Rattle.rows.proofs.Sweeps.{Swept, swept_none, swept-more, swept-end}
+use Rattle.rows.specs.Rows.{low_row, exchange_rows}
+use Rattle.rows.proofs.Sweeps.{Swept, swept_none, swept-more, swept_end}
 use Rattle.rows.proofs.Pairs.{pair_same}
 use Rattle.rows.proofs.apply_controlled_x_left.Statement.{statement}
 use Rattle.rows.proofs.apply_controlled_x_left.Tie as tie
 
 abbrev invariant-loop : tie.invariant-loop
-invariant-loop m₀ n control t d r₀ m r = Swept n (lowRow (2 ^ t)) m₀ (exchangeRows control (2 ^ t) (read n m₀)) m r
+invariant-loop m₀ n control t d r₀ m r = Swept n (low_row (2 ^ t)) m₀ (exchange_rows control (2 ^ t) (read n m₀)) m r
 
 abbrev decreases-loop : tie.decreases-loop
 decreases-loop m₀ n control t d r₀ m r = d - r
@@ -33,10 +33,10 @@ loop-again c =
 returns : tie.Need-returns invariant-loop decreases-loop
 returns c =
     let w = c.before.loop.invariant in
-    (w.long, (swept-end _ _ c.before.loop.r w (λ s h. omega (arith, c.before.before.dim.ensures)), w.kept))
+    (w.long, (swept_end _ _ c.before.loop.r w (λ s h. omega (arith, c.before.before.dim.ensures)), w.kept))
 
-pub apply-controlled-x-left-spec : {M : Type 1} → statement M
-apply-controlled-x-left-spec =
+pub apply_controlled_x_left_spec : {M : Type 1} → statement M
+apply_controlled_x_left_spec =
     tie.close
     (tie.spec
     invariant-loop

@@ -6,20 +6,20 @@ use Rattle.rows.proofs.apply_phase_left.Tie as tie
 returns : tie.Need-returns
 returns c = rw c.before.before.match.keys1 c.phase-rows.ensures
 
-returns-2 : tie.Need-returns-2
-returns-2 c = rw c.before.before.match.keys2 c.phase-rows2.ensures
+returns_2 : tie.Need-returns-2
+returns_2 c = rw c.before.before.match.keys2 c.phase-rows2.ensures
 
-returns-3 : tie.Need-returns-3
-returns-3 c = rw c.before.before.match.keys3 c.phase-rows3.ensures
+returns_3 : tie.Need-returns-3
+returns_3 c = rw c.before.before.match.keys3 c.phase-rows3.ensures
 
-returns-4 : tie.Need-returns-4
-returns-4 c = rw c.before.before.match.keys4 c.phase-rows4.ensures
+returns_4 : tie.Need-returns-4
+returns_4 c = rw c.before.before.match.keys4 c.phase-rows4.ensures
 
-returns-5 : tie.Need-returns-5
-returns-5 c = rw c.before.before.match.keys5 c.phase-rows5.ensures
+returns_5 : tie.Need-returns-5
+returns_5 c = rw c.before.before.match.keys5 c.phase-rows5.ensures
 
-pub apply-phase-left-spec : {M : Type 1} → statement M
-apply-phase-left-spec =
+pub apply_phase_left_spec : {M : Type 1} → statement M
+apply_phase_left_spec =
     tie.close
     (tie.spec
     (λ c κs. search rules)
@@ -29,8 +29,8 @@ apply-phase-left-spec =
     (λ c κs. search rules)
     (λ c κs. search rules)
     returns
-    returns-2
-    returns-3
-    returns-4
-    returns-5
+    returns_2
+    returns_3
+    returns_4
+    returns_5
     (λ c. search rules))

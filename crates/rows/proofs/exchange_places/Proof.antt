@@ -7,7 +7,7 @@ use borrow.Author.Rules.{rules}
 use mir.Val.{to_z, of_z}
 use Rattle.coefficients.specs.Coefficients.{near}
 use Rattle.rows.specs.Work.{at, Exchanged}
-use Rattle.rows.proofs.Pairs.{exchanged-none, still-low, still-high, exchanged-more, exchanged-to}
+use Rattle.rows.proofs.Pairs.{exchanged_none, still_low, still_high, exchanged-more, exchanged_to}
 use Rattle.rows.proofs.exchange_places.Statement.{statement}
 use Rattle.rows.proofs.exchange_places.Tie as tie
 
@@ -18,7 +18,7 @@ abbrev decreases-loop : tie.decreases-loop
 decreases-loop m₀ p q len i₀ m i = len - i
 
 loop-holds : tie.Need-loop-init invariant-loop decreases-loop
-loop-holds c = (search rules, exchanged-none _ _ _)
+loop-holds c = (search rules, exchanged_none _ _ _)
 
 loop-again : tie.Need-loop-preserved invariant-loop decreases-loop
 loop-again c =
@@ -30,15 +30,15 @@ loop-again c =
     let y : to_z near (of_z near (at m (s.args.q + i))) ≡ at m (s.args.q + i) = search rules in (
       omega arith,
       exchanged-more _ _ _ i s.args.len w s.requires.1.0 (omega (arith, s.requires.0)) c.before.before.loop-test.true
-          (y ∙ still-high _ _ _ i s.args.len w s.requires.1.0 c.before.before.loop-test.true)
-          (x ∙ still-low _ _ _ i s.args.len w s.requires.1.0 c.before.before.loop-test.true) refl,
+          (y ∙ still_high _ _ _ i s.args.len w s.requires.1.0 c.before.before.loop-test.true)
+          (x ∙ still_low _ _ _ i s.args.len w s.requires.1.0 c.before.before.loop-test.true) refl,
     )
 
 returns : tie.Need-returns invariant-loop decreases-loop
-returns c = exchanged-to c.before.loop.invariant.1 c.before.loop.invariant.0 c.loop-test.false
+returns c = exchanged_to c.before.loop.invariant.1 c.before.loop.invariant.0 c.loop-test.false
 
-pub exchange-places-spec : {M : Type 1} → statement M
-exchange-places-spec =
+pub exchange_places_spec : {M : Type 1} → statement M
+exchange_places_spec =
     tie.close
     (tie.spec
     invariant-loop

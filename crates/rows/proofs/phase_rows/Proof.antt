@@ -4,9 +4,9 @@ use mathlib.Core.Logic.{⊎_elim}
 use Prim.Native.Nat.{◌*◌, ◌+◌, ◌-◌, ◌^◌, ◌≤◌, ◌<◌}
 use native.Mathlib.Omega.{arith}
 use borrow.Author.Rules.{rules}
-use Rattle.places.proofs.Placed.{row-le}
-use Rattle.rows.proofs.Sweeps.{swept_none, swept-end}
-use Rattle.rows.proofs.PhaseSweeps.{Phased, phase-small, phase-turn, phase-pass}
+use Rattle.places.proofs.Placed.{row_le}
+use Rattle.rows.proofs.Sweeps.{swept_none, swept_end}
+use Rattle.rows.proofs.PhaseSweeps.{Phased, phase_small, phase_turn, phase_pass}
 use Rattle.rows.proofs.phase_rows.Statement.{statement}
 use Rattle.rows.proofs.phase_rows.Tie as tie
 
@@ -23,7 +23,7 @@ below : (c : tie.In-loop invariant-loop decreases-loop) → c.before.loop.r < 2 
 below c = omega (arith, c.before.before.dim.ensures)
 
 inside : (c : tie.In-loop invariant-loop decreases-loop) → c.before.loop.r * c.before.before.dim.result + c.before.before.dim.result ≤ 1024
-inside c = rw c.before.before.dim.ensures (row-le _ _ c.before.before.before.requires.1.0 (below c))
+inside c = rw c.before.before.dim.ensures (row_le _ _ c.before.before.before.requires.1.0 (below c))
 
 turn-row-requires : tie.Need-turn-row-requires invariant-loop decreases-loop
 turn-row-requires c κs = (
@@ -31,7 +31,7 @@ turn-row-requires c κs = (
   (
     inside c.before.before,
     rw c.before.before.before.before.dim.ensures
-        (phase-small _ _ _ _ _ c.before.before.before.loop.invariant (below c.before.before) c.before.before.before.before.before.requires.1.1),
+        (phase_small _ _ _ _ _ c.before.before.before.loop.invariant (below c.before.before) c.before.before.before.before.before.requires.1.1),
   ),
 )
 
@@ -39,17 +39,17 @@ loop-again : tie.Need-loop-preserved invariant-loop decreases-loop
 loop-again c =
     let w = c.before.before.loop.invariant in
     ⊎_elim
-    (λ t. rw t.3 (phase-turn _ _ _ _ _ w (below c.before) t.0.taken (rw c.before.before.before.dim.ensures at t.2.ensures)))
-    (λ t. rw t.1 (phase-pass _ _ _ _ _ w (below c.before) t.0.left))
+    (λ t. rw t.3 (phase_turn _ _ _ _ _ w (below c.before) t.0.taken (rw c.before.before.before.dim.ensures at t.2.ensures)))
+    (λ t. rw t.1 (phase_pass _ _ _ _ _ w (below c.before) t.0.left))
     c.if1.branch
 
 returns : tie.Need-returns invariant-loop decreases-loop
 returns c =
     let w = c.before.loop.invariant in
-    (w.long, (swept-end _ _ _ w (λ s p. omega (arith, c.before.before.dim.ensures)), w.kept))
+    (w.long, (swept_end _ _ _ w (λ s p. omega (arith, c.before.before.dim.ensures)), w.kept))
 
-pub phase-rows-spec : {M : Type 1} → statement M
-phase-rows-spec =
+pub phase_rows_spec : {M : Type 1} → statement M
+phase_rows_spec =
     tie.close
     (tie.spec
     invariant-loop

@@ -6,7 +6,7 @@ use borrow.Author.Rules.{rules}
 use Rattle.cyclotomic.specs.Zomega.{turn}
 use Rattle.exact.specs.Places.{entry}
 use Rattle.rows.specs.Work.{Turned}
-use Rattle.rows.proofs.Runs.{turned_none, turned-next, turned_more}
+use Rattle.rows.proofs.Runs.{turned_none, turned_next, turned_more}
 use Rattle.rows.proofs.turn_row.Statement.{statement}
 use Rattle.rows.proofs.turn_row.Tie as tie
 
@@ -22,7 +22,7 @@ loop-holds c = (search rules, turned_none _ _ _)
 -- the entry that was read is the first array's
 read_is : (c : tie.After-get invariant-loop decreases-loop)
     → c.get.result ≡ entry c.before.before.before.before.before.args.m.now (c.before.before.before.before.before.args.e + c.before.before.before.before.loop.i)
-read_is c = c.get.ensures ∙ turned-next _ _ _ _ c.before.before.before.before.loop.invariant.1
+read_is c = c.get.ensures ∙ turned_next _ _ _ _ c.before.before.before.before.loop.invariant.1
 
 get-requires : tie.Need-get-requires invariant-loop decreases-loop
 get-requires c κs =
@@ -49,8 +49,8 @@ returns c =
     let e : c.before.loop.i ≡ c.before.before.args.c = omega arith in
     rw e at c.before.loop.invariant.1
 
-pub turn-row-spec : {M : Type 1} → statement M
-turn-row-spec =
+pub turn_row_spec : {M : Type 1} → statement M
+turn_row_spec =
     tie.close
     (tie.spec
     invariant-loop

@@ -1,6 +1,6 @@
 -- `swap_step` meets its contract: three exchanges, each with its target apart from its controls. Assumes nothing.
 use native.Mathlib.Omega.{arith}
-use Rattle.steps.proofs.Several.{swap-stepped}
+use Rattle.steps.proofs.Several.{swap_stepped}
 use Rattle.steps.proofs.swap_step.Statement.{statement}
 use Rattle.steps.proofs.swap_step.Tie as tie
 
@@ -21,11 +21,11 @@ apply-controlled-x-left-requires-3 c κs =
 
 returns : tie.Need-returns
 returns c =
-    swap-stepped (omega arith) c.before.before.before.before.before.before.before.before.requires.1.1 _ _ _ c.before.before.before.before.before.before.before.mask.ensures c.before.before.before.before.before.before.mask2.ensures c.before.before.before.before.apply-controlled-x-left.ensures c.before.before.apply-controlled-x-left2.ensures
+    swap_stepped (omega arith) c.before.before.before.before.before.before.before.before.requires.1.1 _ _ _ c.before.before.before.before.before.before.before.mask.ensures c.before.before.before.before.before.before.mask2.ensures c.before.before.before.before.apply-controlled-x-left.ensures c.before.before.apply-controlled-x-left2.ensures
     c.apply-controlled-x-left3.ensures
 
-pub swap-step-spec : {M : Type 1} → statement M
-swap-step-spec =
+pub swap_step_spec : {M : Type 1} → statement M
+swap_step_spec =
     tie.close
     (tie.spec
     (λ c κs. omega (arith, c.requires.0, c.requires.1.0))

@@ -7,9 +7,9 @@ use mathlib.Core.List.{[], ◌∷◌}
 use lib.Bits.{and_zero_l}
 use Rattle.exact.specs.Rows.{phase, had, then}
 use Rattle.exact.proofs.Words.{Proper}
-use Rattle.steps.proofs.Masks.{mask-none}
-use Rattle.steps.proofs.Steps.{ready-next, stepped_then, stepped-unfit, at-answer}
-use Rattle.steps.proofs.Several.{turned-one}
+use Rattle.steps.proofs.Masks.{mask_none}
+use Rattle.steps.proofs.Steps.{ready_next, stepped_then, stepped_unfit, at_answer}
+use Rattle.steps.proofs.Several.{turned_one}
 use Rattle.steps.proofs.sx_step.Statement.{statement}
 use Rattle.steps.proofs.sx_step.Tie as tie
 
@@ -27,30 +27,30 @@ ch-step-requires c κs =
 apply-phase-left-requires : tie.Need-apply-phase-left-requires
 apply-phase-left-requires c κs =
     let p = c.before.before.before.before.before.before.before.requires in
-    let w = ready-next (at-answer c.before.before.j.given.1 (c.before.before.before.before.ch-step.ensures.by [] mask-none (last p.0.1))) in
+    let w = ready_next (at_answer c.before.before.j.given.1 (c.before.before.before.before.ch-step.ensures.by [] mask_none (last p.0.1))) in
     (w.long, (p.0.0, w.small))
 
 ch-step-requires-2 : tie.Need-ch-step-requires-2
 ch-step-requires-2 c κs =
     let p = c.before.before.before.before.before.before.before.before.before.requires in
-    let w = ready-next (at-answer c.before.before.before.before.j.given.1 (c.before.before.before.before.before.before.ch-step.ensures.by [] mask-none (last p.0.1))) in
-    (p.0, (and_zero_l (2 ^ c.before.before.before.before.before.before.before.before.before.args.t), ready-next (turned-one (omega arith) w _ _ c.before.before.before.before.before.before.before.before.mask.ensures c.before.apply-phase-left.ensures)))
+    let w = ready_next (at_answer c.before.before.before.before.j.given.1 (c.before.before.before.before.before.before.ch-step.ensures.by [] mask_none (last p.0.1))) in
+    (p.0, (and_zero_l (2 ^ c.before.before.before.before.before.before.before.before.before.args.t), ready_next (turned_one (omega arith) w _ _ c.before.before.before.before.before.before.before.before.mask.ensures c.before.apply-phase-left.ensures)))
 
 returns : tie.Need-returns
 returns c =
     let p = c.before.before.before.before.before.requires in
-    stepped-unfit _ _ _ _ _ (rest p.0.1) (at-answer c.enum_told.given.1 (c.before.before.ch-step.ensures.by [] mask-none (last p.0.1)))
+    stepped_unfit _ _ _ _ _ (rest p.0.1) (at_answer c.enum_told.given.1 (c.before.before.ch-step.ensures.by [] mask_none (last p.0.1)))
 
-returns-2 : tie.Need-returns-2
-returns-2 c =
+returns_2 : tie.Need-returns-2
+returns_2 c =
     let p = c.before.before.before.before.before.before.before.before.before.before.requires in
-    let one = at-answer c.before.before.before.before.before.j.given.1 (c.before.before.before.before.before.before.before.ch-step.ensures.by [] mask-none (last p.0.1)) in
+    let one = at_answer c.before.before.before.before.before.j.given.1 (c.before.before.before.before.before.before.before.ch-step.ensures.by [] mask_none (last p.0.1)) in
     stepped_then _ _ _ _ _ (rest p.0.1) _ one
-    (stepped_then _ _ _ _ _ (last p.0.1) _ (turned-one (omega arith) (ready-next one) 2 _ c.before.before.before.before.before.before.before.before.before.mask.ensures c.before.before.apply-phase-left.ensures)
-    (c.ch-step2.ensures.by [] mask-none (last p.0.1)))
+    (stepped_then _ _ _ _ _ (last p.0.1) _ (turned_one (omega arith) (ready_next one) 2 _ c.before.before.before.before.before.before.before.before.before.mask.ensures c.before.before.apply-phase-left.ensures)
+    (c.ch-step2.ensures.by [] mask_none (last p.0.1)))
 
-pub sx-step-spec : {M : Type 1} → statement M
-sx-step-spec =
+pub sx_step_spec : {M : Type 1} → statement M
+sx_step_spec =
     tie.close
     (tie.spec
     (λ c κs. search rules)
@@ -60,4 +60,4 @@ sx-step-spec =
     apply-phase-left-requires
     ch-step-requires-2
     returns
-    returns-2)
+    returns_2)

@@ -1,7 +1,7 @@
 -- `y_step` meets its contract: a turn, an exchange and a turn, none of which can fail to fit. Assumes nothing.
 use native.Mathlib.Omega.{arith}
 use borrow.Author.Rules.{rules}
-use Rattle.steps.proofs.Several.{exchanged-small, turned-one, y-stepped}
+use Rattle.steps.proofs.Several.{exchanged_small, turned_one, y_stepped}
 use Rattle.steps.proofs.y_step.Statement.{statement}
 use Rattle.steps.proofs.y_step.Tie as tie
 
@@ -14,14 +14,14 @@ apply-phase-left-requires-2 : tie.Need-apply-phase-left-requires-2
 apply-phase-left-requires-2 c κs =
     let p = c.before.before.before.before.before.before.requires in
     let g = c.before.apply-controlled-x-left.ensures in
-    (g.0, (p.0.0, exchanged-small _ _ _ p.0.1 g (turned-one (omega arith) p.1.1 _ _ c.before.before.before.before.before.mask.ensures c.before.before.before.apply-phase-left.ensures).left.small))
+    (g.0, (p.0.0, exchanged_small _ _ _ p.0.1 g (turned_one (omega arith) p.1.1 _ _ c.before.before.before.before.before.mask.ensures c.before.before.before.apply-phase-left.ensures).left.small))
 
 returns : tie.Need-returns
 returns c =
-    y-stepped (omega arith) c.before.before.before.before.before.before.before.requires.1.1 _ _ c.before.before.before.before.before.before.mask.ensures c.before.before.before.before.apply-phase-left.ensures c.before.before.apply-controlled-x-left.ensures c.apply-phase-left2.ensures
+    y_stepped (omega arith) c.before.before.before.before.before.before.before.requires.1.1 _ _ c.before.before.before.before.before.before.mask.ensures c.before.before.before.before.apply-phase-left.ensures c.before.before.apply-controlled-x-left.ensures c.apply-phase-left2.ensures
 
-pub y-step-spec : {M : Type 1} → statement M
-y-step-spec =
+pub y_step_spec : {M : Type 1} → statement M
+y_step_spec =
     tie.close
     (tie.spec
     (λ c κs. search rules)

@@ -7,22 +7,22 @@ use lib.ListN.{length, length-replicate}
 use borrow.Author.Rules.{rules}
 use borrow.Author.Tests.{not-true, not-false}
 use Rattle.ints.proofs.Bools.{clash}
-use Rattle.stored_matrix.specs.Nodes.{Nodes, nodesIn}
-use Rattle.stored_prints.proofs.Prints.{sound-less, fit-less}
+use Rattle.stored_matrix.specs.Nodes.{Nodes, nodes_in}
+use Rattle.stored_prints.proofs.Prints.{sound_less, fit_less}
 use Rattle.stored_apart.specs.Apart.{Apart, Indexed}
-use Rattle.stored_apart.proofs.Apart.{apart-empty, apart-grow, apart-fails, apart-to, indexed-start, indexed-more, old-length, tells-yes, tells-no}
+use Rattle.stored_apart.proofs.Apart.{apart_empty, apart_grow, apart_fails, apart_to, indexed_start, indexed_more, old_length, tells_yes, tells_no}
 use Rattle.stored_apart.proofs.grow.Statement.{statement}
 use Rattle.stored_apart.proofs.grow.Tie as tie
 
 abbrev invariant-loop : tie.invariant-loop
 invariant-loop low size pf cf ps cs block index₀ lim k₀ index k =
-    (k ≤ size) × (length index ≡ length index₀) × Indexed (nodesIn lim pf cf ps cs) low k block index × Apart (nodesIn lim pf cf ps cs) low (low + k) low (low + k)
+    (k ≤ size) × (length index ≡ length index₀) × Indexed (nodes_in lim pf cf ps cs) low k block index × Apart (nodes_in lim pf cf ps cs) low (low + k) low (low + k)
 
 abbrev decreases-loop : tie.decreases-loop
 decreases-loop low size pf cf ps cs block index₀ lim k₀ index k = size - k
 
 abbrev here : tie.Start invariant-loop decreases-loop → Nodes
-here c = nodesIn c.args.limits c.args.parentfile.now c.args.codefile.now c.args.parents.now c.args.codes.now
+here c = nodes_in c.args.limits c.args.parentfile.now c.args.codefile.now c.args.parents.now c.args.codes.now
 
 -- a part that is cleared is as long as it was
 same : (c : tie.At-loop invariant-loop decreases-loop) → length c.before.before.before.clear.new.0 ≡ length c.before.before.before.before.before.before.before.before.before.before.before.args.index.now
@@ -32,7 +32,7 @@ loop-holds : tie.Need-loop-init invariant-loop decreases-loop
 loop-holds c =
     let s = c.before.before.before.before.before.before.before.before.before.before in
     let e = c.before.before.clear.ensures in
-    (omega arith, refl, indexed-start (here s) _ _ s.args.index.now e, apart-empty (here s) _)
+    (omega arith, refl, indexed_start (here s) _ _ s.args.index.now e, apart_empty (here s) _)
 
 -- a node of the block has its fingerprint there
 is-clear-requires : tie.Need-is-clear-requires invariant-loop decreases-loop
@@ -43,8 +43,8 @@ is-clear-requires c κs =
     let t = c.before.before.loop-test.true in (
       (omega arith, omega (arith, t, p.0.0)),
       (
-        sound-less _ p.1.0 (omega (arith, t)),
-        (fit-less (here s) _ p.1.1.0 (omega (arith, t)), (i.2, p.1.1.1.at _ t)),
+        sound_less _ p.1.0 (omega (arith, t)),
+        (fit_less (here s) _ p.1.1.0 (omega (arith, t)), (i.2, p.1.1.1.at _ t)),
       ),
     )
 
@@ -55,7 +55,7 @@ returns c =
     let t = c.before.before.before.before.loop-test.true in
     let j = s.args.low + l.k in (
       record {
-        tells = tells-no (apart-fails (here s) j j (omega (arith, t)) (omega arith) (omega arith) (omega (arith, t)) (c.before.is-clear.ensures.fails (not-true _ c.if1.true)));
+        tells = tells_no (apart_fails (here s) j j (omega (arith, t)) (omega arith) (omega arith) (omega (arith, t)) (c.before.is-clear.ensures.fails (not-true _ c.if1.true)));
         left = λ e. clash e refl;
       },
       l.invariant.1 ∙ same c.before.before.before.before.before,
@@ -68,16 +68,16 @@ loop-again c =
     let l = c.before.before.before.before.before.before.before.before.before.loop in
     let i = l.invariant in
     let t = c.before.before.before.before.before.before.before.before.loop-test.true in
-    let n = indexed-more (here s) l.k i.2 (omega (arith, t, p.0.0)) (omega (arith, old-length (here s) i.2, i.1, same c.before.before.before.before.before.before.before.before.before, t, p.0.1)) (omega (arith, t, p.0.2)) (p.1.1.1.at l.k t) c.before.before.insert.ensures in
-    (omega (arith, t), sym (old-length (here s) n) ∙ old-length (here s) i.2 ∙ i.1, n, apart-grow (here s) l.k i.3 (c.before.before.before.before.before.is-clear.ensures.holds (not-false _ c.before.before.before.before.if1.false)))
+    let n = indexed_more (here s) l.k i.2 (omega (arith, t, p.0.0)) (omega (arith, old_length (here s) i.2, i.1, same c.before.before.before.before.before.before.before.before.before, t, p.0.1)) (omega (arith, t, p.0.2)) (p.1.1.1.at l.k t) c.before.before.insert.ensures in
+    (omega (arith, t), sym (old_length (here s) n) ∙ old_length (here s) i.2 ∙ i.1, n, apart_grow (here s) l.k i.3 (c.before.before.before.before.before.is-clear.ensures.holds (not-false _ c.before.before.before.before.if1.false)))
 
-returns-2 : tie.Need-returns-2 invariant-loop decreases-loop
-returns-2 c =
+returns_2 : tie.Need-returns-2 invariant-loop decreases-loop
+returns_2 c =
     let s = c.before.before.before.before.before.before.before.before.before.before.before.before in
     let l = c.before.loop in
     let z : l.k ≡ s.args.size = omega (arith, l.invariant.0, c.loop-test.false) in (
       record {
-        tells = tells-yes (apart-to (here s) l.invariant.3 (omega (arith, z)) (omega (arith, z)));
+        tells = tells_yes (apart_to (here s) l.invariant.3 (omega (arith, z)) (omega (arith, z)));
         left = λ e. subst (λ (m : ℕ). Indexed (here s) s.args.low m s.args.block.now l.index) z l.invariant.2;
       },
       l.invariant.1 ∙ same c.before,
@@ -103,4 +103,4 @@ grow_spec =
     (λ c. search rules)
     loop-again
     (λ c. c.before.loop.invariant.1 ∙ same c.before)
-    returns-2)
+    returns_2)

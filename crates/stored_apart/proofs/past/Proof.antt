@@ -5,23 +5,23 @@ use native.Mathlib.Omega.{arith}
 use lib.ListN.{length}
 use borrow.Author.Rules.{rules}
 use borrow.Author.Tests.{not-true, not-false}
-use Rattle.stored_matrix.specs.Nodes.{Nodes, nodesIn, FitTo}
-use Rattle.stored_prints.proofs.Prints.{sound-less, fit-less}
+use Rattle.stored_matrix.specs.Nodes.{Nodes, nodes_in, FitTo}
+use Rattle.stored_prints.proofs.Prints.{sound_less, fit_less}
 use Rattle.stored_apart.specs.Apart.{Apart}
-use Rattle.stored_apart.proofs.Apart.{apart_none, apart-within, apart-add, tells-yes, tells-no}
+use Rattle.stored_apart.proofs.Apart.{apart_none, apart_within, apart_add, tells_yes, tells_no}
 use Rattle.stored_apart.proofs.past.Statement.{statement}
 use Rattle.stored_apart.proofs.past.Tie as tie
 
 abbrev invariant-loop : tie.invariant-loop
 invariant-loop low size count pf cf ps cs block index lim chunk₀ j₀ chunk j =
-    ((low + size ≤ j) × (j ≤ count)) × FitTo (nodesIn lim pf cf ps cs) j × Apart (nodesIn lim pf cf ps cs) low (low + size) (low + size) j
+    ((low + size ≤ j) × (j ≤ count)) × FitTo (nodes_in lim pf cf ps cs) j × Apart (nodes_in lim pf cf ps cs) low (low + size) (low + size) j
     × (length chunk ≡ 64)
 
 abbrev decreases-loop : tie.decreases-loop
 decreases-loop low size count pf cf ps cs block index lim chunk₀ j₀ chunk j = count - j
 
 abbrev here : tie.Start invariant-loop decreases-loop → Nodes
-here c = nodesIn c.args.limits c.args.parentfile.now c.args.codefile.now c.args.parents.now c.args.codes.now
+here c = nodes_in c.args.limits c.args.parentfile.now c.args.codefile.now c.args.parents.now c.args.codes.now
 
 loop-holds : tie.Need-loop-init invariant-loop decreases-loop
 loop-holds c = let p = c.before.before.before.before.before.before.requires in ((omega arith, p.0.0), p.1.1.0, apart_none (here c.before.before.before.before.before.before) _ _ _, refl)
@@ -30,12 +30,12 @@ print-block-requires : tie.Need-print-block-requires invariant-loop decreases-lo
 print-block-requires c κs =
     let p = c.before.before.before.before.before.before.before.before.before.before.requires in
     let e = c.before.next.ensures in
-    ((omega (arith, e.0), omega (arith, e.2, c.before.before.before.loop.invariant.3)), (sound-less _ p.1.0 e.1, c.before.before.before.loop.invariant.1))
+    ((omega (arith, e.0), omega (arith, e.2, c.before.before.before.loop.invariant.3)), (sound_less _ p.1.0 e.1, c.before.before.before.loop.invariant.1))
 
 returns : tie.Need-returns invariant-loop decreases-loop
 returns c =
     let s = c.before.before.before.before.before.before.before.before.before.before.before.before.before in
-    tells-no (λ p. c.before.before.print-block.ensures.0.unfit (not-true _ c.if1.true) (fit-less (here s) _ p.fit c.before.before.before.before.next.ensures.1))
+    tells_no (λ p. c.before.before.print-block.ensures.0.unfit (not-true _ c.if1.true) (fit_less (here s) _ p.fit c.before.before.before.before.next.ensures.1))
 
 chunk-clear-requires : tie.Need-chunk-clear-requires invariant-loop decreases-loop
 chunk-clear-requires c κs =
@@ -46,16 +46,16 @@ chunk-clear-requires c κs =
     let t = not-false _ c.before.if1.false in (
       (c.before.before.before.before.before.before.before.loop.invariant.0.0, p.0.1, omega (arith, e.2, c.before.before.before.print-block.ensures.1, c.before.before.before.before.before.before.before.loop.invariant.3)),
       (
-        sound-less _ p.1.0 (omega (arith, e.0, e.1)),
-        (fit-less (here s) _ (b.fit t) (omega (arith, e.0)), (p.1.1.1, b.printed t)),
+        sound_less _ p.1.0 (omega (arith, e.0, e.1)),
+        (fit_less (here s) _ (b.fit t) (omega (arith, e.0)), (p.1.1.1, b.printed t)),
       ),
     )
 
-returns-2 : tie.Need-returns-2 invariant-loop decreases-loop
-returns-2 c =
+returns_2 : tie.Need-returns-2 invariant-loop decreases-loop
+returns_2 c =
     let s = c.before.before.before.before.before.before.before.before.before.before.before.before.before.before.before.before in
     let e = c.before.before.before.before.before.before.before.next.ensures in
-    tells-no (λ p. c.before.chunk-clear.ensures.fails (not-true _ c.if2.true) (apart-within (here s) p.apart c.before.before.before.before.before.before.before.before.before.loop.invariant.0.0 (omega (arith, e.0, e.1))))
+    tells_no (λ p. c.before.chunk-clear.ensures.fails (not-true _ c.if2.true) (apart_within (here s) p.apart c.before.before.before.before.before.before.before.before.before.loop.invariant.0.0 (omega (arith, e.0, e.1))))
 
 loop-again : tie.Need-loop-preserved invariant-loop decreases-loop
 loop-again c =
@@ -64,18 +64,18 @@ loop-again c =
     let i = c.before.before.before.before.before.before.before.before.before.loop.invariant in (
       (omega (arith, i.0.0, e.0), e.1),
       c.before.before.before.before.before.print-block.ensures.0.fit (not-false _ c.before.before.before.if1.false),
-      apart-add (here s) i.2 (c.before.chunk-clear.ensures.holds (not-false _ c.if2.false)) (omega (arith, e.0)),
+      apart_add (here s) i.2 (c.before.chunk-clear.ensures.holds (not-false _ c.if2.false)) (omega (arith, e.0)),
       c.before.before.before.before.before.print-block.ensures.1 ∙ i.3,
     )
 
-returns-3 : tie.Need-returns-3 invariant-loop decreases-loop
-returns-3 c =
+returns_3 : tie.Need-returns-3 invariant-loop decreases-loop
+returns_3 c =
     let s = c.before.before.before.before.before.before.before.before in
     let l = c.before.loop in
-    tells-yes (record { fit = fit-less (here s) _ l.invariant.1 (omega (arith, c.loop-test.false)); apart = apart-within (here s) l.invariant.2 (omega arith) (omega (arith, c.loop-test.false)) })
+    tells_yes (record { fit = fit_less (here s) _ l.invariant.1 (omega (arith, c.loop-test.false)); apart = apart_within (here s) l.invariant.2 (omega arith) (omega (arith, c.loop-test.false)) })
 
-pub past-spec : {M : Type 1} → statement M
-past-spec =
+pub past_spec : {M : Type 1} → statement M
+past_spec =
     tie.close
     (tie.spec
     invariant-loop
@@ -89,7 +89,7 @@ past-spec =
     (λ c. omega (arith, c.before.before.before.before.next.ensures.0))
     (λ c. sym (c.before.before.before.print-block.ensures.1 ∙ c.before.before.before.before.before.before.before.loop.invariant.3))
     chunk-clear-requires
-    returns-2
+    returns_2
     (λ c. omega (arith, c.before.before.before.before.before.before.before.next.ensures.0, c.before.before.before.before.before.before.before.before.loop-test.true))
     loop-again
-    returns-3)
+    returns_3)

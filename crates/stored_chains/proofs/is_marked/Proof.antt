@@ -12,9 +12,9 @@ returns : tie.Need-returns
 unfolding marked
 returns c = rw (ne_eqb _ _ (λ e. c.if1.true (c.before.number_at.ensures ∙ e)))
 
-returns-2 : tie.Need-returns-2
+returns_2 : tie.Need-returns-2
 unfolding marked
-returns-2 c = rw (eq-eqb _ _ (sym c.before.before.number_at.ensures ∙ c.before.if1.false)) (ap (λ x. eqb x mark) c.number-at2.ensures)
+returns_2 c = rw (eq-eqb _ _ (sym c.before.before.number_at.ensures ∙ c.before.if1.false)) (ap (λ x. eqb x mark) c.number-at2.ensures)
 
-pub is-marked-spec : {M : Type 1} → statement M
-is-marked-spec = tie.close (tie.spec (λ c κs. search rules) returns (λ c κs. search rules) returns-2)
+pub is_marked_spec : {M : Type 1} → statement M
+is_marked_spec = tie.close (tie.spec (λ c κs. search rules) returns (λ c κs. search rules) returns_2)

@@ -4,8 +4,8 @@ use Prim.Native.Nat.{ℕ, ◌+◌, ◌*◌, ◌-◌}
 use native.Mathlib.Omega.{arith}
 use borrow.Author.Rules.{rules}
 use Rattle.ints.specs.Lists.{over}
-use Rattle.width_part.proofs.Parts.{lent_length, part-back}
-use Rattle.stored_fill.specs.Columns.{wordsFrom}
+use Rattle.width_part.proofs.Parts.{lent_length, part_back}
+use Rattle.stored_fill.specs.Columns.{words_from}
 use Rattle.stored_fill.proofs.fill_width.Statement.{statement}
 use Rattle.stored_fill.proofs.fill_width.Tie as tie
 
@@ -18,10 +18,10 @@ fill-numbers-requires c κs =
 returns : tie.Need-returns
 returns c =
     let a = c.before.before.before.before.before.before.args in
-    part-back (a.v * a.entries) a.entries (over (wordsFrom a.file.now a.at a.count)) a.xs.now _ c.before.before.fill-numbers.ensures
+    part_back (a.v * a.entries) a.entries (over (words_from a.file.now a.at a.count)) a.xs.now _ c.before.before.fill-numbers.ensures
 
-pub fill-width-spec : {M : Type 1} → statement M
-fill-width-spec =
+pub fill_width_spec : {M : Type 1} → statement M
+fill_width_spec =
     tie.close
     (tie.spec
     (λ c. search rules)

@@ -2,11 +2,11 @@
 use native.Mathlib.Omega.{arith}
 use borrow.Author.Rules.{rules}
 use Rattle.lists.proofs.Walking.{ended_at}
-use Rattle.synthesis_arena.proofs.Told.{circuit-read, circuit-refused}
+use Rattle.synthesis_arena.proofs.Told.{circuit_read, circuit_refused}
 use Rattle.node_matrix.specs.Matrices.{Readable}
-use Rattle.node_matrix.proofs.Formed.{chain-not-bad, read-valid, read_fits, read-not-unfit}
+use Rattle.node_matrix.proofs.Formed.{chain_not_bad, read_valid, read_fits, read_not_unfit}
 use Rattle.stored_numbers.specs.Files.{source}
-use Rattle.stored_matrix.specs.Nodes.{nodeList}
+use Rattle.stored_matrix.specs.Nodes.{node_list}
 use Rattle.stored_matrix.proofs.Nodes.{readable}
 use Rattle.stored_matrix.proofs.form_node.Statement.{statement}
 use Rattle.stored_matrix.proofs.form_node.Tie as tie
@@ -19,35 +19,35 @@ set-identity-requires : tie.Need-set-identity-requires
 set-identity-requires c κs = let p = c.before.before.before.before.before.before.requires in (p.1.1, p.0.narrow)
 
 circuit-requires : tie.Need-circuit-requires
-circuit-requires c κs = let r = may c.before.before.before.before.before.before.before.before in (r.in-u, r.in_c, omega arith)
+circuit-requires c κs = let r = may c.before.before.before.before.before.before.before.before in (r.in_u, r.in_c, omega arith)
 
 returns : tie.Need-returns
-returns c = absurd (chain-not-bad (may c.before.before.before.before.before.before.before.before.before.before.before.before) (circuit-refused _ _ _ _ _ _ _ _ c.before.before.before.circuit.ensures c.enum_told.given.1).is-bad)
+returns c = absurd (chain_not_bad (may c.before.before.before.before.before.before.before.before.before.before.before.before) (circuit_refused _ _ _ _ _ _ _ _ c.before.before.before.circuit.ensures c.enum_told.given.1).is_bad_lem)
 
 part-apply-gates-end : tie.Need-slice-bounds-apply-gates-end
 part-apply-gates-end c =
-    let r = circuit-read _ _ _ _ _ _ _ _ c.before.before.before.before.before.before.before.circuit.ensures c.before.before.before.before.size.given.1 in
+    let r = circuit_read _ _ _ _ _ _ _ _ c.before.before.before.before.before.before.before.circuit.ensures c.before.before.before.before.size.given.1 in
     omega (arith, r.size, r.gates.short)
 
 apply-gates-requires : tie.Need-apply-gates-requires
 apply-gates-requires c κs =
     let p = c.before.before.before.before.before.before.before.before.before.before.before.before.before.before.before.before.before.requires in
-    let r = circuit-read _ _ _ _ _ _ _ _ c.before.before.before.before.before.before.before.before.circuit.ensures c.before.before.before.before.before.size.given.1 in
-    (p.0.narrow, (read-valid (may c.before.before.before.before.before.before.before.before.before.before.before.before.before.before.before.before.before) r, c.before.before.before.before.before.before.before.before.before.before.set-identity.ensures.0))
+    let r = circuit_read _ _ _ _ _ _ _ _ c.before.before.before.before.before.before.before.before.circuit.ensures c.before.before.before.before.before.size.given.1 in
+    (p.0.narrow, (read_valid (may c.before.before.before.before.before.before.before.before.before.before.before.before.before.before.before.before.before) r, c.before.before.before.before.before.before.before.before.before.before.set-identity.ensures.0))
 
-returns-2 : tie.Need-returns-2
-unfolding nodeList may
-returns-2 c =
-    let r = circuit-read _ _ _ _ _ _ _ _ c.before.before.before.before.before.before.before.before.before.before.before.before.circuit.ensures c.before.before.before.before.before.before.before.before.before.size.given.1 in
+returns_2 : tie.Need-returns-2
+unfolding node_list may
+returns_2 c =
+    let r = circuit_read _ _ _ _ _ _ _ _ c.before.before.before.before.before.before.before.before.before.before.before.before.circuit.ensures c.before.before.before.before.before.before.before.before.before.size.given.1 in
     read_fits (may c.before.before.before.before.before.before.before.before.before.before.before.before.before.before.before.before.before.before.before.before.before) r (ended_at c.before.k.given.1 c.before.before.before.apply-gates.ensures.0)
 
-returns-3 : tie.Need-returns-3
-returns-3 c =
-    let r = circuit-read _ _ _ _ _ _ _ _ c.before.before.before.before.before.before.before.before.before.before.before.circuit.ensures c.before.before.before.before.before.before.before.before.size.given.1 in
-    absurd (read-not-unfit (may c.before.before.before.before.before.before.before.before.before.before.before.before.before.before.before.before.before.before.before.before) r (ended_at c.enum-told2.given.1 c.before.before.apply-gates.ensures.0))
+returns_3 : tie.Need-returns-3
+returns_3 c =
+    let r = circuit_read _ _ _ _ _ _ _ _ c.before.before.before.before.before.before.before.before.before.before.before.circuit.ensures c.before.before.before.before.before.before.before.before.size.given.1 in
+    absurd (read_not_unfit (may c.before.before.before.before.before.before.before.before.before.before.before.before.before.before.before.before.before.before.before.before) r (ended_at c.enum-told2.given.1 c.before.before.apply-gates.ensures.0))
 
-pub form-node-spec : {M : Type 1} → statement M
-form-node-spec =
+pub form_node_spec : {M : Type 1} → statement M
+form_node_spec =
     tie.close
     (tie.spec
     (λ c. search rules)
@@ -64,5 +64,5 @@ form-node-spec =
     apply-gates-requires
     (λ c. search rules)
     (λ c. search rules)
-    returns-2
-    returns-3)
+    returns_2
+    returns_3)

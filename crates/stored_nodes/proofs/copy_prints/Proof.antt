@@ -3,7 +3,7 @@
 use Prim.Native.Nat.{◌-◌}
 use native.Mathlib.Omega.{arith}
 use borrow.Author.Rules.{rules}
-use Rattle.stored_nodes.proofs.Left.{Copied, copied_none, copied_more, copied-end}
+use Rattle.stored_nodes.proofs.Left.{Copied, copied_none, copied_more, copied_end}
 use Rattle.stored_nodes.proofs.copy_prints.Statement.{statement}
 use Rattle.stored_nodes.proofs.copy_prints.Tie as tie
 
@@ -17,10 +17,10 @@ loop-again : tie.Need-loop-preserved invariant-loop decreases-loop
 loop-again c = copied_more c.before.before.loop.invariant c.before.loop-test.true
 
 returns : tie.Need-returns invariant-loop decreases-loop
-returns c = copied-end c.before.loop.invariant (omega (arith, c.loop-test.false))
+returns c = copied_end c.before.loop.invariant (omega (arith, c.loop-test.false))
 
-pub copy-prints-spec : {M : Type 1} → statement M
-copy-prints-spec =
+pub copy_prints_spec : {M : Type 1} → statement M
+copy_prints_spec =
     tie.close
     (tie.spec
     invariant-loop

@@ -21,5 +21,5 @@ with-block-requires c κs =
     let r = reaches (sym (length-replicate {0} {A = ℕ} 32768 0)) (sym (length-replicate {0} {A = ℕ} 65536 0)) in
     ((r.0, r.1, r.2), c.before.before.before.before.before.before.before.before.requires)
 
-pub with-small-spec : {M : Type 1} → statement M
-with-small-spec = tie.close (tie.spec slice-aggregate-with-block slice-aggregate-with-block-2 with-block-requires (λ c. c.before.before.before.before.with-block.auto.1.1.1.1.1.1.1.1.0) (λ c. c.before.before.before.before.with-block.ensures))
+pub with_small_spec : {M : Type 1} → statement M
+with_small_spec = tie.close (tie.spec slice-aggregate-with-block slice-aggregate-with-block-2 with-block-requires (λ c. c.before.before.before.before.with-block.auto.1.1.1.1.1.1.1.1.0) (λ c. c.before.before.before.before.with-block.ensures))

@@ -12,8 +12,8 @@ print-nodes-requires c κs =
     let p = c.before.before.before.before.before.before.before.before.before.before.before.requires in
     (p.0, (p.1.0, (p.1.1, (c.before.before.before.before.identity-data.ensures.0, (refl, refl)))))
 
-pub print-block-spec : {M : Type 1} → statement M
-print-block-spec =
+pub print_block_spec : {M : Type 1} → statement M
+print_block_spec =
     tie.close
     (tie.spec
     (λ c. search rules)

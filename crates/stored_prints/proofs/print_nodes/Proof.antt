@@ -8,11 +8,11 @@ use lib.ListN.{length}
 use borrow.Author.Rules.{rules}
 use Rattle.places.specs.Held.{Holds}
 use Rattle.places.specs.Places.{places}
-use Rattle.stored_matrix.specs.Nodes.{Nodes, nodesIn, nodeProduct, printAt, Fits, FitTo}
+use Rattle.stored_matrix.specs.Nodes.{Nodes, nodes_in, node_product, print_at, Fits, FitTo}
 use Rattle.stored_matrix.specs.declared.Child.{Child}
 use Rattle.stored_matrix.specs.declared.Child.TheVariants.{Made, DoesNotFit}
 use Rattle.stored_prints.specs.Prints.{Printed, Later, TwoPrinted}
-use Rattle.stored_prints.proofs.Prints.{sound-less, root-holds, fit-less, fit-two, printed-none, printed-two, later-all, later-two, block-yes, block_no}
+use Rattle.stored_prints.proofs.Prints.{sound_less, root_holds, fit_less, fit_two, printed_none, printed_two, later_all, later_two, block_yes, block_no}
 use Rattle.stored_prints.proofs.print_nodes.Statement.{statement}
 use Rattle.stored_prints.proofs.print_nodes.Tie as tie
 
@@ -22,22 +22,22 @@ abbrev invariant-loop : tie.invariant-loop
 invariant-loop low high pf cf ps cs m₀ left₀ right₀ block₀ lim formed₀ k₀ j₀ m left right block formed k j =
     ((low ≤ j) × (j ≤ high))
     × ((length left ≡ places) × (length right ≡ places) × (length block ≡ length block₀))
-    × FitTo (nodesIn lim pf cf ps cs) j
-    × Holds lim.width k m (nodeProduct (nodesIn lim pf cf ps cs) formed)
-    × Printed (nodesIn lim pf cf ps cs) low (j - low) block
+    × FitTo (nodes_in lim pf cf ps cs) j
+    × Holds lim.width k m (node_product (nodes_in lim pf cf ps cs) formed)
+    × Printed (nodes_in lim pf cf ps cs) low (j - low) block
     × Later (j - low) block₀ block
 
 abbrev decreases-loop : tie.decreases-loop
 decreases-loop low high pf cf ps cs m₀ left₀ right₀ block₀ lim formed₀ k₀ j₀ m left right block formed k j = high - j
 
 abbrev here : tie.Start invariant-loop decreases-loop → Nodes
-here c = nodesIn c.args.limits c.args.parentfile.now c.args.codefile.now c.args.parents.now c.args.codes.now
+here c = nodes_in c.args.limits c.args.parentfile.now c.args.codefile.now c.args.parents.now c.args.codes.now
 
 loop-holds : tie.Need-loop-init invariant-loop decreases-loop
 loop-holds c =
     let s = c.before.before.before.before.before in
     let p = s.requires in
-    ((omega arith, p.0.0), (p.1.1.1.1.0, p.1.1.1.1.1, refl), p.1.1.0, root-holds (here s) p.1.1.1.0, printed-none (here s) _ _ (omega arith), later-all _ _)
+    ((omega arith, p.0.0), (p.1.1.1.1.0, p.1.1.1.1.1, refl), p.1.1.0, root_holds (here s) p.1.1.1.0, printed_none (here s) _ _ (omega arith), later_all _ _)
 
 print-two-requires : tie.Need-print-two-requires invariant-loop decreases-loop
 print-two-requires c κs =
@@ -46,7 +46,7 @@ print-two-requires c κs =
     let e = c.before.before.before.before.second-of.ensures in (
       (i.0.0, e.0, e.2, omega (arith, i.0, i.1.2, e.1, s.requires.0.1)),
       (
-        sound-less _ s.requires.1.0 (omega (arith, e.1)),
+        sound_less _ s.requires.1.0 (omega (arith, e.1)),
         (i.2, (i.3, (i.1.0, i.1.1))),
       ),
     )
@@ -72,7 +72,7 @@ returns c =
     )
 
 formed-from-requires : tie.Need-formed-from-requires invariant-loop decreases-loop
-formed-from-requires c κs = let s = c.before.before.before.before.before.before.before.before.before.before.before.before.before.before.before.before.before.before in omega (arith, s.requires.1.0.in-parents, c.before.before.before.before.before.before.before.before.before.before.second-of.ensures.1)
+formed-from-requires c κs = let s = c.before.before.before.before.before.before.before.before.before.before.before.before.before.before.before.before.before.before in omega (arith, s.requires.1.0.in_parents, c.before.before.before.before.before.before.before.before.before.before.second-of.ensures.1)
 
 loop-again : tie.Need-loop-preserved invariant-loop decreases-loop
 loop-again c =
@@ -85,25 +85,25 @@ loop-again c =
     let w = printed (here s) s.args.low l.j j two.new.1.1.1.1.1.1.1.1.1.1.0 l.block new c.before.before.l.given.1 two.ensures.0 in (
       (omega (arith, l.invariant.0.0, e.0), omega (arith, e.1)),
       (two.ensures.1.0.1, two.ensures.1.0.2, two.ensures.1.1 ∙ l.invariant.1.2),
-      fit-two (here s) j l.invariant.2 w.0.0 w.0.1 e.0 e.2,
-      subst (λ (v : ℕ). Holds s.args.limits.width c.before.before.l.given.0.0 two.new.1.1.1.1.1.1.1.1.1.1.0 (nodeProduct (here s) v)) (sym c.formed-from.ensures) w.1,
+      fit_two (here s) j l.invariant.2 w.0.0 w.0.1 e.0 e.2,
+      subst (λ (v : ℕ). Holds s.args.limits.width c.before.before.l.given.0.0 two.new.1.1.1.1.1.1.1.1.1.1.0 (node_product (here s) v)) (sym c.formed-from.ensures) w.1,
       subst (Printed (here s) s.args.low (j + 1 - s.args.low)) (sym w.2)
-          (printed-two (here s) j l.invariant.4 l.invariant.0.0 e.0 e.2 (omega (arith, l.invariant.0, l.invariant.1.2, e.1, s.requires.0.1))),
-      subst (Later (j + 1 - s.args.low) s.args.block.now) (sym w.2) (later-two j (printAt (here s) l.j) (printAt (here s) j) l.invariant.5 l.invariant.0.0 e.0),
+          (printed_two (here s) j l.invariant.4 l.invariant.0.0 e.0 e.2 (omega (arith, l.invariant.0, l.invariant.1.2, e.1, s.requires.0.1))),
+      subst (Later (j + 1 - s.args.low) s.args.block.now) (sym w.2) (later_two j (print_at (here s) l.j) (print_at (here s) j) l.invariant.5 l.invariant.0.0 e.0),
     )
 
 same-length-2 : tie.Need-same-length-2 invariant-loop decreases-loop
 same-length-2 c = c.before.loop.invariant.1.2
 
-returns-2 : tie.Need-returns-2 invariant-loop decreases-loop
-returns-2 c =
+returns_2 : tie.Need-returns-2 invariant-loop decreases-loop
+returns_2 c =
     let s = c.before.before.before.before.before.before.before in
     let l = c.before.loop in
     let z : l.j ≡ s.args.high = omega (arith, l.invariant.0.1, c.loop-test.false) in
-    (block-yes (here s) (fit-less (here s) _ l.invariant.2 (omega (arith, z))) l.invariant.4 l.invariant.5 (ap (λ (j : ℕ). j - s.args.low) z), l.invariant.1.2)
+    (block_yes (here s) (fit_less (here s) _ l.invariant.2 (omega (arith, z))) l.invariant.4 l.invariant.5 (ap (λ (j : ℕ). j - s.args.low) z), l.invariant.1.2)
 
-pub print-nodes-spec : {M : Type 1} → statement M
-print-nodes-spec =
+pub print_nodes_spec : {M : Type 1} → statement M
+print_nodes_spec =
     tie.close
     (tie.spec
     invariant-loop
@@ -120,4 +120,4 @@ print-nodes-spec =
     (λ c. search rules)
     loop-again
     same-length-2
-    returns-2)
+    returns_2)

@@ -6,8 +6,8 @@ use Rattle.stored_sizes.proofs.Lengths.{long}
 use Rattle.stored_read.proofs.limits_in.Statement.{statement}
 use Rattle.stored_read.proofs.limits_in.Tie as tie
 
-pub limits-in-spec : {M : Type 1} → statement M
-limits-in-spec =
+pub limits_in_spec : {M : Type 1} → statement M
+limits_in_spec =
     tie.close
     (tie.spec
     (λ c. omega (arith, c.before.requires.1))

@@ -8,24 +8,24 @@ use lib.ListN.{length}
 use borrow.Author.Rules.{rules}
 use borrow.Author.Tests.{not-true, not-false}
 use Rattle.stored_numbers.specs.Files.{word_at}
-use Rattle.stored_sizes.specs.Sizes.{countsTo}
-use Rattle.stored_sizes.proofs.Lengths.{long, row-there}
-use Rattle.stored_sizes.proofs.Good.{widths-few, entries-few, gates-few, count-few}
-use Rattle.stored_fill.specs.Columns.{parentsFirst}
-use Rattle.stored_read.specs.Reading.{goodNodes, LowerTested}
+use Rattle.stored_sizes.specs.Sizes.{counts_to}
+use Rattle.stored_sizes.proofs.Lengths.{long, row_there}
+use Rattle.stored_sizes.proofs.Good.{widths_few, entries_few, gates_few, count_few}
+use Rattle.stored_fill.specs.Columns.{parents_first}
+use Rattle.stored_read.specs.Reading.{good_nodes, LowerTested}
 use Rattle.synthesis_arena.specs.declared.WidthLimits.{WidthLimits}
 use Rattle.tables.proofs.Filled.{room_at}
 use Rattle.stored_read.specs.declared.Tested.TheVariants.{At}
-use Rattle.stored_read.proofs.Reading.{Placed, counted, there, tested, part_filled, good-not, good-last, all-filled}
+use Rattle.stored_read.proofs.Reading.{Placed, counted, there, tested, part_filled, good_not, good_last, all_filled}
 use Rattle.stored_read.proofs.read_nodes.Statement.{statement}
 use Rattle.stored_read.proofs.read_nodes.Tie as tie
 
 few : (s : tie.Start) → word_at s.args.file.now 0 ≤ 5
-few s = (widths-few s.args.file.now s.requires.0.1).1
+few s = (widths_few s.args.file.now s.requires.0.1).1
 
 -- the last width
-last-is : (c : tie.After-word) → c.word.result - 1 + 1 ≡ word_at c.before.before.before.before.before.before.before.before.args.file.now 0
-last-is c = omega (arith, c.word.ensures, (widths-few c.before.before.before.before.before.before.before.before.args.file.now c.before.before.before.before.before.before.before.before.requires.0.1).0)
+last_is : (c : tie.After-word) → c.word.result - 1 + 1 ≡ word_at c.before.before.before.before.before.before.before.before.args.file.now 0
+last_is c = omega (arith, c.word.ensures, (widths_few c.before.before.before.before.before.before.before.before.args.file.now c.before.before.before.before.before.before.before.before.requires.0.1).0)
 
 -- the widths before it
 lower : (c : tie.After-word) → LowerTested c.before.before.before.before.before.before.before.before.args.file.now (At c.before.before.at.given.0.0)
@@ -36,12 +36,12 @@ placed c =
     let f = c.before.before.before.before.before.before.before.before.before.args.file.now in
     let v = c.before.word.result - 1 in
     let d : 3 * v + 4 ≡ 4 + 3 * v = omega arith in
-    let e : word_at f 0 - 1 ≡ v = omega (arith, last-is c.before) in
+    let e : word_at f 0 - 1 ≡ v = omega (arith, last_is c.before) in
     record {
-      has = omega (arith, last-is c.before);
-      at-is = (lower c.before).0 ∙ ap (λ (j : ℕ). parentsFirst f + countsTo f j) e;
+      has = omega (arith, last_is c.before);
+      at_is = (lower c.before).0 ∙ ap (λ (j : ℕ). parents_first f + counts_to f j) e;
       gap_is = c.before.before.before.before.before.before.total.ensures;
-      count-is = c.word2.ensures ∙ ap (word_at f) d;
+      count_is = c.word2.ensures ∙ ap (word_at f) d;
     }
 
 test-part-requires : tie.Need-test-part-requires
@@ -51,13 +51,13 @@ test-part-requires c κs =
     let l = c.before.limits-in.ensures in
     let v = c.before.before.before.word.result - 1 in
     let p = placed c.before.before in
-    let h = last-is c.before.before.before in (
+    let h = last_is c.before.before.before in (
       (
         omega (arith, h, few s),
         omega (arith, ap (λ (x : WidthLimits). x.width) l, h, few s),
-        omega (arith, ap (λ (x : WidthLimits). x.gates) l, gates-few f s.requires.0.1),
-        omega (arith, ap (λ (x : WidthLimits). x.entries) l, (entries-few f s.requires.0.1).1),
-        omega (arith, ap (λ (x : WidthLimits). x.entries) l, counted f p, count-few f s.requires.0.1 (v + 1) (omega arith) (omega (arith, h))),
+        omega (arith, ap (λ (x : WidthLimits). x.gates) l, gates_few f s.requires.0.1),
+        omega (arith, ap (λ (x : WidthLimits). x.entries) l, (entries_few f s.requires.0.1).1),
+        omega (arith, ap (λ (x : WidthLimits). x.entries) l, counted f p, count_few f s.requires.0.1 (v + 1) (omega arith) (omega (arith, h))),
       ),
       (
         there f p s.requires.0.0,
@@ -66,44 +66,44 @@ test-part-requires c κs =
       ),
     )
 
-returns-2 : tie.Need-returns-2
-returns-2 c =
+returns_2 : tie.Need-returns-2
+returns_2 c =
     let s = c.before.before.before.before.before.before.before.before.before.before.before.before.before.before.before in
     let f = s.args.file.now in
     let l = c.before.before.before.before.before.limits-in.ensures in
     let p = placed c.before.before.before.before.before.before in
     let k = c.before.before.before.test-part in
     let r = not-true k.result c.if1.true in (
-      sym (good-not f (c.before.before.before.before.before.before.before.word.result - 1 + 1) (omega arith) (omega (arith, last-is c.before.before.before.before.before.before.before)) (sym (tested f p l k.ensures.0) ∙ r)),
+      sym (good_not f (c.before.before.before.before.before.before.before.word.result - 1 + 1) (omega arith) (omega (arith, last_is c.before.before.before.before.before.before.before)) (sym (tested f p l k.ensures.0) ∙ r)),
       part_filled f p k.result s.args.fingerprints.now l k.ensures.1 r,
     )
 
 -- all widths keep the rules
-all-good : (c : tie.Else1) → goodNodes c.before.before.before.before.before.before.before.before.before.before.before.before.before.before.before.args.file.now ≡ true
-all-good c =
+all_good : (c : tie.Else1) → good_nodes c.before.before.before.before.before.before.before.before.before.before.before.before.before.before.before.args.file.now ≡ true
+all_good c =
     let f = c.before.before.before.before.before.before.before.before.before.before.before.before.before.before.before.args.file.now in
     let k = c.before.before.before.test-part in
-    good-last f (c.before.before.before.before.before.before.before.word.result - 1) (last-is c.before.before.before.before.before.before.before) (lower c.before.before.before.before.before.before.before).1
+    good_last f (c.before.before.before.before.before.before.before.word.result - 1) (last_is c.before.before.before.before.before.before.before) (lower c.before.before.before.before.before.before.before).1
     (sym (tested f (placed c.before.before.before.before.before.before) c.before.before.before.before.before.limits-in.ensures k.ensures.0) ∙ not-false k.result c.if1.false)
 
 fill-lower-requires : tie.Need-fill-lower-requires
 fill-lower-requires c κs =
     let s = c.before.before.before.before.before.before.before.before.before.before.before.before.before.before.before.before in
-    ((s.requires.0.0, s.requires.0.1, all-good c.before), (c.before.before.before.before.before.before.before.before.before.before.before.before.before.total.ensures, omega (arith, s.requires.1, c.before.before.before.before.test-part.auto.1.1.1.1.1.1.0)))
+    ((s.requires.0.0, s.requires.0.1, all_good c.before), (c.before.before.before.before.before.before.before.before.before.before.before.before.before.total.ensures, omega (arith, s.requires.1, c.before.before.before.before.test-part.auto.1.1.1.1.1.1.0)))
 
-returns-3 : tie.Need-returns-3
-returns-3 c =
+returns_3 : tie.Need-returns-3
+returns_3 c =
     let s = c.before.before.before.before.before.before.before.before.before.before.before.before.before.before.before.before.before.before.before in
     let f = s.args.file.now in
     let k = c.before.before.before.before.before.before.before.test-part in (
-      sym (all-good c.before.before.before.before),
-      all-filled f s.requires.0.1 (c.before.before.before.before.before.before.before.before.before.before.before.word.result - 1) (last-is c.before.before.before.before.before.before.before.before.before.before.before) s.args.fingerprints.now _ _ s.requires.1
+      sym (all_good c.before.before.before.before),
+      all_filled f s.requires.0.1 (c.before.before.before.before.before.before.before.before.before.before.before.word.result - 1) (last_is c.before.before.before.before.before.before.before.before.before.before.before) s.args.fingerprints.now _ _ s.requires.1
           (part_filled f (placed c.before.before.before.before.before.before.before.before.before.before) k.result s.args.fingerprints.now c.before.before.before.before.before.before.before.before.before.limits-in.ensures k.ensures.1 (not-false k.result c.before.before.before.before.if1.false))
           c.before.before.fill-lower.ensures,
     )
 
-pub read-nodes-spec : {M : Type 1} → statement M
-read-nodes-spec =
+pub read_nodes_spec : {M : Type 1} → statement M
+read_nodes_spec =
     tie.close
     (tie.spec
     (λ c κs. c.before.before.requires.0.0)
@@ -113,15 +113,15 @@ read-nodes-spec =
     (λ c. (sym (subst (LowerTested c.before.before.before.before.before.before.args.file.now) c.enum_told.given.1 c.before.before.test-lower.ensures), refl))
     (λ c κs. omega (arith, (long c.before.before.before.before.before.before.before.args.file.now c.before.before.before.before.before.before.before.requires.0.0).0))
     (λ c. search rules)
-    (λ c. omega (arith, last-is c))
-    (λ c. omega (arith, last-is c, few c.before.before.before.before.before.before.before.before))
-    (λ c. omega (arith, last-is c, few c.before.before.before.before.before.before.before.before))
-    (λ c κs. omega (arith, row-there c.before.before.before.before.before.before.before.before.args.file.now (c.word.result - 1 + 1) c.before.before.before.before.before.before.before.before.requires.0.0 (omega (arith, last-is c))))
+    (λ c. omega (arith, last_is c))
+    (λ c. omega (arith, last_is c, few c.before.before.before.before.before.before.before.before))
+    (λ c. omega (arith, last_is c, few c.before.before.before.before.before.before.before.before))
+    (λ c κs. omega (arith, row_there c.before.before.before.before.before.before.before.before.args.file.now (c.word.result - 1 + 1) c.before.before.before.before.before.before.before.before.requires.0.0 (omega (arith, last_is c))))
     (λ c. search rules)
-    (λ c κs. (c.before.before.before.before.before.before.before.before.before.requires.0.0, omega (arith, last-is c.before, few c.before.before.before.before.before.before.before.before.before)))
+    (λ c κs. (c.before.before.before.before.before.before.before.before.before.requires.0.0, omega (arith, last_is c.before, few c.before.before.before.before.before.before.before.before.before)))
     test-part-requires
     (λ c. c.before.before.before.test-part.auto.1.1.1.1.1.1.0)
-    returns-2
+    returns_2
     fill-lower-requires
     (λ c. c.before.before.fill-lower.auto.1.1.0 ∙ c.before.before.before.before.before.before.before.test-part.auto.1.1.1.1.1.1.0)
-    returns-3)
+    returns_3)

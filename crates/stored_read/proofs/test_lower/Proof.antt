@@ -7,25 +7,25 @@ use lib.ListN.{length}
 use borrow.Author.Rules.{rules}
 use borrow.Author.Tests.{not-true, not-false}
 use Rattle.stored_numbers.specs.Files.{word_at}
-use Rattle.stored_sizes.specs.Sizes.{countsTo}
-use Rattle.stored_sizes.proofs.Lengths.{long, row-there, counts-more}
-use Rattle.stored_sizes.proofs.Good.{widths-few, entries-few, gates-few, count-few}
-use Rattle.stored_fill.specs.Columns.{parentsFirst}
-use Rattle.stored_read.specs.Reading.{widthKeeps}
+use Rattle.stored_sizes.specs.Sizes.{counts_to}
+use Rattle.stored_sizes.proofs.Lengths.{long, row_there, counts_more}
+use Rattle.stored_sizes.proofs.Good.{widths_few, entries_few, gates_few, count_few}
+use Rattle.stored_fill.specs.Columns.{parents_first}
+use Rattle.stored_read.specs.Reading.{width_keeps}
 use Rattle.synthesis_arena.specs.declared.WidthLimits.{WidthLimits}
-use Rattle.stored_read.proofs.Reading.{Placed, counted, there, tested, kept_more, good-not, none-back}
+use Rattle.stored_read.proofs.Reading.{Placed, counted, there, tested, kept_more, good_not, none_back}
 use Rattle.stored_read.proofs.test_lower.Statement.{statement}
 use Rattle.stored_read.proofs.test_lower.Tie as tie
 
 abbrev invariant-loop : tie.invariant-loop
 invariant-loop file gap last none₀ at₀ v₀ none at v =
-    (v ≤ last) × (at ≡ parentsFirst file + countsTo file v) × ((u : ℕ) → u < v → widthKeeps file (suc u) ≡ true) × (length none ≡ 1)
+    (v ≤ last) × (at ≡ parents_first file + counts_to file v) × ((u : ℕ) → u < v → width_keeps file (suc u) ≡ true) × (length none ≡ 1)
 
 abbrev decreases-loop : tie.decreases-loop
 decreases-loop file gap last none₀ at₀ v₀ none at v = last - v
 
 few : (s : tie.Start invariant-loop decreases-loop) → word_at s.args.file.now 0 ≤ 5
-few s = (widths-few s.args.file.now s.requires.0.1).1
+few s = (widths_few s.args.file.now s.requires.0.1).1
 
 -- a width before the last
 has : (c : tie.In-loop invariant-loop decreases-loop) → c.before.loop.v + 1 < word_at c.before.before.before.before.args.file.now 0
@@ -36,9 +36,9 @@ placed c =
     let d : 3 * c.before.before.loop.v + 4 ≡ 4 + 3 * c.before.before.loop.v = omega arith in
     record {
       has = omega (arith, has c.before);
-      at-is = c.before.before.loop.invariant.1;
+      at_is = c.before.before.loop.invariant.1;
       gap_is = c.before.before.before.before.before.requires.1;
-      count-is = c.word2.ensures ∙ ap (word_at c.before.before.before.before.before.args.file.now) d;
+      count_is = c.word2.ensures ∙ ap (word_at c.before.before.before.before.before.args.file.now) d;
     }
 
 test-nodes-requires : tie.Need-test-nodes-requires invariant-loop decreases-loop
@@ -49,8 +49,8 @@ test-nodes-requires c κs =
     let p = placed c.before.before in (
       (
         omega (arith, ap (λ (x : WidthLimits). x.width) l, has c.before.before.before, few s),
-        omega (arith, ap (λ (x : WidthLimits). x.gates) l, gates-few f s.requires.0.1),
-        omega (arith, counted f p, count-few f s.requires.0.1 (c.before.before.before.before.loop.v + 1) (omega arith) (omega (arith, has c.before.before.before)), (entries-few f s.requires.0.1).1),
+        omega (arith, ap (λ (x : WidthLimits). x.gates) l, gates_few f s.requires.0.1),
+        omega (arith, counted f p, count_few f s.requires.0.1 (c.before.before.before.before.loop.v + 1) (omega arith) (omega (arith, has c.before.before.before)), (entries_few f s.requires.0.1).1),
       ),
       there f p s.requires.0.0,
     )
@@ -58,7 +58,7 @@ test-nodes-requires c κs =
 returns : tie.Need-returns invariant-loop decreases-loop
 returns c =
     let f = c.before.before.before.before.before.before.before.before.before.before.args.file.now in
-    good-not f (c.before.before.before.before.before.before.before.loop.v + 1) (omega arith) (omega (arith, has c.before.before.before.before.before.before))
+    good_not f (c.before.before.before.before.before.before.before.loop.v + 1) (omega arith) (omega (arith, has c.before.before.before.before.before.before))
     (sym (tested f (placed c.before.before.before.before.before) c.before.before.before.before.limits-in.ensures c.before.before.test-nodes.ensures.0) ∙ not-true _ c.if1.true)
 
 loop-again : tie.Need-loop-preserved invariant-loop decreases-loop
@@ -67,34 +67,34 @@ loop-again c =
     let l = c.before.before.before.before.before.before.before.loop in
     let p = placed c.before.before.before.before.before in (
       omega (arith, c.before.before.before.before.before.before.loop-test.true),
-      omega (arith, l.invariant.1, p.count-is, counts-more f l.v),
+      omega (arith, l.invariant.1, p.count_is, counts_more f l.v),
       kept_more f l.v l.invariant.2 (sym (tested f p c.before.before.before.before.limits-in.ensures c.before.before.test-nodes.ensures.0) ∙ not-false _ c.if1.false),
-      none-back c.before.before.test-nodes.new.1.1.1.1.1.0 l.none c.before.before.test-nodes.auto.1.1.1.1.1.0 l.invariant.3,
+      none_back c.before.before.test-nodes.new.1.1.1.1.1.0 l.none c.before.before.test-nodes.auto.1.1.1.1.1.0 l.invariant.3,
     )
 
-returns-2 : tie.Need-returns-2 invariant-loop decreases-loop
-returns-2 c =
+returns_2 : tie.Need-returns-2 invariant-loop decreases-loop
+returns_2 c =
     let f = c.before.before.before.before.args.file.now in
     let l = c.before.loop in
     let e : l.v ≡ word_at f 0 - 1 = omega (arith, l.invariant.0, c.loop-test.false, c.before.before.word.ensures) in
-    (l.invariant.1 ∙ ap (λ (j : ℕ). parentsFirst f + countsTo f j) e, λ u h. l.invariant.2 u (omega (arith, e)))
+    (l.invariant.1 ∙ ap (λ (j : ℕ). parents_first f + counts_to f j) e, λ u h. l.invariant.2 u (omega (arith, e)))
 
-pub test-lower-spec : {M : Type 1} → statement M
-test-lower-spec =
+pub test_lower_spec : {M : Type 1} → statement M
+test_lower_spec =
     tie.close
     (tie.spec
     invariant-loop
     decreases-loop
     (λ c κs. omega (arith, (long c.before.args.file.now c.before.requires.0.0).0))
     (λ c. search rules)
-    (λ c. omega (arith, c.word.ensures, (widths-few c.before.before.args.file.now c.before.before.requires.0.1).0))
-    (λ c. omega (arith, c.word.ensures, (widths-few c.before.before.args.file.now c.before.before.requires.0.1).1))
-    (λ c. omega (arith, c.word.ensures, (widths-few c.before.before.args.file.now c.before.before.requires.0.1).1))
-    (λ c. omega (arith, c.word.ensures, (widths-few c.before.before.args.file.now c.before.before.requires.0.1).1))
-    (λ c. (omega arith, omega (arith, c.word.ensures, (widths-few c.before.before.args.file.now c.before.before.requires.0.1).0), (λ u h. absurd (omega arith)), refl))
+    (λ c. omega (arith, c.word.ensures, (widths_few c.before.before.args.file.now c.before.before.requires.0.1).0))
+    (λ c. omega (arith, c.word.ensures, (widths_few c.before.before.args.file.now c.before.before.requires.0.1).1))
+    (λ c. omega (arith, c.word.ensures, (widths_few c.before.before.args.file.now c.before.before.requires.0.1).1))
+    (λ c. omega (arith, c.word.ensures, (widths_few c.before.before.args.file.now c.before.before.requires.0.1).1))
+    (λ c. (omega arith, omega (arith, c.word.ensures, (widths_few c.before.before.args.file.now c.before.before.requires.0.1).0), (λ u h. absurd (omega arith)), refl))
     (λ c. omega (arith, has c, few c.before.before.before.before))
     (λ c. omega (arith, has c, few c.before.before.before.before))
-    (λ c κs. omega (arith, row-there c.before.before.before.before.args.file.now (c.before.loop.v + 1) c.before.before.before.before.requires.0.0 (omega (arith, has c))))
+    (λ c κs. omega (arith, row_there c.before.before.before.before.args.file.now (c.before.loop.v + 1) c.before.before.before.before.requires.0.0 (omega (arith, has c))))
     (λ c. search rules)
     (λ c κs. (c.before.before.before.before.before.requires.0.0, omega (arith, has c.before, few c.before.before.before.before.before)))
     (λ c. omega arith)
@@ -106,4 +106,4 @@ test-lower-spec =
     (λ c. omega (arith, has c.before.before.before.before.before.before, few c.before.before.before.before.before.before.before.before.before.before))
     (λ c. omega (arith, c.before.before.before.before.before.before.loop-test.true))
     loop-again
-    returns-2)
+    returns_2)

@@ -7,10 +7,10 @@ use lib.ListN.{length, take, drop}
 use borrow.Author.Rules.{rules}
 use Rattle.ints.specs.Lists.{pick}
 use Rattle.stored_numbers.specs.Files.{source}
-use Rattle.stored_numbers.proofs.Coding.{source-part}
+use Rattle.stored_numbers.proofs.Coding.{source_part}
 use Rattle.stored_matrix.specs.Nodes.{Nodes}
-use Rattle.stored_nodes.specs.Rules.{nodesKeep, printsLeft}
-use Rattle.stored_fill.proofs.Columns.{from-length}
+use Rattle.stored_nodes.specs.Rules.{nodes_keep, prints_left}
+use Rattle.stored_fill.proofs.Columns.{from_length}
 use Rattle.stored_read.proofs.Reading.{parts_are}
 use Rattle.stored_read.proofs.test_nodes.Statement.{statement}
 use Rattle.stored_read.proofs.test_nodes.Tie as tie
@@ -22,8 +22,8 @@ parted : (s : tie.Start) → let a = s.args in
 parted s =
     let a = s.args in
     let h : 4 * (a.at + a.count) ≤ length a.file.now = omega (arith, s.requires.1) in (
-      omega (arith, ap length (source-part a.file.now a.at a.count h), from-length a.file.now a.at a.count h),
-      omega (arith, ap length (source-part a.file.now (a.at + a.gap) a.count s.requires.1), from-length a.file.now (a.at + a.gap) a.count s.requires.1),
+      omega (arith, ap length (source_part a.file.now a.at a.count h), from_length a.file.now a.at a.count h),
+      omega (arith, ap length (source_part a.file.now (a.at + a.gap) a.count s.requires.1), from_length a.file.now (a.at + a.gap) a.count s.requires.1),
     )
 
 nodes-keep-requires : tie.Need-nodes-keep-requires
@@ -35,10 +35,10 @@ returns c =
     let a = s.args in
     let e = parts_are a.limits a.file.now a.at a.gap a.count s.requires.1 in
     let k = c.before.before.nodes-keep in
-    subst (λ (n : Nodes). (k.result ≡ nodesKeep n a.count) × (k.new.1.1.1.1.1.1.0 ≡ pick k.result (printsLeft n a.count a.prints.now) a.prints.now)) e k.ensures
+    subst (λ (n : Nodes). (k.result ≡ nodes_keep n a.count) × (k.new.1.1.1.1.1.1.0 ≡ pick k.result (prints_left n a.count a.prints.now) a.prints.now)) e k.ensures
 
-pub test-nodes-spec : {M : Type 1} → statement M
-test-nodes-spec =
+pub test_nodes_spec : {M : Type 1} → statement M
+test_nodes_spec =
     tie.close
     (tie.spec
     (λ c. search rules)

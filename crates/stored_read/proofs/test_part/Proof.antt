@@ -2,8 +2,8 @@
 use Prim.Native.Nat.{◌*◌}
 use native.Mathlib.Omega.{arith}
 use borrow.Author.Rules.{rules}
-use Rattle.stored_read.specs.Reading.{nodesFrom}
-use Rattle.stored_read.proofs.Reading.{tested-back}
+use Rattle.stored_read.specs.Reading.{nodes_from}
+use Rattle.stored_read.proofs.Reading.{tested_back}
 use Rattle.stored_read.proofs.test_part.Statement.{statement}
 use Rattle.stored_read.proofs.test_part.Tie as tie
 
@@ -13,12 +13,12 @@ returns c =
     let a = s.args in
     let k = c.before.before.test-nodes in (
       k.ensures.0,
-      tested-back (a.v * a.limits.entries) a.limits.entries (nodesFrom a.limits a.file.now a.at a.gap a.count) a.count k.result
+      tested_back (a.v * a.limits.entries) a.limits.entries (nodes_from a.limits a.file.now a.at a.gap a.count) a.count k.result
           a.fingerprints.now _ s.requires.0.4 s.requires.1.1 k.ensures.1,
     )
 
-pub test-part-spec : {M : Type 1} → statement M
-test-part-spec =
+pub test_part_spec : {M : Type 1} → statement M
+test_part_spec =
     tie.close
     (tie.spec
     (λ c. search rules)

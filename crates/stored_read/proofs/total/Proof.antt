@@ -5,8 +5,8 @@ use Rattle.stored_sizes.proofs.Lengths.{long}
 use Rattle.stored_read.proofs.total.Statement.{statement}
 use Rattle.stored_read.proofs.total.Tie as tie
 
-pub total-spec : {M : Type 1} → statement M
-total-spec =
+pub total_spec : {M : Type 1} → statement M
+total_spec =
     tie.close
     (tie.spec
     (λ c. omega (arith, (long c.before.args.file.now c.before.requires).0))

@@ -1,6 +1,6 @@
-use Rattle.stored_sizes.specs.Sizes.{countsTo, numbersGiven, sized}
+use Rattle.stored_sizes.specs.Sizes.{counts_to, numbers_given, sized}
 use Rattle.stored_numbers.specs.Files.{word_at}
-use Rattle.stored_sizes.proofs.Lengths.{sized-short, sized-not, sized-left, counts-rise, counts-more}
+use Rattle.stored_sizes.proofs.Lengths.{sized_short, sized_not, sized_left, counts_rise, counts_more}
 use Prim.Native.Nat.{ℕ, zero, suc, ◌≤◌, ◌<◌, ◌-◌, ◌+◌, ◌*◌}
 use native.Mathlib.Omega.{arith}
 use mathlib.Core.Path.{◌≡◌, refl, sym, ap, ◌∙◌}
@@ -15,18 +15,18 @@ use Rattle.stored_numbers.proofs.word.Reads as word-reads
 
 abbrev invariant-loop : tie.invariant-loop
 invariant-loop file most widths left₀ w₀ left w =
-    (w ≤ widths) × (widths ≡ word_at file 0) × (length file ≡ 4 * (most + 4)) × (most ≡ 3 * widths + 2 * countsTo file w + left)
+    (w ≤ widths) × (widths ≡ word_at file 0) × (length file ≡ 4 * (most + 4)) × (most ≡ 3 * widths + 2 * counts_to file w + left)
 
 abbrev decreases-loop : tie.decreases-loop
 decreases-loop file most widths left₀ w₀ left w = widths - w
 
 -- src/lib.rt:27:9
 returns : tie.Need-returns invariant-loop decreases-loop
-returns c = sized-short _ c.if1.true
+returns c = sized_short _ c.if1.true
 
 -- src/lib.rt:30:9
-returns-2 : tie.Need-returns-2 invariant-loop decreases-loop
-returns-2 c = sized-not _ (omega (arith, c.before.if1.false)) (λ e. c.if2.true (omega (arith, e)))
+returns_2 : tie.Need-returns-2 invariant-loop decreases-loop
+returns_2 c = sized_not _ (omega (arith, c.before.if1.false)) (λ e. c.if2.true (omega (arith, e)))
 
 -- src/lib.rt:32:16
 sub-most : tie.Need-overflow-sub-most invariant-loop decreases-loop
@@ -41,8 +41,8 @@ cast-widths : tie.Need-overflow-cast-widths invariant-loop decreases-loop
 cast-widths c = search rules
 
 -- src/lib.rt:35:9
-returns-3 : tie.Need-returns-3 invariant-loop decreases-loop
-returns-3 c = sized-not _ (omega (arith, c.before.before.before.if1.false)) (λ e. omega (arith, e, c.if3.true, c.before.word.ensures))
+returns_3 : tie.Need-returns-3 invariant-loop decreases-loop
+returns_3 c = sized_not _ (omega (arith, c.before.before.before.if1.false)) (λ e. omega (arith, e, c.if3.true, c.before.word.ensures))
 
 -- src/lib.rt:37:27
 mul_left : tie.Need-overflow-mul-left invariant-loop decreases-loop
@@ -73,13 +73,13 @@ cast-count : tie.Need-overflow-cast-count invariant-loop decreases-loop
 cast-count c = search rules
 
 -- src/lib.rt:42:13
-returns-4 : tie.Need-returns-4 invariant-loop decreases-loop
-returns-4 c =
+returns_4 : tie.Need-returns-4 invariant-loop decreases-loop
+returns_4 c =
     let f = c.before.before.before.before.before.before.before.before.before.args.file.now in
     let i = c.before.before.before.loop.invariant in
     let w = c.before.before.before.loop.w in
-    sized-not f (omega (arith, c.before.before.before.before.before.before.before.if1.false))
-    (λ e. omega (arith, e, i.1, i.2, c.if4.true, c.before.word2.ensures, counts-rise f (suc w) (word_at f 0) (omega (arith, i.1, c.before.before.loop-test.true))))
+    sized_not f (omega (arith, c.before.before.before.before.before.before.before.if1.false))
+    (λ e. omega (arith, e, i.1, i.2, c.if4.true, c.before.word2.ensures, counts_rise f (suc w) (word_at f 0) (omega (arith, i.1, c.before.before.loop-test.true))))
 
 -- src/lib.rt:44:23
 mul-left-2 : tie.Need-overflow-mul-left-2 invariant-loop decreases-loop
@@ -102,28 +102,28 @@ loop-again : tie.Need-loop-preserved invariant-loop decreases-loop
 loop-again c =
     let i = c.before.before.before.loop.invariant in
     let f = c.before.before.before.before.before.before.before.before.before.args.file.now in
-    (omega (arith, c.before.before.loop-test.true), i.1, i.2, omega (arith, i.3, c.if4.false, c.before.word2.ensures, counts-more f c.before.before.before.loop.w))
+    (omega (arith, c.before.before.loop-test.true), i.1, i.2, omega (arith, i.3, c.if4.false, c.before.word2.ensures, counts_more f c.before.before.before.loop.w))
 
 -- src/lib.rt:23:1
-returns-5 : tie.Need-returns-5 invariant-loop decreases-loop
-returns-5 c =
+returns_5 : tie.Need-returns-5 invariant-loop decreases-loop
+returns_5 c =
     let i = c.before.loop.invariant in
     let f = c.before.before.before.before.before.before.before.args.file.now in
     let e : c.before.loop.w ≡ word_at f 0 = omega (arith, i.0, i.1, c.loop-test.false) in
-    sized-left f c.before.loop.left (omega (arith, i.2)) (omega (arith, i.1, i.2, i.3, ap (countsTo f) e))
+    sized_left f c.before.loop.left (omega (arith, i.2)) (omega (arith, i.1, i.2, i.3, ap (counts_to f) e))
 
-pub gives-length-spec : {M : Type 1} → statement M
-gives-length-spec =
+pub gives_length_spec : {M : Type 1} → statement M
+gives_length_spec =
     tie.close
     (tie.spec
     invariant-loop
     decreases-loop
     returns
-    returns-2
+    returns_2
     sub-most
     word-requires
     cast-widths
-    returns-3
+    returns_3
     mul_left
     sub-left
     loop-holds
@@ -131,10 +131,10 @@ gives-length-spec =
     add-word
     word-requires-2
     cast-count
-    returns-4
+    returns_4
     mul-left-2
     sub-left-2
     add-w
     loop-less
     loop-again
-    returns-5)
+    returns_5)

@@ -9,7 +9,7 @@ use borrow.Author.Tests.{not-true, not-false}
 use borrow.Fn.Kinds.{In}
 use borrow.Fn.PlainCycle.{Measures, is, falls, and}
 use Rattle.circuit.proofs.LibraryGate.is_valid_for.Reads as is-valid-for-reads
-use Rattle.synthesis_arena.proofs.Depths.{depth-unmarked, depth-root, depth-spent, depth-not-below, depth-not-valid, depth-more, depth-bad, deep}
+use Rattle.synthesis_arena.proofs.Depths.{depth_unmarked, depth_root, depth_spent, depth_not_below, depth_not_valid, depth_more, depth_bad, deep}
 use Rattle.synthesis_arena.proofs.is_marked.Reads as is-marked-reads
 use Rattle.synthesis_arena.proofs.depth.Reads as depth
 use Rattle.synthesis_arena.proofs.depth.Kinds as depth-kinds
@@ -20,8 +20,8 @@ use Rattle.synthesis_arena.proofs.+depth.Tie.{close}
 abbrev μ-depth : Measures 2 depth-kinds.ps ℕ
 μ-depth κs a = a.1.1.1.1.1.0
 
-abbrev depth-at : ℕ → In 2 depth-kinds.ps
-depth-at t = and 2 depth-kinds.ps (is 2 depth-kinds.ps μ-depth t) depth.Pre
+abbrev depth_at : ℕ → In 2 depth-kinds.ps
+depth_at t = and 2 depth-kinds.ps (is 2 depth-kinds.ps μ-depth t) depth.Pre
 
 abbrev depth_below : ℕ → In 2 depth-kinds.ps
 depth_below t = and 2 depth-kinds.ps (falls 2 depth-kinds.ps ◌<◌ μ-depth t) depth.Pre
@@ -37,39 +37,39 @@ claims t = (
 )
 
 module _ (t : ℕ) where
-  returns : lts.Need-returns (claims t) (depth-at t) depth.Post
-  returns c = depth-unmarked _ _ _ _ _ _ c.before.before.if1.true (sym c.before.is-marked.ensures ∙ not-true _ c.if2.true)
+  returns : lts.Need-returns (claims t) (depth_at t) depth.Post
+  returns c = depth_unmarked _ _ _ _ _ _ c.before.before.if1.true (sym c.before.is-marked.ensures ∙ not-true _ c.if2.true)
 
-  returns-2 : lts.Need-returns-2 (claims t) (depth-at t) depth.Post
-  returns-2 c = depth-root _ _ _ _ _ _ c.before.before.if1.true (sym c.before.is-marked.ensures ∙ not-false _ c.if2.false)
+  returns_2 : lts.Need-returns-2 (claims t) (depth_at t) depth.Post
+  returns_2 c = depth_root _ _ _ _ _ _ c.before.before.if1.true (sym c.before.is-marked.ensures ∙ not-false _ c.if2.false)
 
-  returns-3 : lts.Need-returns-3 (claims t) (depth-at t) depth.Post
-  returns-3 c = depth-spent _ _ _ _ _ _ (omega (arith, c.before.if1.false)) c.if3.true
+  returns_3 : lts.Need-returns-3 (claims t) (depth_at t) depth.Post
+  returns_3 c = depth_spent _ _ _ _ _ _ (omega (arith, c.before.if1.false)) c.if3.true
 
-  cast-parent : lts.Need-overflow-cast-parent (claims t) (depth-at t) depth.Post
-  cast-parent c = omega (arith, c.shared-slice-known3.given c.before.before.before.before.before.args.node)
+  cast_parent : lts.Need-overflow-cast-parent (claims t) (depth_at t) depth.Post
+  cast_parent c = omega (arith, c.shared-slice-known3.given c.before.before.before.before.before.args.node)
 
-  returns-4 : lts.Need-returns-4 (claims t) (depth-at t) depth.Post
-  returns-4 c = depth-not-below _ _ _ _ _ _ (omega (arith, c.before.before.before.if1.false)) (omega (arith, c.if4.true))
+  returns_4 : lts.Need-returns-4 (claims t) (depth_at t) depth.Post
+  returns_4 c = depth_not_below _ _ _ _ _ _ (omega (arith, c.before.before.before.if1.false)) (omega (arith, c.if4.true))
 
-  returns-5 : lts.Need-returns-5 (claims t) (depth-at t) depth.Post
-  returns-5 c = depth-not-valid _ _ _ _ _ _ (omega (arith, c.before.before.before.before.before.before.if1.false)) (sym c.before.is-valid-for.ensures ∙ not-true _ c.if5.true)
+  returns_5 : lts.Need-returns-5 (claims t) (depth_at t) depth.Post
+  returns_5 c = depth_not_valid _ _ _ _ _ _ (omega (arith, c.before.before.before.before.before.before.if1.false)) (sym c.before.is-valid-for.ensures ∙ not-true _ c.if5.true)
 
   -- the node number falls
-  depth-requires : lts.Need-depth-requires (claims t) (depth-at t) depth.Post
-  depth-requires c κs = search rules
+  depth_requires : lts.Need-depth-requires (claims t) (depth_at t) depth.Post
+  depth_requires c κs = search rules
 
-  returns-6 : lts.Need-returns-6 (claims t) (depth-at t) depth.Post
-  returns-6 c =
+  returns_6 : lts.Need-returns-6 (claims t) (depth_at t) depth.Post
+  returns_6 c =
       let e = c.before.before.before.before in
       let l = e.before.before.before.before.before in
-      depth-more _ _ _ _ _ _ (omega (arith, l.before.if1.false)) (omega (arith, l.if3.false)) (omega (arith, e.before.before.before.if4.false)) (sym e.before.is-valid-for.ensures ∙ not-false _ e.if5.false) c.before.d.given.1 c.before.before.before.depth.ensures
+      depth_more _ _ _ _ _ _ (omega (arith, l.before.if1.false)) (omega (arith, l.if3.false)) (omega (arith, e.before.before.before.if4.false)) (sym e.before.is-valid-for.ensures ∙ not-false _ e.if5.false) c.before.d.given.1 c.before.before.before.depth.ensures
 
-  returns-7 : lts.Need-returns-7 (claims t) (depth-at t) depth.Post
-  returns-7 c =
+  returns_7 : lts.Need-returns-7 (claims t) (depth_at t) depth.Post
+  returns_7 c =
       let e = c.before.before.before in
       let l = e.before.before.before.before.before in
-      depth-bad _ _ _ _ _ _ (omega (arith, l.before.if1.false)) (omega (arith, l.if3.false)) (omega (arith, e.before.before.before.if4.false)) (sym e.before.is-valid-for.ensures ∙ not-false _ e.if5.false) c.enum_told.given.1 c.before.before.depth.ensures
+      depth_bad _ _ _ _ _ _ (omega (arith, l.before.if1.false)) (omega (arith, l.if3.false)) (omega (arith, e.before.before.before.if4.false)) (sym e.before.is-valid-for.ensures ∙ not-false _ e.if5.false) c.enum_told.given.1 c.before.before.depth.ensures
 
 pub +depth-spec : {M : Type 1} → statement M
 +depth-spec =
@@ -77,26 +77,26 @@ pub +depth-spec : {M : Type 1} → statement M
     μ-depth
     λ t. lts.spec
     (claims t)
-    (depth-at t)
+    (depth_at t)
     depth.Post
     (λ c κs. search rules)
     (returns t)
-    (returns-2 t)
-    (returns-3 t)
+    (returns_2 t)
+    (returns_3 t)
     (λ c. search rules)
     (λ c. search rules)
-    (cast-parent t)
-    (returns-4 t)
+    (cast_parent t)
+    (returns_4 t)
     (λ c. search rules)
     (λ c. search rules)
     (λ c κs. search rules)
-    (returns-5 t)
+    (returns_5 t)
     (λ c. search rules)
-    (depth-requires t)
+    (depth_requires t)
     (λ c. search rules)
     (λ c.
     let k = deep _ _ _ _ _ _ c.before.d.given.1 c.before.before.before.depth.ensures in
     omega (arith, k.within, c.before.before.before.before.before.before.before.before.before.before.before.before.before.ranges.limit))
     (λ c. search rules)
-    (returns-6 t)
-    (returns-7 t)
+    (returns_6 t)
+    (returns_7 t)

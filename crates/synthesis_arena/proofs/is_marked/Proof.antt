@@ -9,10 +9,10 @@ returns : tie.Need-returns
 unfolding marked
 returns c = rw (ne_eqb _ _ c.if1.true)
 
-returns-2 : tie.Need-returns-2
+returns_2 : tie.Need-returns-2
 unfolding marked
-returns-2 c = rw (eq-eqb _ _ c.before.if1.false)
+returns_2 c = rw (eq-eqb _ _ c.before.if1.false)
 
-pub is-marked-spec : {M : Type 1} → statement M
-is-marked-spec =
-    tie.close (tie.spec (λ c. search rules) returns (λ c. search rules) returns-2)
+pub is_marked_spec : {M : Type 1} → statement M
+is_marked_spec =
+    tie.close (tie.spec (λ c. search rules) returns (λ c. search rules) returns_2)

@@ -4,13 +4,13 @@ use mathlib.Core.Path.{◌≡◌, refl, ◌∙◌}
 use Prim.Native.Nat.{◌-◌, ◌≤◌}
 use native.Mathlib.Omega.{arith}
 use borrow.Author.Rules.{rules}
-use Rattle.walk.specs.Lookup.{lowestFrom}
+use Rattle.walk.specs.Lookup.{lowest_from}
 use Rattle.synthesis_arena.proofs.skip_blocks.Statement.{statement}
 use Rattle.synthesis_arena.proofs.skip_blocks.Tie as tie
 
 abbrev invariant-loop : tie.invariant-loop
 invariant-loop fingerprints count from fingerprint i₀ i =
-    (i ≤ count) × (lowestFrom fingerprints count i fingerprint ≡ lowestFrom fingerprints count from fingerprint)
+    (i ≤ count) × (lowest_from fingerprints count i fingerprint ≡ lowest_from fingerprints count from fingerprint)
 
 abbrev decreases-loop : tie.decreases-loop
 decreases-loop fingerprints count from fingerprint i₀ i = count - i
@@ -22,8 +22,8 @@ loop-again c =
     let a = c.before.before.before.before.before.args in
     (omega (arith, t, l.invariant.0), c.before.may-have.ensures a.count (omega (arith, t, l.invariant.0)) c.if1.false ∙ l.invariant.1)
 
-pub skip-blocks-spec : {M : Type 1} → statement M
-skip-blocks-spec =
+pub skip_blocks_spec : {M : Type 1} → statement M
+skip_blocks_spec =
     tie.close
     (tie.spec
     invariant-loop

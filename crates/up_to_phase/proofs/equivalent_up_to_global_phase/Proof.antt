@@ -7,11 +7,11 @@ use mathlib.Core.Bool.{true}
 use Prim.Native.Nat.{ℕ, ◌*◌, ◌^◌, ◌≤◌, ◌<◌, ◌-◌}
 use native.Mathlib.Omega.{arith}
 use Rattle.coefficients.proofs.Number.{fails, holds}
-use Rattle.exact.specs.Phase.{phaseOf}
+use Rattle.exact.specs.Phase.{phase_of}
 use Rattle.exact.specs.Places.{held}
-use Rattle.places.proofs.Placed.{area-le, small_at}
-use Rattle.phases.proofs.Pivots.{phase-of}
-use Rattle.up_to_phase.proofs.Alike.{alike, apart, phase-of-below, exponents-differ, places-alike, place-differs}
+use Rattle.places.proofs.Placed.{area_le, small_at}
+use Rattle.phases.proofs.Pivots.{phase_of_lem}
+use Rattle.up_to_phase.proofs.Alike.{alike, apart, phase_of_below, exponents_differ, places_alike, place_differs}
 use Rattle.up_to_phase.proofs.equivalent_up_to_global_phase.Statement.{statement}
 use Rattle.up_to_phase.proofs.equivalent_up_to_global_phase.Tie as tie
 
@@ -25,8 +25,8 @@ decreases-loop left right n j k p q turns size e₀ e = size - e
 inside : (c : tie.In-loop invariant-loop decreases-loop) → let n = c.before.before.before.before.before.before.before.before.args.n in c.before.loop.e < 2 ^ n * 2 ^ n
 inside c = rw c.before.before.area.ensures at c.loop-test.true
 
-in-places : (c : tie.In-loop invariant-loop decreases-loop) → c.before.loop.e < 1024
-in-places c = let s = c.before.before.before.before.before.before.before.before in omega (arith, inside c, area-le s.args.n s.requires.0)
+in_places : (c : tie.In-loop invariant-loop decreases-loop) → c.before.loop.e < 1024
+in_places c = let s = c.before.before.before.before.before.before.before.before in omega (arith, inside c, area_le s.args.n s.requires.0)
 
 -- what is compared at the place
 test : (c : tie.After-equals invariant-loop decreases-loop)
@@ -37,27 +37,27 @@ test : (c : tie.After-equals invariant-loop decreases-loop)
 test c = c.equals.ensures ∙ rw (c.before.before.times-omega.ensures, c.before.before.before.get.ensures, c.before.get2.ensures)
 
 returns : tie.Need-returns invariant-loop decreases-loop
-returns c = sym (exponents-differ _ _ _ _ _ (λ q. omega arith))
+returns c = sym (exponents_differ _ _ _ _ _ (λ q. omega arith))
 
 -- the two powers are the phases
-left-phase : (c : tie.After-least-power2 invariant-loop decreases-loop)
-    → let s = c.before.before.before.before.before.args in c.before.before.least-power.result ≡ phaseOf s.n (held s.n 0 s.left.now)
-left-phase c = phase-of _ _ _ _ c.before.before.least-power.ensures c.before.before.before.pivot.ensures.0
+left_phase : (c : tie.After-least-power2 invariant-loop decreases-loop)
+    → let s = c.before.before.before.before.before.args in c.before.before.least-power.result ≡ phase_of s.n (held s.n 0 s.left.now)
+left_phase c = phase_of_lem _ _ _ _ c.before.before.least-power.ensures c.before.before.before.pivot.ensures.0
 
-right-phase : (c : tie.After-least-power2 invariant-loop decreases-loop)
-    → let s = c.before.before.before.before.before.args in c.least-power2.result ≡ phaseOf s.n (held s.n 0 s.right.now)
-right-phase c = phase-of _ _ _ _ c.least-power2.ensures c.before.pivot2.ensures.0
+right_phase : (c : tie.After-least-power2 invariant-loop decreases-loop)
+    → let s = c.before.before.before.before.before.args in c.least-power2.result ≡ phase_of s.n (held s.n 0 s.right.now)
+right_phase c = phase_of_lem _ _ _ _ c.least-power2.ensures c.before.pivot2.ensures.0
 
 -- both are below 8, so the sum fits in a byte
 mul-turns : tie.Need-overflow-mul-turns invariant-loop decreases-loop
 mul-turns c =
     let s = c.before.before.before.before.before.args in
-    omega (arith, right-phase c, phase-of-below s.n (held s.n 0 s.right.now))
+    omega (arith, right_phase c, phase_of_below s.n (held s.n 0 s.right.now))
 
 add-turns : tie.Need-overflow-add-turns invariant-loop decreases-loop
 add-turns c =
     let s = c.before.before.before.before.before.args in
-    omega (arith, left-phase c, right-phase c, phase-of-below s.n (held s.n 0 s.left.now), phase-of-below s.n (held s.n 0 s.right.now))
+    omega (arith, left_phase c, right_phase c, phase_of_below s.n (held s.n 0 s.left.now), phase_of_below s.n (held s.n 0 s.right.now))
 
 get-requires : tie.Need-get-requires invariant-loop decreases-loop
 get-requires c κs = omega (arith, inside c, c.before.before.before.before.before.before.before.before.requires.1.0.0)
@@ -68,13 +68,13 @@ times-omega-requires c κs = rw c.get.ensures (small_at _ _ _ c.before.before.be
 get-requires-2 : tie.Need-get-requires-2 invariant-loop decreases-loop
 get-requires-2 c κs = omega (arith, inside c.before.before, c.before.before.before.before.before.before.before.before.before.before.requires.1.0.1)
 
-returns-2 : tie.Need-returns-2 invariant-loop decreases-loop
-returns-2 c =
-    sym (place-differs _ _ _ _ _ _ _ (left-phase c.before.before.before.before.before.before.before.before) (right-phase c.before.before.before.before.before.before.before.before) _
+returns_2 : tie.Need-returns-2 invariant-loop decreases-loop
+returns_2 c =
+    sym (place_differs _ _ _ _ _ _ _ (left_phase c.before.before.before.before.before.before.before.before) (right_phase c.before.before.before.before.before.before.before.before) _
     (inside c.before.before.before.before.before) (fails (test c.before) c.if2.true))
 
 add-e : tie.Need-overflow-add-e invariant-loop decreases-loop
-add-e c = omega (arith, in-places c.before.before.before.before.before)
+add-e c = omega (arith, in_places c.before.before.before.before.before)
 
 loop-again : tie.Need-loop-preserved invariant-loop decreases-loop
 loop-again c = (
@@ -82,13 +82,13 @@ loop-again c = (
   below_more _ _ c.before.before.before.before.before.before.loop.invariant.1 (holds (test c.before) c.if2.false),
 )
 
-returns-3 : tie.Need-returns-3 invariant-loop decreases-loop
-returns-3 c =
-    sym (places-alike _ _ _ _ _ _ _ (left-phase c.before.before.before) (right-phase c.before.before.before)
+returns_3 : tie.Need-returns-3 invariant-loop decreases-loop
+returns_3 c =
+    sym (places_alike _ _ _ _ _ _ _ (left_phase c.before.before.before) (right_phase c.before.before.before)
     (omega (arith, c.before.before.before.before.before.before.before.if1.false)) (λ e h. c.before.loop.invariant.1 e (omega (arith, c.before.before.area.ensures))))
 
-pub equivalent-up-to-global-phase-spec : {M : Type 1} → statement M
-equivalent-up-to-global-phase-spec =
+pub equivalent_up_to_global_phase_spec : {M : Type 1} → statement M
+equivalent_up_to_global_phase_spec =
     tie.close
     (tie.spec
     invariant-loop
@@ -106,8 +106,8 @@ equivalent-up-to-global-phase-spec =
     times-omega-requires
     get-requires-2
     (λ c κs. search rules)
-    returns-2
+    returns_2
     add-e
     (λ c. search rules)
     loop-again
-    returns-3)
+    returns_3)

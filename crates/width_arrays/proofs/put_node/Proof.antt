@@ -8,13 +8,13 @@ use Rattle.width_arrays.proofs.put_node.Tie as tie
 returns : tie.Need-returns
 returns c mode h y s = fill h _ s (omega (arith, c.if1.true))
 
-returns-2 : tie.Need-returns-2
-returns-2 c mode h y s =
+returns_2 : tie.Need-returns-2
+returns_2 c mode h y s =
     let room = c.before.before.before.before.before.before.before.before.before.requires in
     grow h _ _ y s (omega (arith, room.few, c.before.before.before.before.if1.false)) c.before.before.keep-up.ensures
 
-pub put-node-spec : {M : Type 1} → statement M
-put-node-spec =
+pub put_node_spec : {M : Type 1} → statement M
+put_node_spec =
     tie.close
     (tie.spec
     returns
@@ -32,4 +32,4 @@ put-node-spec =
     (λ c. search rules)
     (λ c. search rules)
     (λ c. search rules)
-    returns-2)
+    returns_2)

@@ -5,26 +5,26 @@ use Prim.Native.Nat.{◌-◌, ◌≤◌}
 use native.Mathlib.Omega.{arith}
 use lib.ListN.{length}
 use Rattle.walk.specs.Walk.{begin, depths}
-use Rattle.index.specs.Told.{toldBy}
-use Rattle.known.specs.Known.{toldMode}
+use Rattle.index.specs.Told.{told_by}
+use Rattle.known.specs.Known.{told_mode}
 use Rattle.width_arrays.specs.Arrays.{rules}
 use Rattle.width_depths.specs.Depths.{Start}
-use Rattle.width_depths.proofs.DepthLoop.{DepthRun, depth-run-start, depth-run-live, depth-run-next, depth-run-none, depth-run-full, depth-run-end}
+use Rattle.width_depths.proofs.DepthLoop.{DepthRun, depth_run_start, depth_run_live, depth_run_next, depth_run_none, depth_run_full, depth_run_end}
 use Rattle.width_depths.proofs.deepen_all.Statement.{statement}
 use Rattle.width_depths.proofs.deepen_all.Tie as tie
 
 abbrev invariant-loop : tie.invariant-loop
 invariant-loop gates fingerprints₀ parents₀ codes₀ index₀ how lookup l limit n₀ first₀ d₀ fingerprints parents codes index n first d =
     (d ≤ limit)
-    × ((h : Start (toldBy lookup) l fingerprints₀ parents₀ codes₀ index₀)
-    → DepthRun (toldMode how) (toldBy lookup) l h.f0 h.u0 h.c0 h.i0 (depths (rules (toldMode how) l) l.entries begin l.gates) first d fingerprints parents codes index n)
+    × ((h : Start (told_by lookup) l fingerprints₀ parents₀ codes₀ index₀)
+    → DepthRun (told_mode how) (told_by lookup) l h.f0 h.u0 h.c0 h.i0 (depths (rules (told_mode how) l) l.entries begin l.gates) first d fingerprints parents codes index n)
     × (length fingerprints ≡ length fingerprints₀) × (length parents ≡ length parents₀) × (length codes ≡ length codes₀) × (length index ≡ length index₀)
 
 abbrev decreases-loop : tie.decreases-loop
 decreases-loop gates fingerprints₀ parents₀ codes₀ index₀ how lookup l limit n₀ first₀ d₀ fingerprints parents codes index n first d = limit - d
 
 loop-holds : tie.Need-loop-init invariant-loop decreases-loop
-loop-holds c = (omega arith, λ h. depth-run-start h, refl, refl, refl, refl)
+loop-holds c = (omega arith, λ h. depth_run_start h, refl, refl, refl, refl)
 
 add-next : tie.Need-overflow-add-next invariant-loop decreases-loop
 add-next c = omega (arith, c.loop-test.true, c.before.before.before.before.before.before.before.requires.0.1)
@@ -34,7 +34,7 @@ deepen-requires c κs =
     let p = c.before.before.before.before.before.before.before.before.before.before.before.requires in
     let h = p.1.1 in
     let r = c.before.before.before.before.before.loop.invariant.1 h in
-    ((p.0.0, omega (arith, r.order), p.0.2, p.0.1), (p.1.0, depth-run-live _ _ _ _ _ _ _ _ r (omega (arith, c.before.before.before.before.loop-test.true, p.0.1)) h.long))
+    ((p.0.0, omega (arith, r.order), p.0.2, p.0.1), (p.1.0, depth_run_live _ _ _ _ _ _ _ _ r (omega (arith, c.before.before.before.before.loop-test.true, p.0.1)) h.long))
 
 same_length : tie.Need-same-length invariant-loop decreases-loop
 same_length c = c.before.before.before.before.before.before.before.before.before.deepen.auto.1.1.1.1.1.1.0 ∙ c.before.before.before.before.before.before.before.before.before.before.before.before.before.before.before.loop.invariant.2
@@ -52,7 +52,7 @@ returns : tie.Need-returns invariant-loop decreases-loop
 returns c h =
     let r = c.before.before.before.before.before.before.before.before.before.before.before.before.before.before.before.loop.invariant.1 h in
     let t = c.before.before.before.before.before.before.before.before.before.before.before.before.before.before.loop-test.true in
-    depth-run-full _ _ _ _ _ _ _ _ r t (c.before.before.before.before.before.before.before.before.before.deepen.ensures (depth-run-live _ _ _ _ _ _ _ _ r (omega (arith, t, c.before.before.before.before.before.before.before.before.before.before.before.before.before.before.before.before.before.before.before.before.before.requires.0.1)) h.long)) c.if1.true
+    depth_run_full _ _ _ _ _ _ _ _ r t (c.before.before.before.before.before.before.before.before.before.deepen.ensures (depth_run_live _ _ _ _ _ _ _ _ r (omega (arith, t, c.before.before.before.before.before.before.before.before.before.before.before.before.before.before.before.before.before.before.before.before.before.requires.0.1)) h.long)) c.if1.true
 
 same-length-5 : tie.Need-same-length-5 invariant-loop decreases-loop
 same-length-5 c = c.before.before.before.before.before.before.before.before.before.before.before.deepen.auto.1.1.1.1.1.1.0 ∙ c.before.before.before.before.before.before.before.before.before.before.before.before.before.before.before.before.before.loop.invariant.2
@@ -66,11 +66,11 @@ same-length-7 c = c.before.before.before.before.before.before.before.before.befo
 same-length-8 : tie.Need-same-length-8 invariant-loop decreases-loop
 same-length-8 c = c.before.before.before.before.before.before.before.before.before.before.before.deepen.auto.1.1.1.1.1.1.1.1.1.0 ∙ c.before.before.before.before.before.before.before.before.before.before.before.before.before.before.before.before.before.loop.invariant.5
 
-returns-2 : tie.Need-returns-2 invariant-loop decreases-loop
-returns-2 c h =
+returns_2 : tie.Need-returns-2 invariant-loop decreases-loop
+returns_2 c h =
     let r = c.before.before.before.before.before.before.before.before.before.before.before.before.before.before.before.before.before.loop.invariant.1 h in
     let t = c.before.before.before.before.before.before.before.before.before.before.before.before.before.before.before.before.loop-test.true in
-    depth-run-none _ _ _ _ _ _ _ _ r t (c.before.before.before.before.before.before.before.before.before.before.before.deepen.ensures (depth-run-live _ _ _ _ _ _ _ _ r (omega (arith, t, c.before.before.before.before.before.before.before.before.before.before.before.before.before.before.before.before.before.before.before.before.before.before.before.requires.0.1)) h.long)) c.before.before.if1.false c.if2.true
+    depth_run_none _ _ _ _ _ _ _ _ r t (c.before.before.before.before.before.before.before.before.before.before.before.deepen.ensures (depth_run_live _ _ _ _ _ _ _ _ r (omega (arith, t, c.before.before.before.before.before.before.before.before.before.before.before.before.before.before.before.before.before.before.before.before.before.before.before.requires.0.1)) h.long)) c.before.before.if1.false c.if2.true
 
 loop-less : tie.Need-loop-smaller invariant-loop decreases-loop
 loop-less c = omega (arith, c.before.before.before.before.before.before.before.before.before.before.before.before.before.before.before.before.loop-test.true)
@@ -82,18 +82,18 @@ loop-again c =
     let u = c.before.before.before.before.before.before.before.before.before.before.before.before.before.before.before.before.loop-test.true in (
       omega (arith, u),
       λ h. let r = l.invariant.1 h in
-          depth-run-next _ _ _ _ _ _ _ _ r u (t.ensures (depth-run-live _ _ _ _ _ _ _ _ r (omega (arith, u, c.before.before.before.before.before.before.before.before.before.before.before.before.before.before.before.before.before.before.before.before.before.before.before.requires.0.1)) h.long)) c.before.before.if1.false c.if2.false,
+          depth_run_next _ _ _ _ _ _ _ _ r u (t.ensures (depth_run_live _ _ _ _ _ _ _ _ r (omega (arith, u, c.before.before.before.before.before.before.before.before.before.before.before.before.before.before.before.before.before.before.before.before.before.before.before.requires.0.1)) h.long)) c.before.before.if1.false c.if2.false,
       t.auto.1.1.1.1.1.1.0 ∙ l.invariant.2,
       t.auto.1.1.1.1.1.1.1.0 ∙ l.invariant.3,
       t.auto.1.1.1.1.1.1.1.1.0 ∙ l.invariant.4,
       t.auto.1.1.1.1.1.1.1.1.1.0 ∙ l.invariant.5,
     )
 
-returns-3 : tie.Need-returns-3 invariant-loop decreases-loop
-returns-3 c h = depth-run-end _ _ _ _ _ _ _ _ (c.before.loop.invariant.1 h) c.loop-test.false
+returns_3 : tie.Need-returns-3 invariant-loop decreases-loop
+returns_3 c h = depth_run_end _ _ _ _ _ _ _ _ (c.before.loop.invariant.1 h) c.loop-test.false
 
-pub deepen-all-spec : {M : Type 1} → statement M
-deepen-all-spec =
+pub deepen_all_spec : {M : Type 1} → statement M
+deepen_all_spec =
     tie.close
     (tie.spec
     invariant-loop
@@ -110,11 +110,11 @@ deepen-all-spec =
     same-length-6
     same-length-7
     same-length-8
-    returns-2
+    returns_2
     loop-less
     loop-again
     (λ c. c.before.loop.invariant.2)
     (λ c. c.before.loop.invariant.3)
     (λ c. c.before.loop.invariant.4)
     (λ c. c.before.loop.invariant.5)
-    returns-3)
+    returns_3)

@@ -3,8 +3,8 @@
 use mathlib.Core.Path.{refl, sym, ◌∙◌}
 use native.Mathlib.Omega.{arith}
 use borrow.Author.Rules.{rules}
-use Rattle.exact.proofs.Prints.{fingerprint-equal}
-use Rattle.places.proofs.Placed.{area-le}
+use Rattle.exact.proofs.Prints.{fingerprint_equal}
+use Rattle.places.proofs.Placed.{area_le}
 use Rattle.width_layer.proofs.open_width.Statement.{statement}
 use Rattle.width_layer.proofs.open_width.Tie as tie
 
@@ -12,15 +12,15 @@ unitary-fingerprint-requires : tie.Need-unitary-fingerprint-requires
 unitary-fingerprint-requires c κs =
     let p = c.before.before.before.before.before.before.before.before.requires in
     let w = c.before.put-identity.ensures.0 in
-    (p.0, (omega (arith, area-le _ p.0, w.long), w.small))
+    (p.0, (omega (arith, area_le _ p.0, w.long), w.small))
 
 returns : tie.Need-returns
 returns c =
     let l = c.before.before.before.before.before.before.before.before.before.before.before.before.before.before.before.before.before.before.before.before.before.before.args.limits in
-    c.before.before.before.before.before.before.before.before.put-root.ensures l (c.before.before.before.before.before.before.before.before.before.before.before.before.before.unitary-fingerprint.ensures ∙ fingerprint-equal l.width c.before.before.before.before.before.before.before.before.before.before.before.before.before.before.before.put-identity.ensures.0.equal)
+    c.before.before.before.before.before.before.before.before.put-root.ensures l (c.before.before.before.before.before.before.before.before.before.before.before.before.before.unitary-fingerprint.ensures ∙ fingerprint_equal l.width c.before.before.before.before.before.before.before.before.before.before.before.before.before.before.before.put-identity.ensures.0.equal)
 
-pub open-width-spec : {M : Type 1} → statement M
-open-width-spec =
+pub open_width_spec : {M : Type 1} → statement M
+open_width_spec =
     tie.close
     (tie.spec
     (λ c. search rules)

@@ -3,7 +3,7 @@
 use Rattle.std.proofs.Common.{◌≡◌, ℕ, ◌-◌, ◌^◌, ◌<◌, true, false, T, ℤ, pos, negsuc, ◌-ℤ◌, nat_abs, arith, to_z-of_z, w64, Fits, SFits, to_z, of_z, ltb-true}
 use lib.Signed.{mag, lt_z, non_neg}
 use mir.Val.{hbits}
-use Rattle.ints.proofs.Machine.{minus-one-less}
+use Rattle.ints.proofs.Machine.{minus_one_less}
 use Rattle.coefficients.specs.Coefficients.{near}
 use Rattle.words.specs.Words.{word}
 use Rattle.words.proofs.sign_extended.Statement.{statement}
@@ -14,9 +14,9 @@ unfolding word
 negative (pos n) f h = absurd (omega (arith, ltb-true n 0 h))
 negative (negsuc n) f h = omega arith
 
-not-below : (x : ℤ) → mag x < 2 ^ hbits near → lt_z x (pos 0) ≡ false → T (non_neg x) × Fits w64 (nat_abs x)
-not-below (pos n) f h = (tt, record { fits = omega arith })
-not-below (negsuc n) f h = let z : ◌≡◌ {A = ℕ} 0 1 = cc in absurd (omega arith)
+not_below : (x : ℤ) → mag x < 2 ^ hbits near → lt_z x (pos 0) ≡ false → T (non_neg x) × Fits w64 (nat_abs x)
+not_below (pos n) f h = (tt, record { fits = omega arith })
+not_below (negsuc n) f h = let z : ◌≡◌ {A = ℕ} 0 1 = cc in absurd (omega arith)
 
 positive : (x : ℤ) → mag x < 2 ^ hbits near → T (non_neg x) → nat_abs x ≡ word x
 unfolding word
@@ -32,7 +32,7 @@ module _ (c : tie.Then1) where
   below = rw (to_z-of_z c.before.ranges.x, to_z-of_z (widened c.before.ranges.x)) at c.if1.true
 
   number : negsuc 0 -ℤ to_z w64 (of_z w64 (to_z near (of_z near c.before.args.x))) ≡ pos (mag c.before.args.x)
-  number = rw (to_z-of_z c.before.ranges.x, to_z-of_z (widened c.before.ranges.x)) (minus-one-less c.before.args.x below)
+  number = rw (to_z-of_z c.before.ranges.x, to_z-of_z (widened c.before.ranges.x)) (minus_one_less c.before.args.x below)
 
   fits : SFits w64 (pos (mag c.before.args.x))
   fits = record { sfits = (widened c.before.ranges.x).sfits }
@@ -54,16 +54,16 @@ returns c = rw (number c, to_z-of_z (fits c)) (negative c.before.args.x c.before
 
 not_negative : (c : tie.Else1) → T (non_neg c.before.args.x) × Fits w64 (nat_abs c.before.args.x)
 not_negative c =
-    not-below c.before.args.x c.before.ranges.x.sfits
+    not_below c.before.args.x c.before.ranges.x.sfits
     (rw (to_z-of_z c.before.ranges.x, to_z-of_z (widened c.before.ranges.x)) at c.if1.false)
 
 cast-result-2 : tie.Need-overflow-cast-result-2
 cast-result-2 c = rw (to_z-of_z c.before.ranges.x, to_z-of_z (widened c.before.ranges.x)) (not_negative c)
 
-returns-2 : tie.Need-returns-2
-returns-2 c =
+returns_2 : tie.Need-returns-2
+returns_2 c =
     rw (to_z-of_z c.before.ranges.x, to_z-of_z (widened c.before.ranges.x))
     (positive c.before.args.x c.before.ranges.x.sfits (not_negative c).0)
 
-pub sign-extended-spec : {M : Type 1} → statement M
-sign-extended-spec = tie.close (tie.spec cast-wide sub-result cast-result sub-result-2 returns cast-result-2 returns-2)
+pub sign_extended_spec : {M : Type 1} → statement M
+sign_extended_spec = tie.close (tie.spec cast-wide sub-result cast-result sub-result-2 returns cast-result-2 returns_2)

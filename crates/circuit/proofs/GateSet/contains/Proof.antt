@@ -11,9 +11,9 @@ use Rattle.circuit.proofs.GateSet.contains.Tie as tie
 returns : tie.Need-returns
 returns c = sym (high_bit c.before.args.self.0 32 c.before.args.kind (omega arith) c.if1.true)
 
-returns-2 : tie.Need-returns-2
+returns_2 : tie.Need-returns-2
 unfolding bit
-returns-2 c = refl
+returns_2 c = refl
 
-pub contains-spec : {M : Type 1} → statement M
-contains-spec = tie.close (tie.spec returns (λ c. search rules) returns-2)
+pub contains_spec : {M : Type 1} → statement M
+contains_spec = tie.close (tie.spec returns (λ c. search rules) returns_2)

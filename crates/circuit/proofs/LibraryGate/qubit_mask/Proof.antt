@@ -9,7 +9,7 @@ use lib.ListN.{take}
 use Rattle.kinds.specs.Kinds.{kind_at, arity}
 use Rattle.circuit.specs.Codes.{kind_of, first, second, third}
 use Rattle.circuit.specs.Pairs.{qubits, mask_of}
-use Rattle.kinds.proofs.ByNumber.{arity-most}
+use Rattle.kinds.proofs.ByNumber.{arity_most}
 use Rattle.circuit.proofs.LibraryGate.qubit_mask.Statement.{statement}
 use Rattle.circuit.proofs.LibraryGate.qubit_mask.Tie as tie
 
@@ -36,23 +36,23 @@ returns : tie.Need-returns
 unfolding mask_of
 returns c = whole c.before 0 c.if1.true
 
-returns-2 : tie.Need-returns-2
+returns_2 : tie.Need-returns-2
 unfolding mask_of
-returns-2 c = one c.before.before.before.before.before.before.before.before ∙ sym (or_zero_r _) ∙ whole c.before.before 1 c.if2.true
+returns_2 c = one c.before.before.before.before.before.before.before.before ∙ sym (or_zero_r _) ∙ whole c.before.before 1 c.if2.true
 
-returns-3 : tie.Need-returns-3
+returns_3 : tie.Need-returns-3
 unfolding mask_of
-returns-3 c = (λ i. bit_or (one c.before.before.before.before.before.before.before.before.before i) ((two c.before.before.before.before.before.before.before ∙ sym (or_zero_r _)) i)) ∙ whole c.before.before.before 2 c.if3.true
+returns_3 c = (λ i. bit_or (one c.before.before.before.before.before.before.before.before.before i) ((two c.before.before.before.before.before.before.before ∙ sym (or_zero_r _)) i)) ∙ whole c.before.before.before 2 c.if3.true
 
-returns-4 : tie.Need-returns-4
+returns_4 : tie.Need-returns-4
 unfolding mask_of
-returns-4 c =
-    let most = subst (λ (n : ℕ). n ≤ 3) (sym (counted c.before.before.before)) (arity-most (kind_of c.before.before.before.before.before.before.before.before.before.before.before.args.self.0)).0 in
+returns_4 c =
+    let most = subst (λ (n : ℕ). n ≤ 3) (sym (counted c.before.before.before)) (arity_most (kind_of c.before.before.before.before.before.before.before.before.before.before.before.args.self.0)).0 in
     let e : c.before.before.before.operand-count.result ≡ 3 = omega arith in
     (λ i. bit_or (one c.before.before.before.before.before.before.before.before.before i) (bit_or (two c.before.before.before.before.before.before.before i) ((three c.before.before.before.before.before ∙ sym (or_zero_r _)) i))) ∙ whole c.before.before.before 3 e
 
-pub qubit-mask-spec : {M : Type 1} → statement M
-qubit-mask-spec =
+pub qubit_mask_spec : {M : Type 1} → statement M
+qubit_mask_spec =
     tie.close
     (tie.spec
     (λ c κs. search rules)
@@ -64,6 +64,6 @@ qubit-mask-spec =
     (λ c κs. search rules)
     (λ c κs. search rules)
     returns
-    returns-2
-    returns-3
-    returns-4)
+    returns_2
+    returns_3
+    returns_4)

@@ -3,12 +3,12 @@ use mathlib.Core.Path.{ap, ◌∙◌}
 use Prim.Native.Nat.{ℕ}
 use borrow.Author.Rules.{rules}
 use Rattle.kinds.specs.Kinds.{kind_at}
-use Rattle.kinds.specs.Kinds.{kindCharge}
+use Rattle.kinds.specs.Kinds.{kind_charge}
 use Rattle.circuit.proofs.LibraryGate.t_charge.Statement.{statement}
 use Rattle.circuit.proofs.LibraryGate.t_charge.Tie as tie
 
 returns : tie.Need-returns
-returns c = c.charge-of.ensures ∙ ap (λ (k : ℕ). kindCharge (kind_at k)) c.before.kind.ensures
+returns c = c.charge-of.ensures ∙ ap (λ (k : ℕ). kind_charge (kind_at k)) c.before.kind.ensures
 
-pub t-charge-spec : {M : Type 1} → statement M
-t-charge-spec = tie.close (tie.spec (λ c κs. search rules) (λ c κs. search rules) returns)
+pub t_charge_spec : {M : Type 1} → statement M
+t_charge_spec = tie.close (tie.spec (λ c κs. search rules) (λ c κs. search rules) returns)

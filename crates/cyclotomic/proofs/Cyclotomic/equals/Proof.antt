@@ -1,6 +1,6 @@
 -- `equals` meets its contract: the four tests of coefficients, each as the machine reads them. Assumes nothing.
 use mathlib.Core.Bool.{◌&&◌}
-use Rattle.coefficients.specs.Coefficients.{eqZ}
+use Rattle.coefficients.specs.Coefficients.{eq_z}
 use Rattle.cyclotomic.specs.Zomega.{eqω}
 use Rattle.cyclotomic.proofs.Each.{SizeKept, kept, told}
 use Rattle.cyclotomic.proofs.Cyclotomic.equals.Statement.{statement}
@@ -17,11 +17,11 @@ unfolding eqω
 returns c =
     let x = self c.before.before.before.before.before.before.before.before.before.before.before.before in
     let y = rhs c.before.before.before.before.before.before.before.before.before.before.before.before in
-    let a = told eqZ x.a-kept y.a-kept c.before.before.before.before.before.before.before.before.before.same.ensures in
-    let b = told eqZ x.b-kept y.b-kept c.before.before.before.before.before.before.same2.ensures in
-    let g = told eqZ x.c-kept y.c-kept c.before.before.before.same3.ensures in
-    let d = told eqZ x.d-kept y.d-kept c.same4.ensures in
+    let a = told eq_z x.a_kept y.a_kept c.before.before.before.before.before.before.before.before.before.same.ensures in
+    let b = told eq_z x.b_kept y.b_kept c.before.before.before.before.before.before.same2.ensures in
+    let g = told eq_z x.c_kept y.c_kept c.before.before.before.same3.ensures in
+    let d = told eq_z x.d_kept y.d_kept c.same4.ensures in
     λ i. a i && (b i && (g i && d i))
 
-pub equals-spec : {M : Type 1} → statement M
-equals-spec = tie.close (tie.spec (λ c κs. tt) (λ c κs. tt) (λ c κs. tt) (λ c κs. tt) returns)
+pub equals_spec : {M : Type 1} → statement M
+equals_spec = tie.close (tie.spec (λ c κs. tt) (λ c κs. tt) (λ c κs. tt) (λ c κs. tt) returns)

@@ -19,13 +19,13 @@ unfolding subω
 four c =
     let s = c.before.before.before.before.before.before.before.before.before.before.before.before in
     each
-    (let q = c.before.before.before.before.before.before.before.before.before.minus in formed ◌-ℤ◌ (self s).a-kept (rhs s).a-kept q.type-inv q.ensures)
-    (let q = c.before.before.before.before.before.before.minus2 in formed ◌-ℤ◌ (self s).b-kept (rhs s).b-kept q.type-inv q.ensures)
-    (let q = c.before.before.before.minus3 in formed ◌-ℤ◌ (self s).c-kept (rhs s).c-kept q.type-inv q.ensures)
-    (let q = c.minus4 in formed ◌-ℤ◌ (self s).d-kept (rhs s).d-kept q.type-inv q.ensures)
+    (let q = c.before.before.before.before.before.before.before.before.before.minus in formed ◌-ℤ◌ (self s).a_kept (rhs s).a_kept q.type-inv q.ensures)
+    (let q = c.before.before.before.before.before.before.minus2 in formed ◌-ℤ◌ (self s).b_kept (rhs s).b_kept q.type-inv q.ensures)
+    (let q = c.before.before.before.minus3 in formed ◌-ℤ◌ (self s).c_kept (rhs s).c_kept q.type-inv q.ensures)
+    (let q = c.minus4 in formed ◌-ℤ◌ (self s).d_kept (rhs s).d_kept q.type-inv q.ensures)
 
-pub subtract-spec : {M : Type 1} → statement M
-subtract-spec =
+pub subtract_spec : {M : Type 1} → statement M
+subtract_spec =
     tie.close
     (tie.spec
     (λ c κs. tt)

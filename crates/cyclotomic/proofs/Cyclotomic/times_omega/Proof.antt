@@ -4,8 +4,8 @@ use mathlib.Core.Path.{◌≡◌, sym, ap, ◌∙◌, subst}
 use Prim.Native.Nat.{ℕ, suc, ◌+◌, ◌-◌, ◌≤◌}
 use native.Mathlib.Omega.{arith}
 use Rattle.cyclotomic.specs.Zomega.{Zω, turn, Small}
-use Rattle.cyclotomic.proofs.Turns.{turn-turn, turn-none}
-use Rattle.cyclotomic.proofs.Squares.{small-turn}
+use Rattle.cyclotomic.proofs.Turns.{turn_turn, turn_none}
+use Rattle.cyclotomic.proofs.Squares.{small_turn}
 use Rattle.cyclotomic.proofs.Cyclotomic.times_omega.Statement.{statement}
 use Rattle.cyclotomic.proofs.Cyclotomic.times_omega.Tie as tie
 
@@ -17,8 +17,8 @@ record Turning (power : ℕ) (z₀ z : Zω) (i : ℕ) : Type 0 where
 one_more : {power : ℕ} {z₀ z w : Zω} {i : ℕ} → Turning power z₀ z i → suc i ≤ power → w ≡ turn 1 z → Turning power z₀ w (i + 1)
 one_more {z₀} {z} {i = i} t h e = record {
   within = omega arith;
-  is = e ∙ ap (turn 1) t.is ∙ turn-turn 1 i z₀ ∙ (let q : 1 + i ≡ i + 1 = omega arith in ap (λ (j : ℕ). turn j z₀) q);
-  small = subst Small (sym e) (small-turn 1 z t.small);
+  is = e ∙ ap (turn 1) t.is ∙ turn_turn 1 i z₀ ∙ (let q : 1 + i ≡ i + 1 = omega arith in ap (λ (j : ℕ). turn j z₀) q);
+  small = subst Small (sym e) (small_turn 1 z t.small);
 }
 
 abbrev invariant-loop : tie.invariant-loop
@@ -28,7 +28,7 @@ abbrev decreases-loop : tie.decreases-loop
 decreases-loop power z₀ i₀ z i = power - i
 
 loop-holds : tie.Need-loop-init invariant-loop decreases-loop
-loop-holds c = record { within = omega arith; is = sym (turn-none _); small = c.requires }
+loop-holds c = record { within = omega arith; is = sym (turn_none _); small = c.requires }
 
 turned-requires : tie.Need-turned-requires invariant-loop decreases-loop
 turned-requires c κs = c.before.loop.invariant.small
@@ -48,5 +48,5 @@ returns c =
     let e : c.before.loop.i ≡ c.before.before.args.power = omega (arith, t.within, c.loop-test.false) in
     t.is ∙ ap (λ (j : ℕ). turn j c.before.before.args.self) e
 
-pub times-omega-spec : {M : Type 1} → statement M
-times-omega-spec = tie.close (tie.spec invariant-loop decreases-loop loop-holds turned-requires add-i loop-less loop-again returns)
+pub times_omega_spec : {M : Type 1} → statement M
+times_omega_spec = tie.close (tie.spec invariant-loop decreases-loop loop-holds turned-requires add-i loop-less loop-again returns)

@@ -16,13 +16,13 @@ unfolding sqrt2
 four c =
     let s = c.before.before.before.before.before.before.before.before.before.before.before.before in
     each
-    (let q = c.before.before.before.before.before.before.before.before.before.minus in formed ◌-ℤ◌ (self s).b-kept (self s).d-kept q.type-inv q.ensures)
-    (let q = c.before.before.before.before.before.before.plus in formed ◌+ℤ◌ (self s).a-kept (self s).c-kept q.type-inv q.ensures)
-    (let q = c.before.before.before.plus2 in formed ◌+ℤ◌ (self s).b-kept (self s).d-kept q.type-inv q.ensures)
-    (let q = c.minus2 in formed ◌-ℤ◌ (self s).c-kept (self s).a-kept q.type-inv q.ensures)
+    (let q = c.before.before.before.before.before.before.before.before.before.minus in formed ◌-ℤ◌ (self s).b_kept (self s).d_kept q.type-inv q.ensures)
+    (let q = c.before.before.before.before.before.before.plus in formed ◌+ℤ◌ (self s).a_kept (self s).c_kept q.type-inv q.ensures)
+    (let q = c.before.before.before.plus2 in formed ◌+ℤ◌ (self s).b_kept (self s).d_kept q.type-inv q.ensures)
+    (let q = c.minus2 in formed ◌-ℤ◌ (self s).c_kept (self s).a_kept q.type-inv q.ensures)
 
-pub times-sqrt-2-spec : {M : Type 1} → statement M
-times-sqrt-2-spec =
+pub times_sqrt_2_spec : {M : Type 1} → statement M
+times_sqrt_2_spec =
     tie.close
     (tie.spec
     (λ c κs. tt)

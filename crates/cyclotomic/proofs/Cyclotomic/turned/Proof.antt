@@ -15,7 +15,7 @@ returns : tie.Need-returns
 unfolding turn
 returns c =
     let s = self c.before.before.before.before.before in
-    each (said near c.negated.type-inv c.negated.ensures ∙ ap neg_ℤ s.d-kept) s.a-kept s.b-kept s.c-kept
+    each (said near c.negated.type-inv c.negated.ensures ∙ ap neg_ℤ s.d_kept) s.a_kept s.b_kept s.c_kept
 
-pub turned-spec : {M : Type 1} → statement M
-turned-spec = tie.close (tie.spec (λ c κs. let s = c.before.before.before.before in rw (self s).d-kept s.requires.d_small) returns)
+pub turned_spec : {M : Type 1} → statement M
+turned_spec = tie.close (tie.spec (λ c κs. let s = c.before.before.before.before in rw (self s).d_kept s.requires.d_small) returns)

@@ -8,5 +8,5 @@ returns : tie.Need-returns
 unfolding zeroω
 returns c = refl
 
-pub zero-spec : {M : Type 1} → statement M
-zero-spec = tie.close (tie.spec returns)
+pub zero_spec : {M : Type 1} → statement M
+zero_spec = tie.close (tie.spec returns)

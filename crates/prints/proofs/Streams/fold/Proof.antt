@@ -8,5 +8,5 @@ returns : tie.Need-returns
 unfolding fold
 returns c = rw (c.wrapping-mul2.ensures, c.before.wrapping-mul.ensures, c.before.before.before.rotate_left.ensures)
 
-pub fold-spec : {M : Type 1} → statement M
-fold-spec = tie.close (tie.spec (λ c κs. search rules) (λ c κs. search rules) (λ c κs. search rules) returns)
+pub fold_spec : {M : Type 1} → statement M
+fold_spec = tie.close (tie.spec (λ c κs. search rules) (λ c κs. search rules) (λ c κs. search rules) returns)

@@ -5,17 +5,17 @@ use Rattle.prints.proofs.Streams.mix_entry.Statement.{statement}
 use Rattle.prints.proofs.Streams.mix_entry.Tie as tie
 
 -- each coefficient's word
-word-a : (c : tie.After-sign-extended) → c.sign_extended.result ≡ word c.before.before.args.z.a
-word-a c = c.sign_extended.ensures ∙ ap word (search rules)
+word_a : (c : tie.After-sign-extended) → c.sign_extended.result ≡ word c.before.before.args.z.a
+word_a c = c.sign_extended.ensures ∙ ap word (search rules)
 
-word-b : (c : tie.After-sign-extended2) → c.sign-extended2.result ≡ word c.before.before.before.before.before.args.z.b
-word-b c = c.sign-extended2.ensures ∙ ap word (search rules)
+word_b : (c : tie.After-sign-extended2) → c.sign-extended2.result ≡ word c.before.before.before.before.before.args.z.b
+word_b c = c.sign-extended2.ensures ∙ ap word (search rules)
 
-word-c : (c : tie.After-sign-extended3) → c.sign-extended3.result ≡ word c.before.before.before.before.before.before.before.before.args.z.c
-word-c c = c.sign-extended3.ensures ∙ ap word (search rules)
+word_c : (c : tie.After-sign-extended3) → c.sign-extended3.result ≡ word c.before.before.before.before.before.before.before.before.args.z.c
+word_c c = c.sign-extended3.ensures ∙ ap word (search rules)
 
-word-d : (c : tie.After-sign-extended4) → c.sign-extended4.result ≡ word c.before.before.before.before.before.before.before.before.before.before.before.args.z.d
-word-d c = c.sign-extended4.ensures ∙ ap word (search rules)
+word_d : (c : tie.After-sign-extended4) → c.sign-extended4.result ≡ word c.before.before.before.before.before.before.before.before.before.before.before.args.z.d
+word_d c = c.sign-extended4.ensures ∙ ap word (search rules)
 
 returns : tie.Need-returns
 returns c =
@@ -24,14 +24,14 @@ returns c =
       c.before.before.before.mix3.ensures,
       c.before.before.before.before.before.before.mix2.ensures,
       c.before.before.before.before.before.before.before.before.before.mix.ensures,
-      word-d c.before,
-      word-c c.before.before.before.before,
-      word-b c.before.before.before.before.before.before.before,
-      word-a c.before.before.before.before.before.before.before.before.before.before,
+      word_d c.before,
+      word_c c.before.before.before.before,
+      word_b c.before.before.before.before.before.before.before,
+      word_a c.before.before.before.before.before.before.before.before.before.before,
     )
 
-pub mix-entry-spec : {M : Type 1} → statement M
-mix-entry-spec =
+pub mix_entry_spec : {M : Type 1} → statement M
+mix_entry_spec =
     tie.close
     (tie.spec
     (λ c κs. search rules)

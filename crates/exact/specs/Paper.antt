@@ -20,24 +20,24 @@ abbrev pub hadamard : Single
 hadamard = record { k = 1; u = λ i j. pick (i && j) (turn 4 oneω) oneω }
 
 -- X = (0 1; 1 0)
-abbrev pub pauli_xEntry : Bool → Bool → Zω
-pauli_xEntry true true = zeroω
-pauli_xEntry true false = oneω
-pauli_xEntry false true = oneω
-pauli_xEntry false false = zeroω
+abbrev pub pauli_x_entry : Bool → Bool → Zω
+pauli_x_entry true true = zeroω
+pauli_x_entry true false = oneω
+pauli_x_entry false true = oneω
+pauli_x_entry false false = zeroω
 
 abbrev pub pauli_x : Single
-pauli_x = record { k = 0; u = pauli_xEntry }
+pauli_x = record { k = 0; u = pauli_x_entry }
 
 -- Y = (0 -i; i 0), with i = omega²
-abbrev pub pauli_yEntry : Bool → Bool → Zω
-pauli_yEntry true true = zeroω
-pauli_yEntry true false = turn 2 oneω
-pauli_yEntry false true = turn 6 oneω
-pauli_yEntry false false = zeroω
+abbrev pub pauli_y_entry : Bool → Bool → Zω
+pauli_y_entry true true = zeroω
+pauli_y_entry true false = turn 2 oneω
+pauli_y_entry false true = turn 6 oneω
+pauli_y_entry false false = zeroω
 
 abbrev pub pauli_y : Single
-pauli_y = record { k = 0; u = pauli_yEntry }
+pauli_y = record { k = 0; u = pauli_y_entry }
 
 -- Sx = 1/2 (1+i 1-i; 1-i 1+i): the square root of X
 abbrev pub root_entry : Bool → Bool → Zω

@@ -20,7 +20,7 @@ use Rattle.walk.proofs.Layers.{walk_shape}
 use Rattle.walk.proofs.Exactly.{prints_distinct}
 use Rattle.walk.proofs.Meaning.{find_rule}
 use Rattle.tables.specs.Checks.{first_row, by_rows, Arrays}
-use Rattle.tables.specs.Tables.{Table, walk_of, not_aWidth, count_at, Query, matrix_of, part_of, limits_at, part_at, find_rows, found_in, answer_rows, written_in, synthesized}
+use Rattle.tables.specs.Tables.{Table, walk_of, not_a_width, count_at, Query, matrix_of, part_of, limits_at, part_at, find_rows, found_in, answer_rows, written_in, synthesized}
 use Rattle.tables.specs.Built.{Built, FilledFrom}
 use Rattle.tables.specs.AnswerRule.{DistinctAt, first_found_in, first_synthesized, AnswerRule, FirstNode}
 use Rattle.tables.proofs.Accepted.{accepted}
@@ -45,9 +45,9 @@ module _ (t : Table) (a : Arrays) (q : Query) where
       by lookup.none e = e ∙ sym ((looks_up P.fingerprints P.count from y).is_none.1 (record { none_has = λ m u v h. absurd (omega (arith, z, v)) }))
 
   as_scan : FilledFrom t a → first_row (find_rows t a q) ≡ 0 → AsScan L P (matrix_of q)
-  as_scan x e = by (not_aWidth t q.width) refl
+  as_scan x e = by (not_a_width t q.width) refl
     where
-      by : (b : Bool) → not_aWidth t q.width ≡ b → AsScan L P (matrix_of q)
+      by : (b : Bool) → not_a_width t q.width ≡ b → AsScan L P (matrix_of q)
       by true h = none_there (rw h)
       by false h = let w = a_width t q.width h in looks_scan t a x (good_look t a.by a _ e).0 q.width w.0 w.1
 

@@ -14,7 +14,7 @@ use Rattle.walk.specs.Finds as f
 use Rattle.walk.specs.Answers.{refused, Outcome, outcome, write_of, then_write, answer_of}
 use Rattle.walk.proofs.Meaning.{no_nodes, found_below}
 use Rattle.tables.specs.Checks.{Row, first_row, Arrays, room_row, index_row, query_rows}
-use Rattle.tables.specs.Tables.{Table, Query, matrix_of, record_row, table_rows_of, list_row, not_aWidth, count_at, limits_at, part_at, look_rows, look_rows_of, find_rows, found_in}
+use Rattle.tables.specs.Tables.{Table, Query, matrix_of, record_row, table_rows_of, list_row, not_a_width, count_at, limits_at, part_at, look_rows, look_rows_of, find_rows, found_in}
 use Rattle.tables.specs.Tables.{filled_index, filled, not_filled, fill_left, fill_of}
 use Rattle.tables.specs.Tables.{node_row, write_rows, written_in, answer_rows, synthesized}
 use Rattle.tables.proofs.Rows.{Numbered, numbered_query, index_number, NoPositions, no_positions_append, no_positions_index, no_positions_query, rows_pass, rows_refuse_at_0, first_here, first_past, first_last, first_none, first_some, first_row_append, append_none}
@@ -102,7 +102,7 @@ module _ (t : Table) (a : Arrays) (q : Query) where
   find_refused = rows_refuse_at_0 (find_rows t a q) _ (λ r p. f.refused r p) (no_positions_find t a q)
 
   -- a width that the table does not have has no node
-  pub no_part : not_aWidth t q.width ≡ true → part_found ≡ f.none
+  pub no_part : not_a_width t q.width ≡ true → part_found ≡ f.none
   no_part e = no_nodes (limits_at t.limits q.width) (part_at t a q.width) (matrix_of q) (rw e)
 
 -- ---- a write

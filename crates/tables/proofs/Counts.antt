@@ -17,7 +17,7 @@ use Rattle.walk.specs.AtWidth.{at_width}
 use Rattle.walk.proofs.Nodes.{first}
 use Rattle.walk.proofs.Layers.{walk_shape}
 use Rattle.tables.specs.Checks.{first_row, Limits, limit_rows, Arrays}
-use Rattle.tables.specs.Tables.{Table, Width, not_built, width_at, all_widths, walk_of, width_of, row_of, record_of, bad_count, record_row, not_aWidth, count_at}
+use Rattle.tables.specs.Tables.{Table, Width, not_built, width_at, all_widths, walk_of, width_of, row_of, record_of, bad_count, record_row, not_a_width, count_at}
 use Rattle.tables.specs.Built.{Built}
 use Rattle.tables.specs.Exactly.{bad_count_lem}
 use Rattle.tables.proofs.InWords.{is_record}
@@ -26,27 +26,27 @@ use Rattle.tables.proofs.Accepted.{above, accepted}
 -- ---- a width of a record
 
 -- a width that a table has, and back
-pub has_width : (t : Table) (w : ℕ) → 0 < w → w ≤ t.limits.qubits → not_aWidth t w ≡ false
+pub has_width : (t : Table) (w : ℕ) → 0 < w → w ≤ t.limits.qubits → not_a_width t w ≡ false
 has_width t w p h = rw (ne_eqb w 0 (omega arith), le-ltb t.limits.qubits w h)
 
-pub a_width : (t : Table) (w : ℕ) → not_aWidth t w ≡ false → (0 < w) × (w ≤ t.limits.qubits)
+pub a_width : (t : Table) (w : ℕ) → not_a_width t w ≡ false → (0 < w) × (w ≤ t.limits.qubits)
 a_width t w e =
     let p = neither (eqb w 0) (ltb t.limits.qubits w) e in
     (above w p.0, ltb-false t.limits.qubits w p.1)
 
 -- a width with entries is one that the table has
 pub counted : (t : Table) (w : ℕ) {k : ℕ} → k < count_at t w → (0 < w) × (w ≤ t.limits.qubits) × (count_at t w ≡ (width_at t w).count)
-counted t w h = by (not_aWidth t w) refl
+counted t w h = by (not_a_width t w) refl
   where
-    by : (b : Bool) → not_aWidth t w ≡ b → (0 < w) × (w ≤ t.limits.qubits) × (count_at t w ≡ (width_at t w).count)
+    by : (b : Bool) → not_a_width t w ≡ b → (0 < w) × (w ≤ t.limits.qubits) × (count_at t w ≡ (width_at t w).count)
     by true e = let z : count_at t w ≡ 0 = rw e in absurd (omega (arith, h, z))
     by false e = let (p, q) = a_width t w e in (p, q, rw e)
 
 -- no width of a record that is not refused has more than E
 pub record_count : (t : Table) (w : ℕ) → (record_row t).holds ≡ false → count_at t w ≤ t.limits.entries
-record_count t w r = by (not_aWidth t w) refl
+record_count t w r = by (not_a_width t w) refl
   where
-    by : (b : Bool) → not_aWidth t w ≡ b → count_at t w ≤ t.limits.entries
+    by : (b : Bool) → not_a_width t w ≡ b → count_at t w ≤ t.limits.entries
     by true e = rw e (omega arith)
     by false e =
         let (p, q) = a_width t w e in

@@ -22,7 +22,7 @@ use Rattle.walk.proofs.WidthDemand.{WidthComplete}
 use Rattle.walk.proofs.Demand3 as width_demand
 use Rattle.walk.proofs.Meaning.{kind_of_lem}
 use Rattle.tables.specs.Checks.{first_row, Limits, Arrays, query_rows}
-use Rattle.tables.specs.Tables.{Table, Width, walk_of, Query, matrix_of, list_row, not_aWidth}
+use Rattle.tables.specs.Tables.{Table, Width, walk_of, Query, matrix_of, list_row, not_a_width}
 use Rattle.tables.specs.Built.{Built, FilledFrom}
 use Rattle.tables.specs.Beside.{Beside, Ordered}
 use Rattle.tables.specs.Demand3.{Gives, GivesNone, Refuses, NotRefused, Decided, a_list, no_list, a_refusal, NoSmaller, Reaches, Complete, Demand3}
@@ -49,7 +49,7 @@ not_unitary t a q out h u = by (decided t a q out)
 module _ {mode : Mode} (t t' : Table) (a a' : Arrays) (b : Built mode t a) (b' : Built mode t' a') (x' : FilledFrom t' a') (s : NoSmaller t.limits t'.limits)
     (q : Query) where
   -- it has the widths of the other, and gives the same lists there
-  same_list : (out' l : List ℕ) → not_aWidth t q.width ≡ false → row_of_answer t' a' q out' ≡ 0
+  same_list : (out' l : List ℕ) → not_a_width t q.width ≡ false → row_of_answer t' a' q out' ≡ 0
       → answered mode q.width t.limits.basis t.limits.gates t.limits.entries (matrix_of q) ≡ some l → Gives t' a' q out' l
   same_list out' l f e g =
       let w = a_width t q.width f in

@@ -16,7 +16,7 @@ use Rattle.walk.specs.Chains.{chain_of}
 use Rattle.walk.specs.Finds.{WidthLimits, Part, Finding, by_chain, by_lookup, looked_in, find_from, find_by}
 use Rattle.walk.specs.Answers.{refused, outcome, write_of, then_write}
 use Rattle.tables.specs.Checks.{Row, first_row, Limits, Arrays, arrays_by, in_parts, index_row}
-use Rattle.tables.specs.Tables.{Table, walk_of, prints_of, index_to, table, left, build_of, Query, matrix_of, not_aWidth, count_at, part_of, limits_at, part_at, look_rows_of}
+use Rattle.tables.specs.Tables.{Table, walk_of, prints_of, index_to, table, left, build_of, Query, matrix_of, not_a_width, count_at, part_of, limits_at, part_at, look_rows_of}
 use Rattle.tables.specs.Tables.{filled_index, FillReply, filled, not_filled, FillLeft, fill_left, fill_of, find_rows, found_in, written_in, answer_rows, synthesized}
 use Rattle.tables.specs.Built.{FilledFrom}
 use Rattle.tables.specs.EitherLookup.{scanned, through, EitherLookup}
@@ -60,9 +60,9 @@ module _ (t : Table) (a : Arrays) (x : FilledFrom t a) where
   module _ (q : Query) where
     part_same : first_row (find_rows t a q) ≡ 0 → part_found t a q ≡ part_found t (scanned a) q
     unfolding find_by
-    part_same e = by (not_aWidth t q.width) refl
+    part_same e = by (not_a_width t q.width) refl
       where
-        by : (b : Bool) → not_aWidth t q.width ≡ b → part_found t a q ≡ part_found t (scanned a) q
+        by : (b : Bool) → not_a_width t q.width ≡ b → part_found t a q ≡ part_found t (scanned a) q
         by true h = no_part t a q h ∙ sym (no_part t (scanned a) q h)
         by false h =
             let w = a_width t q.width h in

@@ -23,7 +23,7 @@ use Rattle.walk.proofs.Sequences.{or_cases}
 use Rattle.walk.specs.Walk.{any}
 use Rattle.walk.specs.Index.{By, scan, indexed}
 use Rattle.tables.specs.Checks.{Limits, limit_rows, Arrays, places_of, room_row, in_parts, index_row, coefficient_count, any_below, query_rows, first_row}
-use Rattle.tables.specs.Tables.{build_rows, Query, Table, width_at, all_widths, bad_count, record_row, table_rows_of, not_aWidth, look_rows_of, find_rows, node_row, write_rows, answer_rows}
+use Rattle.tables.specs.Tables.{build_rows, Query, Table, width_at, all_widths, bad_count, record_row, table_rows_of, not_a_width, look_rows_of, find_rows, node_row, write_rows, answer_rows}
 use Rattle.tables.specs.Exactly.{limit_causes, Short, InParts, NotInParts, build_causes, Below, query_causes, Cause, cause, BadRecord, bad_limits, bad_count_lem}
 use Rattle.tables.specs.Exactly.{table_causes, look_causes, NoNode, no_width, too_few}
 use Rattle.tables.proofs.Causes.{Decides, is_eq, is_lt, is_true, is_false, is_not, is_or, is_and, fails, InWords, done, more, words_append, first_to, first_from, none_to}
@@ -212,16 +212,16 @@ answer_in_words t a q out =
 
 -- a write, up to row 12
 is_missing : (t : Table) (w k : ℕ) → Decides (NoNode t w k) (node_row t w k).holds
-is_missing t w k = record { to = λ e. to (not_aWidth t w) refl e; from = λ c. from (not_aWidth t w) refl c }
+is_missing t w k = record { to = λ e. to (not_a_width t w) refl e; from = λ c. from (not_a_width t w) refl c }
   where
-    out_of : Decides ((w ≡ 0) ⊎ (t.limits.qubits < w)) (not_aWidth t w)
+    out_of : Decides ((w ≡ 0) ⊎ (t.limits.qubits < w)) (not_a_width t w)
     out_of = is_or (is_eq w 0) (is_lt t.limits.qubits w)
 
-    to : (b : Bool) → not_aWidth t w ≡ b → not (ltb k (pick b 0 (width_at t w).count)) ≡ true → NoNode t w k
+    to : (b : Bool) → not_a_width t w ≡ b → not (ltb k (pick b 0 (width_at t w).count)) ≡ true → NoNode t w k
     to true f e = no_width (out_of.to f)
     to false f e = too_few (ltb-false k (width_at t w).count (not-true _ e))
 
-    from : (b : Bool) → not_aWidth t w ≡ b → NoNode t w k → not (ltb k (pick b 0 (width_at t w).count)) ≡ true
+    from : (b : Bool) → not_a_width t w ≡ b → NoNode t w k → not (ltb k (pick b 0 (width_at t w).count)) ≡ true
     from true f c = let z = le-ltb k 0 (omega arith) in rw z
     from false f (no_width c) = clash (out_of.from c) f
     from false f (too_few c) = let z = le-ltb k (width_at t w).count c in rw z

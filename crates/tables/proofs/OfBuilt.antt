@@ -26,7 +26,7 @@ use Rattle.walk.specs.Answers.{given, refused, outcome, answer_of}
 use Rattle.walk.specs.Answers as a
 use Rattle.walk.proofs.Meaning.{kind_of_lem, at_below}
 use Rattle.tables.specs.Checks.{first_row, Arrays, room_row, index_row, parts_row, query_rows}
-use Rattle.tables.specs.Tables.{Table, Width, width_at, walk_of, Query, query, matrix_of, record_row, list_row, part_of, not_aWidth, synthesized, limits_at, part_at}
+use Rattle.tables.specs.Tables.{Table, Width, width_at, walk_of, Query, query, matrix_of, record_row, list_row, part_of, not_a_width, synthesized, limits_at, part_at}
 use Rattle.tables.specs.Built.{Built, FilledFrom}
 use Rattle.tables.specs.EitherLookup.{scanned}
 use Rattle.tables.specs.Demand3.{Gives}
@@ -161,7 +161,7 @@ module _ {mode : Mode} (t : Table) (a : Arrays) (b : Built mode t a) where
 
   module _ (q : Query) (out : List ℕ) where
     -- that no row refuses, of a width that the table has
-    pub told_walk : FilledFrom t a → row_of_answer t a q out ≡ 0 → not_aWidth t q.width ≡ false → synthesized t a q out ≡ told_option (answered mode q.width B G E (matrix_of q)) out
+    pub told_walk : FilledFrom t a → row_of_answer t a q out ≡ 0 → not_a_width t q.width ≡ false → synthesized t a q out ≡ told_option (answered mode q.width B G E (matrix_of q)) out
     told_walk x e f = let w = a_width t q.width f in width_asked t a q out e f ∙ part_answers q.width w.0 w.1 x (matrix_of q) out
 
     -- a list is the walk's, whatever the index holds

@@ -11,7 +11,7 @@ use Rattle.walk.specs.Answers.{refused, outcome}
 use Rattle.walk.specs.Meaning.{AnsweredBy, NoList, BadFound}
 use Rattle.walk.proofs.Meaning.{kind_of_lem}
 use Rattle.tables.specs.Checks.{Row, first_row, Arrays, parts_row, query_rows}
-use Rattle.tables.specs.Tables.{Table, Query, matrix_of, list_row, not_aWidth, limits_at, part_at}
+use Rattle.tables.specs.Tables.{Table, Query, matrix_of, list_row, not_a_width, limits_at, part_at}
 use Rattle.tables.specs.Built.{Built}
 use Rattle.tables.specs.Demand3.{Gives, GivesNone, Refuses, NotRefused}
 use Rattle.tables.specs.Exactly.{cause, First, query_causes}
@@ -36,7 +36,7 @@ module _ (t : Table) (a : Arrays) (q : Query) (out : List ℕ) where
   -- a refusal comes from the first row that holds, or is 13 for a chain that is met
   data Refusal (r : ℕ) : Type 0 where
     row_holds : 0 < r → row_of_answer t a q out ≡ r → Refusal r
-    chain_bad : r ≡ 13 → row_of_answer t a q out ≡ 0 → not_aWidth t q.width ≡ false → BadPart → Refusal r
+    chain_bad : r ≡ 13 → row_of_answer t a q out ≡ 0 → not_a_width t q.width ≡ false → BadPart → Refusal r
 
   refused_by : (r : ℕ) → Refuses t a q out r → Refusal r
   refused_by r n = by (cases t a q out)
@@ -47,24 +47,24 @@ module _ (t : Table) (a : Arrays) (q : Query) (out : List ℕ) where
       by (by_row s h e m) = let z = number_of (sym m ∙ n) in row_holds (omega arith) (e ∙ z)
 
   -- none is told exactly where no row holds, and the table has not the width or the part of the width has no list
-  pub none_exactly : GivesNone t a q out ↔ ((row_of_answer t a q out ≡ 0) × ((not_aWidth t q.width ≡ true) ⊎ ((not_aWidth t q.width ≡ false) × NoPart)))
+  pub none_exactly : GivesNone t a q out ↔ ((row_of_answer t a q out ≡ 0) × ((not_a_width t q.width ≡ true) ⊎ ((not_a_width t q.width ≡ false) × NoPart)))
   none_exactly = (to, from)
     where
-      to : GivesNone t a q out → (row_of_answer t a q out ≡ 0) × ((not_aWidth t q.width ≡ true) ⊎ ((not_aWidth t q.width ≡ false) × NoPart))
+      to : GivesNone t a q out → (row_of_answer t a q out ≡ 0) × ((not_a_width t q.width ≡ true) ⊎ ((not_a_width t q.width ≡ false) × NoPart))
       to n = by (cases t a q out)
         where
-          by : ReplyCase t a q out → (row_of_answer t a q out ≡ 0) × ((not_aWidth t q.width ≡ true) ⊎ ((not_aWidth t q.width ≡ false) × NoPart))
+          by : ReplyCase t a q out → (row_of_answer t a q out ≡ 0) × ((not_a_width t q.width ≡ true) ⊎ ((not_a_width t q.width ≡ false) × NoPart))
           by (not_a_width e w m) = (e, inl w)
           by (part_asked_lem e w p) = (e, inr (w, (((asked_means t a q out).is_none out).0 (sym p ∙ n)).0))
           by (by_row s h e m) = absurd (omega (arith, kind_of_lem (sym m ∙ n)))
 
-      from : (row_of_answer t a q out ≡ 0) × ((not_aWidth t q.width ≡ true) ⊎ ((not_aWidth t q.width ≡ false) × NoPart)) → GivesNone t a q out
+      from : (row_of_answer t a q out ≡ 0) × ((not_a_width t q.width ≡ true) ⊎ ((not_a_width t q.width ≡ false) × NoPart)) → GivesNone t a q out
       from (e, inl w) = width_none t a q out e w
       from (e, inr (w, x)) = width_asked t a q out e w ∙ ((asked_means t a q out).is_none out).1 (x, refl)
 
   -- a list is given exactly where no row holds, the table has the width, and the part of the width has the list
   pub gives_exactly : (l : List ℕ) → Gives t a q out l
-      ↔ ((row_of_answer t a q out ≡ 0) × (not_aWidth t q.width ≡ false)
+      ↔ ((row_of_answer t a q out ≡ 0) × (not_a_width t q.width ≡ false)
       × AnsweredBy (limits_at t.limits q.width) (part_at t a q.width) (matrix_of q) l)
   gives_exactly l = (
     (λ g. let (e, w, p) = gives_asked t a q out l g in (e, w, gives_answers t a q out l g)),

@@ -11,7 +11,7 @@ use Rattle.walk.specs.Answers.{Reply, given, none, refused, Outcome, outcome}
 use Rattle.walk.specs.Meaning.{AnsweredBy, Means, Right}
 use Rattle.walk.proofs.Meaning.{kind, size, first, kind_of_lem, means, answers_right}
 use Rattle.tables.specs.Checks.{first_row, Arrays}
-use Rattle.tables.specs.Tables.{Table, Query, matrix_of, answer_rows, not_aWidth, synthesized, limits_at, part_at}
+use Rattle.tables.specs.Tables.{Table, Query, matrix_of, answer_rows, not_a_width, synthesized, limits_at, part_at}
 use Rattle.tables.proofs.Asked.{part_asked, no_part, answer_passed, answer_refused, asked_by}
 use Rattle.tables.specs.Demand3.{Gives, GivesNone, Refuses, NotRefused, Decided, a_list, no_list, a_refusal}
 
@@ -39,8 +39,8 @@ module _ (t : Table) (a : Arrays) (q : Query) (out : List ℕ) where
   row_of_answer = first_row (answer_rows t a q out)
 
   pub data ReplyCase : Type 0 where
-    not_a_width : row_of_answer ≡ 0 → not_aWidth t q.width ≡ true → GivesNone t a q out → ReplyCase
-    part_asked_lem : row_of_answer ≡ 0 → not_aWidth t q.width ≡ false → synthesized t a q out ≡ part_asked t a q out → ReplyCase
+    not_a_width : row_of_answer ≡ 0 → not_a_width t q.width ≡ true → GivesNone t a q out → ReplyCase
+    part_asked_lem : row_of_answer ≡ 0 → not_a_width t q.width ≡ false → synthesized t a q out ≡ part_asked t a q out → ReplyCase
     by_row : (r : ℕ) → 0 < r → row_of_answer ≡ r → Refuses t a q out r → ReplyCase
 
   -- ---- from the rows to the answer
@@ -48,31 +48,31 @@ module _ (t : Table) (a : Arrays) (q : Query) (out : List ℕ) where
   pub row_refuses : (r : ℕ) → 0 < r → row_of_answer ≡ r → Refuses t a q out r
   row_refuses = answer_refused t a q out
 
-  pub width_none : row_of_answer ≡ 0 → not_aWidth t q.width ≡ true → GivesNone t a q out
+  pub width_none : row_of_answer ≡ 0 → not_a_width t q.width ≡ true → GivesNone t a q out
   width_none e f = answer_passed t a q out e ∙ asked_by t a q out (no_part t a q f)
 
-  pub width_asked : row_of_answer ≡ 0 → not_aWidth t q.width ≡ false → synthesized t a q out ≡ part_asked t a q out
+  pub width_asked : row_of_answer ≡ 0 → not_a_width t q.width ≡ false → synthesized t a q out ≡ part_asked t a q out
   width_asked e f = answer_passed t a q out e
 
   pub cases : ReplyCase
   cases = by row_of_answer refl
     where
-      at : row_of_answer ≡ 0 → (b : Bool) → not_aWidth t q.width ≡ b → ReplyCase
+      at : row_of_answer ≡ 0 → (b : Bool) → not_a_width t q.width ≡ b → ReplyCase
       at e true f = not_a_width e f (width_none e f)
       at e false f = part_asked_lem e f (width_asked e f)
 
       by : (r : ℕ) → row_of_answer ≡ r → ReplyCase
-      by zero e = at e (not_aWidth t q.width) refl
+      by zero e = at e (not_a_width t q.width) refl
       by (suc r) e = by_row (suc r) (omega arith) e (row_refuses (suc r) (omega arith) e)
 
   -- ---- and back
 
   -- a list comes from the part of the width
   pub gives_asked : (l : List ℕ) → Gives t a q out l
-      → (row_of_answer ≡ 0) × (not_aWidth t q.width ≡ false) × (part_asked t a q out ≡ outcome (given (length l)) (l ++ drop (length l) out))
+      → (row_of_answer ≡ 0) × (not_a_width t q.width ≡ false) × (part_asked t a q out ≡ outcome (given (length l)) (l ++ drop (length l) out))
   gives_asked l g = by cases
     where
-      by : ReplyCase → (row_of_answer ≡ 0) × (not_aWidth t q.width ≡ false) × (part_asked t a q out ≡ outcome (given (length l)) (l ++ drop (length l) out))
+      by : ReplyCase → (row_of_answer ≡ 0) × (not_a_width t q.width ≡ false) × (part_asked t a q out ≡ outcome (given (length l)) (l ++ drop (length l) out))
       by (not_a_width e f n) = not_given (omega arith) (sym n ∙ g)
       by (part_asked_lem e f p) = (e, f, sym p ∙ g)
       by (by_row r h e n) = not_given (omega arith) (sym n ∙ g)

@@ -167,13 +167,13 @@ abbrev pub list_row : Table → List ℕ → Row
 list_row t out = places_row t (length out)
 
 -- the table has no such width: 0, or above Q
-abbrev pub not_aWidth : Table → ℕ → Bool
-not_aWidth t w = eqb w 0 || ltb t.limits.qubits w
+abbrev pub not_a_width : Table → ℕ → Bool
+not_a_width t w = eqb w 0 || ltb t.limits.qubits w
 
 -- how many entries a width has; one that the table does not have has none, whatever the record says of it
 -- (SPECIFICATION 7.3)
 abbrev pub count_at : Table → ℕ → ℕ
-count_at t w = pick (not_aWidth t w) 0 (width_at t w).count
+count_at t w = pick (not_a_width t w) 0 (width_at t w).count
 
 -- the part of width n in one array (SPECIFICATION 6.2)
 abbrev pub part_of : ℕ → ℕ → List ℕ → List ℕ

@@ -11,7 +11,7 @@ use coefficients::Wide;
 use cyclotomic::Cyclotomic;
 
 // A sum or a difference: its value, or that a coefficient of it passes the limit.
-#[derive(Drop)]
+#[derive(Clone, Copy)]
 pub enum Checked {
     Value(Cyclotomic),
     TooLarge,

@@ -19,7 +19,7 @@ fn singleton(q: u32) -> u32
 }
 
 // A set of gate kinds: bit i is kind i.
-#[derive(Drop)]
+#[derive(Clone, Copy)]
 pub struct GateSet(pub u32);
 
 impl GateSet {
@@ -74,7 +74,7 @@ impl GateSet {
 }
 
 // A gate by its code.
-#[derive(Drop)]
+#[derive(Clone, Copy)]
 pub struct LibraryGate(pub u32);
 
 impl LibraryGate {

@@ -13,21 +13,21 @@ use murm_config::MurmConfig;
 use refusal::Refusal;
 
 // Line one: its four limits.
-#[derive(Drop)]
+#[derive(Clone, Copy)]
 pub enum LineOne {
     Limits(MurmConfig),
     Refused(Refusal),
 }
 
 // An input: a table of these limits is wanted, and the later lines begin at a place.
-#[derive(Drop)]
+#[derive(Clone, Copy)]
 pub enum Request {
     Table(MurmConfig, usize),
     Refused(Refusal),
 }
 
 // A later line: a list at this width is asked, and its codes end at a place among the numbers.
-#[derive(Drop)]
+#[derive(Clone, Copy)]
 pub enum Question {
     List(u32, usize),
     Refused(Refusal),

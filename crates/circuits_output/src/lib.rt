@@ -11,7 +11,7 @@ ghost use Rattle.circuits_output.specs.Output.{told_printed, run, program_of};
 use circuits_input::Request;
 
 // What was made: a text of that many bytes, or none, since the lent bytes are too few.
-#[derive(Drop)]
+#[derive(Clone, Copy)]
 pub enum Printed {
     Text(usize),
     NoRoom,

@@ -14,14 +14,14 @@ pub const SPACE: u8 = 32;
 pub const NEWLINE: u8 = 10;
 
 // A word: a number, or anything else.
-#[derive(Drop)]
+#[derive(Clone, Copy)]
 pub enum Word {
     Number(u32),
     Other,
 }
 
 // A line: that many numbers, or something else; a line with more numbers than places is something else.
-#[derive(Drop)]
+#[derive(Clone, Copy)]
 pub enum Line {
     Numbers(usize),
     Broken,

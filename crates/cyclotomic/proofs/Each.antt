@@ -26,7 +26,7 @@ abbrev InRange : ℤ → Type 0
 InRange z = mag z < 2 ^ hbits near
 
 back : {z : ℤ} → InRange z → to_z near (of_z near z) ≡ z
-back g = to_z-of_z (record { sfits = g })
+back g = to_z-of_z {w = near} (record { sfits = g })
 
 pub kept : {A B C D E : Type 0} {x : Zω} → (A × InRange x.a) × ((B × InRange x.b) × ((C × InRange x.c) × ((D × InRange x.d) × E))) → SizeKept x
 kept g = record { a_kept = back g.0.1; b_kept = back g.1.0.1; c_kept = back g.1.1.0.1; d_kept = back g.1.1.1.0.1 }

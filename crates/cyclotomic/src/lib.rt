@@ -8,7 +8,7 @@ ghost use Rattle.cyclotomic.specs.Zomega.{mk, zeroω, oneω, addω, subω, turn,
 
 pub use coefficients::{Coefficient, LIMIT, Wide, sizes_pass};
 
-#[derive(Drop)]
+#[derive(Clone, Copy)]
 pub struct Cyclotomic {
     pub a: Coefficient,
     pub b: Coefficient,

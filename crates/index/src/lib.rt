@@ -126,7 +126,7 @@ pub fn fill(index: &mut [u32], fingerprints: &[u64], count: usize)
 }
 
 // How a fingerprint is looked up: by the scan, which does not look at the index, or through the index.
-#[derive(Drop)]
+#[derive(Clone, Copy)]
 pub enum LookupBy {
     Scan,
     Index,

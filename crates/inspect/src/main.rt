@@ -45,7 +45,7 @@ use murm::{Building, Filling};
 use refusal::Refusal;
 
 // What is at hand: the look-up, the last table, and what the last line did to the index.
-#[derive(Drop)]
+#[derive(Clone, Copy)]
 struct State {
     lookup: Lookup,
     table: Building,

@@ -14,7 +14,7 @@ use murm_config::Murm;
 use refusal::Refusal;
 
 // A word that asks a table.
-#[derive(Drop)]
+#[derive(Clone, Copy)]
 pub enum Asks {
     Matrix,
     Find,
@@ -23,7 +23,7 @@ pub enum Asks {
 
 // What a table told: its answer to a matrix of this fingerprint, the node found for one, or what the list of a node
 // came to; or the line is broken.
-#[derive(Drop)]
+#[derive(Clone, Copy)]
 enum Told {
     Answer(u64, Synthesized),
     Found(FoundNode),

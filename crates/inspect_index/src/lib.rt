@@ -14,7 +14,7 @@ use refusal::Refusal;
 use synthesis_arena::MARK;
 
 // A word about the index; of `index` its M, and how many places that makes.
-#[derive(Drop)]
+#[derive(Clone, Copy)]
 pub enum IndexWord {
     Index(u32, u32),
     Scan,

@@ -9,7 +9,7 @@ use circuits_text::{Line, SPACE, Word};
 use cyclotomic::Coefficient;
 
 // A coefficient, or anything else.
-#[derive(Drop)]
+#[derive(Clone, Copy)]
 enum Scalar {
     Value(Coefficient),
     Other,
@@ -88,7 +88,7 @@ fn second_end(line: &[u8]) -> usize
 }
 
 // A matrix asked: its width, K, and how many coefficients were read.
-#[derive(Drop)]
+#[derive(Clone, Copy)]
 pub enum Asked {
     Matrix(u32, u16, usize),
     Broken,
@@ -114,7 +114,7 @@ pub fn read_matrix(rest: &[u8], coefficients: &mut [Coefficient]) -> Asked
 }
 
 // A node whose list is wanted: its width, its number, and how many places are lent for the list.
-#[derive(Drop)]
+#[derive(Clone, Copy)]
 pub enum Wanted {
     Node(u32, u32, usize),
     Broken,

@@ -57,7 +57,7 @@ pub fn product(a: u32, b: u32) -> usize {
 }
 
 // How nodes are looked up, and how many places each part of the index has.
-#[derive(Drop)]
+#[derive(Clone, Copy)]
 pub struct Lookup {
     pub by: LookupBy,
     pub size: u32,

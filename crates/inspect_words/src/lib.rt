@@ -10,7 +10,7 @@ use inspect_index::IndexWord;
 use known::BuildMode;
 
 // What a line begins with: a word of one of the groups, or another one.
-#[derive(Drop)]
+#[derive(Clone, Copy)]
 pub enum First {
     List,
     Table(BuildMode),
@@ -60,7 +60,7 @@ fn first_word(word: &[u8], rest: &[u8]) -> First {
 }
 
 // A line's first word, and where the rest begins.
-#[derive(Drop)]
+#[derive(Clone, Copy)]
 pub struct Begun {
     pub word: First,
     pub rest: usize,

@@ -7,7 +7,7 @@ use native.Mathlib.Omega.{arith}
 use borrow.Author.Tests.{eqb-true, eqb-false, eq-eqb, ne_eqb, not-true, le-ltb, leb-true}
 use native.Mathlib.Decide.{dec_lt}
 use Rattle.ints.specs.Lists.{all, range}
-use Rattle.ints.proofs.Bools.{all_range, or_false, both_true}
+use Rattle.ints.proofs.Bools.{all_range, or-false, both_true}
 use lib.Dec.{eqb, ltb, leb, lit≤}
 use lib.ListN.{length, get_or, take, get_or-eq_default}
 use Rattle.kinds.specs.Kinds.{Kind, kinds, kind_at, number, arity, sorted, is_kind, of_tables}
@@ -48,7 +48,7 @@ no_operands k p a b c d e f = by (dec_lt k 27)
     by : Dec (k < 27) → arity (kind_at k) ≡ 0
     by (yes q) =
         eqb-true (arity (kind_at k)) 0
-        (sym (or_false (eqb (arity (kind_at k)) 0))
+        (sym (or-false (eqb (arity (kind_at k)) 0))
         ∙ rw (ne_eqb k 15 a, ne_eqb k 16 b, ne_eqb k 19 c, ne_eqb k 20 d, ne_eqb k 25 e, ne_eqb k 26 f) at (all_range operandless 15 12 refl k p (omega arith)))
     by (no q) = ap arity (kind_past k (omega arith))
 

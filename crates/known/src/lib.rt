@@ -28,7 +28,7 @@ use synthesis_arena::{Found, WidthLimits};
 
 // What makes a candidate known while a table is built: a node with its fingerprint, or one that is equal up to phase
 // besides, so that clashing nodes are both kept.
-#[derive(Drop)]
+#[derive(Clone, Copy)]
 pub enum BuildMode {
     ByPrint,
     Keeping,
@@ -36,7 +36,7 @@ pub enum BuildMode {
 
 // A generator after a node: its code, the fingerprint of the matrix that it gives, and the node that was found ahead
 // for that fingerprint, or the mark.
-#[derive(Drop)]
+#[derive(Clone, Copy)]
 pub struct Candidate {
     pub gate: u32,
     pub print: u64,

@@ -17,7 +17,7 @@ use steps::Applied;
 
 // How a list ended: all its steps fit, and the exponent; or the position of the first that does not fit (SPECIFICATION
 // 3.6).
-#[derive(Drop)]
+#[derive(Clone, Copy)]
 pub enum Walked {
     Fits(u16),
     UnfitAt(usize),

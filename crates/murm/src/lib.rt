@@ -56,7 +56,7 @@ pub fn build(
 }
 
 // What is found for a matrix: a node, and how many gates its list has; none; or why it was refused.
-#[derive(Drop)]
+#[derive(Clone, Copy)]
 pub enum FoundNode {
     Node(usize, usize),
     Nothing,
@@ -182,7 +182,7 @@ pub fn find(
 }
 
 // What a node's list came to: how many gates it has, or why it was refused.
-#[derive(Drop)]
+#[derive(Clone, Copy)]
 pub enum Written {
     List(usize),
     Refused(Refusal),

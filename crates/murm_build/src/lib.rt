@@ -17,7 +17,7 @@ use murm_config::{Murm, MurmConfig};
 use refusal::{Check, Refusal};
 
 // What a build comes to: the table's record, or why it was refused.
-#[derive(Drop)]
+#[derive(Clone, Copy)]
 pub enum Building {
     Table(Murm),
     Refused(Refusal),
@@ -65,7 +65,7 @@ pub fn build_by(
 }
 
 // What a fill of the index comes to: filled, or why it was refused.
-#[derive(Drop)]
+#[derive(Clone, Copy)]
 pub enum Filling {
     Filled,
     Refused(Refusal),

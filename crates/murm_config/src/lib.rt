@@ -18,7 +18,7 @@ use width_record::WidthTable;
 
 // What a build returns, the record: its limits, and for each width how many nodes, the completed depth, whether it is
 // saturated (SPECIFICATION 6.10).
-#[derive(Drop)]
+#[derive(Clone, Copy)]
 pub struct Murm {
     pub config: MurmConfig,
     pub width1: WidthTable,

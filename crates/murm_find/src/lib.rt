@@ -93,7 +93,7 @@ pub fn find_any(
 }
 
 // What a table answers: a list, by how many gates it has; none; or why it was refused.
-#[derive(Drop)]
+#[derive(Clone, Copy)]
 pub enum Synthesized {
     Circuit(usize),
     Nothing,

@@ -15,7 +15,7 @@ use index::LookupBy;
 use refusal::{Check, Refusal};
 
 // The width limit Q, the gate limit G, the entry limit E and the basis B (SPECIFICATION 6.1).
-#[derive(Drop)]
+#[derive(Clone, Copy)]
 pub struct MurmConfig {
     pub max_qubits: u32,
     pub max_gates: u32,

@@ -12,7 +12,7 @@ use lists::Walked;
 use refusal::Refusal;
 
 // What a list became: a matrix of this exponent, or why it was refused.
-#[derive(Drop)]
+#[derive(Clone, Copy)]
 pub enum Listed {
     Matrix(u16),
     Refused(Refusal),

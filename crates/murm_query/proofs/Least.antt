@@ -13,7 +13,7 @@ use mir.Val.{SFits}
 use borrow.Author.Count.{below_more}
 use borrow.Author.Tests.{eq-eqb, ne_eqb, eqb-true, eqb-false, ltb-true, ltb-false, not-true}
 use lib.Dec.{eqb, ltb}
-use Rattle.ints.proofs.Bools.{clash, or_false, or_assoc, neither}
+use Rattle.ints.proofs.Bools.{clash, or-false, or_assoc, neither}
 use Rattle.ints.proofs.Machine.{range}
 use Rattle.coefficients.specs.Coefficients.{limit, near, eq_z}
 use Rattle.tables.specs.Checks.{any_below}
@@ -50,7 +50,7 @@ not_above (negsuc m) (negsuc n) f h e = eq-eqb n limit (omega (arith, ltb-false 
 
 below_last : (l : List ℤ) (x : ℤ) → any_below (l ++ (x ∷ [])) ≡ (any_below l || eq_z x (negsuc limit))
 unfolding any_below
-below_last [] x = or_false (eq_z x (negsuc limit))
+below_last [] x = or-false (eq_z x (negsuc limit))
 below_last (y ∷ l) x =
     ap (λ (b : Bool). eq_z y (negsuc limit) || b) (below_last l x) ∙ sym (or_assoc (eq_z y (negsuc limit)) (any_below l) (eq_z x (negsuc limit)))
 
@@ -84,7 +84,7 @@ module _ {l : List ℤ} {i : ℕ} {least : ℤ} (w : LeastTo l i least) where
       where
         by : (b : Bool) → eq_z (get_or l i (pos 0)) (negsuc limit) ≡ b → eq_z least (negsuc limit) ≡ (eq_z least (negsuc limit) || b)
         by true e = rw (not_above (get_or l i (pos 0)) least w.fits t e)
-        by false e = sym (or_false (eq_z least (negsuc limit)))
+        by false e = sym (or-false (eq_z least (negsuc limit)))
 
   pub least_end : length l ≤ i → (r : Bool) → r ≡ eq_z least (negsuc limit) → InRange l (not r)
   least_end h r p = record {

@@ -73,7 +73,7 @@ pub fn check_query(width: u32, exponent: u16, entries: &[Coefficient]) -> Check
 }
 
 // The fingerprint of a matrix, or why it was refused.
-#[derive(Drop)]
+#[derive(Clone, Copy)]
 pub enum Fingerprinted {
     Fingerprint(u64),
     Refused(Refusal),

@@ -21,7 +21,7 @@ use synthesis_arena::{NodeCircuit, WidthLimits};
 
 // What is found: a node, and how many gates its list has; none; or that a chain that was met is bad (SPECIFICATION
 // 7.5).
-#[derive(Drop)]
+#[derive(Clone, Copy)]
 pub enum Find {
     Node(usize, usize),
     Nothing,

@@ -19,14 +19,14 @@ use steps::Applied;
 use synthesis_arena::{NodeCircuit, WidthLimits};
 
 // The fingerprint of a candidate and the exponent of its matrix, or that it does not fit.
-#[derive(Drop)]
+#[derive(Clone, Copy)]
 pub enum Candidate {
     Print(u64, u16),
     DoesNotFit,
 }
 
 // Two candidates of a node.
-#[derive(Drop)]
+#[derive(Clone, Copy)]
 pub struct TwoCandidates {
     pub first: Candidate,
     pub second: Candidate,

@@ -4,16 +4,16 @@ use mathlib.Core.Bool.{Bool, true, false, not, ◌&&◌, ◌||◌}
 use Prim.Native.Nat.{ℕ}
 use lib.Dec.{eqb, ltb}
 use Rattle.ints.specs.Lists.{all, elem, distinct}
-use Rattle.ints.proofs.Bools.{and-true, or_false}
+use Rattle.ints.proofs.Bools.{and-true, or-false}
 use Rattle.operands.specs.Operands.{placed}
 
 -- none of two is the last number, which nothing comes after
 neither : (p q : Bool) → not p && not q ≡ not (p || (q || false))
 neither true q = refl
-neither false q = sym (ap not (or_false q))
+neither false q = sym (ap not (or-false q))
 
 alone : (p : Bool) → not p ≡ (not (p || false) && true)
-alone p = sym (and-true (not (p || false)) ∙ ap not (or_false p))
+alone p = sym (and-true (not (p || false)) ∙ ap not (or-false p))
 
 module _ (n a b c : ℕ) where
   pub one : ltb a n && (eqb b 0 && eqb c 0) ≡ placed n 1 a b c

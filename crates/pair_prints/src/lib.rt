@@ -10,7 +10,7 @@ ghost use Rattle.exact.specs.Fingerprint.{fingerprint};
 use cyclotomic::Coefficient;
 
 // The fingerprints of two matrices.
-#[derive(Drop)]
+#[derive(Clone, Copy)]
 pub struct Pair {
     pub left: u64,
     pub right: u64,

@@ -13,7 +13,7 @@ use place_turns::TurnPlaces;
 use prints::Streams;
 
 // The streams of two matrices.
-#[derive(Drop)]
+#[derive(Clone, Copy)]
 pub struct TwoStreams {
     pub left: Streams,
     pub right: Streams,

@@ -8,7 +8,7 @@ ghost use Rattle.place_turns.specs.Eights.{OfEight, Opposite, OneTurn, PlacesOf}
 
 // Where the coefficients of a turned element stand among the eight of the element itself. One of these serves all
 // entries of a matrix, so that its turns are worked once and not for each entry.
-#[derive(Drop)]
+#[derive(Clone, Copy)]
 pub struct TurnPlaces {
     pub a: usize,
     pub b: usize,

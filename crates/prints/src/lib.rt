@@ -13,7 +13,7 @@ ghost use Rattle.prints.specs.Prints.{SmallTo, streams};
 use cyclotomic::{Coefficient, Cyclotomic};
 
 // The two streams of the fingerprint (SPECIFICATION 5.2).
-#[derive(Drop)]
+#[derive(Clone, Copy)]
 pub struct Streams {
     pub first: u64,
     pub second: u64,

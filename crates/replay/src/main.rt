@@ -178,7 +178,7 @@ fn generators_lines(width: u32)
 }
 
 // What is printed of each width.
-#[derive(Drop)]
+#[derive(Clone, Copy)]
 enum Lines {
     Codes,
     Valid,

@@ -17,7 +17,7 @@ const MOST_K: u16 = 65535;
 
 // What a gate left: the exponent, or that its step does not fit, by a coefficient or by the exponent (SPECIFICATION
 // 3.4).
-#[derive(Drop)]
+#[derive(Clone, Copy)]
 pub enum Applied {
     Done(u16),
     DoesNotFit,

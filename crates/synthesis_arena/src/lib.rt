@@ -17,7 +17,7 @@ use circuit::{GateSet, LibraryGate};
 pub const MARK: u32 = 4294967295;
 
 // The limits of a width: its number, the basis as a set, the gate limit, the entry limit.
-#[derive(Drop)]
+#[derive(Clone, Copy)]
 pub struct WidthLimits {
     pub width: u32,
     pub basis: u32,
@@ -26,21 +26,21 @@ pub struct WidthLimits {
 }
 
 // A node with a fingerprint, or that there is none.
-#[derive(Drop)]
+#[derive(Clone, Copy)]
 pub enum Found {
     At(usize),
     NotFound,
 }
 
 // The depth of a node, or that its chain is bad.
-#[derive(Drop)]
+#[derive(Clone, Copy)]
 pub enum NodeDepth {
     At(usize),
     Bad,
 }
 
 // How many gates a node's list has, or that its chain is bad.
-#[derive(Drop)]
+#[derive(Clone, Copy)]
 pub enum NodeCircuit {
     Length(usize),
     Bad,

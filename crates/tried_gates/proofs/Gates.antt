@@ -27,7 +27,7 @@ use Rattle.walk.specs.Walk.{Rules, State, root, list_at, prod, pruned, skipped, 
 use Rattle.walk.proofs.Laws.{fits_by}
 use Rattle.walk.proofs.Grown.{Prefix}
 use Rattle.walk.proofs.Lookups.{looks_up}
-use Rattle.walk.proofs.Sequences.{or_false, map_at, prefix_at, prefix_length}
+use Rattle.walk.proofs.Sequences.{or-false, map_at, prefix_at, prefix_length}
 use Rattle.synthesis_arena.specs.declared.WidthLimits.{WidthLimits}
 use Rattle.node_matrix.proofs.Prints.{fits_alike, prints_alike}
 use Rattle.looked_ahead.specs.Ahead.{Hint}
@@ -107,7 +107,7 @@ module _ {mode : Mode} {by : By} {lim : WidthLimits} {count node k : ℕ} {f u c
 
     -- so it is neither pruned nor unfit
     gate_tests : (j : ℕ) → j < length gs → (pruned_at c node (get_or gs j 0) ≡ false) × (unfit n x (get_or gs j 0) ≡ false)
-    gate_tests j l = or_false (pruned_at c node (get_or gs j 0)) (unfit n x (get_or gs j 0)) (gate_in j l).1
+    gate_tests j l = or-false (pruned_at c node (get_or gs j 0)) (unfit n x (get_or gs j 0)) (gate_in j l).1
 
     pub gate_fits : n ≤ 5 → (j : ℕ) → j < length gs → (valid n (get_or gs j 0) ≡ true) × (step_fits n (gate_of n (get_or gs j 0)) x ≡ true)
     gate_fits small j l =

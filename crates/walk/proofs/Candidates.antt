@@ -14,7 +14,7 @@ use lib.Seq.{get_or-append_seam}
 use Rattle.exact.proofs.Values.{pick_ind}
 use Rattle.walk.specs.Walk.{Rules, Node, State, any, root, list_at, prod, pruned, knows, candidate, skipped, child, try, try_all, layer}
 use Rattle.walk.proofs.Grown.{Prefix}
-use Rattle.walk.proofs.Sequences.{or_false, or_cases, lt_or, any_true, any_at, length_snoc, prefix_refl, prefix_snoc, prefix_trans, prefix_at, prefix_length}
+use Rattle.walk.proofs.Sequences.{or-false, or_cases, lt_or, any_true, any_at, length_snoc, prefix_refl, prefix_snoc, prefix_trans, prefix_at, prefix_length}
 
 -- t is what s has become: nodes were appended, and a saturated state is saturated still
 pub record Later (s t : State) : Type 0 where
@@ -52,8 +52,8 @@ module _ (R : Rules) where
   skipped_not ns k g e =
       let fit : Bool = R.fits g (prod R (list_at ns k)) in
       let old : Bool = any (knows R (candidate R ns k g)) ns in
-      let a = or_false (pruned R g (list_at ns k)) (not fit || old) e in
-      let b = or_false (not fit) old a.1 in
+      let a = or-false (pruned R g (list_at ns k)) (not fit || old) e in
+      let b = or-false (not fit) old a.1 in
       (a.0, not-false fit b.0, b.1)
 
   -- ---- by cases: the state is kept, grows by a node, or becomes saturated
@@ -68,7 +68,7 @@ module _ (R : Rules) where
     unfolding try
     try_cases P s k g keep add fill =
         pick_ind P (s.saturated || skipped R s.nodes k g) (λ e. keep)
-        (λ e. let o = or_false s.saturated (skipped R s.nodes k g) e in
+        (λ e. let o = or-false s.saturated (skipped R s.nodes k g) e in
         pick_ind P (ltb (length s.nodes) most) (λ l. add o.0 o.1 (ltb-true (length s.nodes) most l)) (λ l. fill (ltb-false (length s.nodes) most l)))
 
     -- ---- what each candidate keeps, the loops keep

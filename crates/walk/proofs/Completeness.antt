@@ -18,7 +18,7 @@ use Rattle.walk.specs.Walk.{Rules, Node, Build, any, root, list_at, prod, pruned
 use Rattle.walk.proofs.Grown.{Prefix, Grown, Layered, Shape}
 use Rattle.walk.proofs.Laws.{Laws, Over, AllFit, Has, HasAll}
 use Rattle.walk.specs.Known.{Present, KnownIsPresent}
-use Rattle.walk.proofs.Sequences.{or_false, or_cases, bool, lt_or, any_true, prefix_at, prefix_length}
+use Rattle.walk.proofs.Sequences.{or-false, or_cases, bool, lt_or, any_true, prefix_at, prefix_length}
 use Rattle.walk.proofs.Candidates.{any_prefix, Dealt, layer_deals}
 use Rattle.walk.proofs.Nodes.{over, fresh}
 use Rattle.walk.proofs.Layers.{walked_within, layered_deep, walked_deep, deeper_nodes, deeper_saturated, deeper_layered, deeper_depth, begin_layered, walk_shape}
@@ -199,7 +199,7 @@ module _ (R : Rules) (Same : R.Mat → R.Mat → Type 0) (W : Laws R Same) where
       let d : Build = deeper R E b in
       pick_ind Enough (ended b) (λ e gr K. cp)
       (λ e gr K.
-      let f : b.saturated ≡ false = (or_false b.saturated (eqb b.last (length b.nodes)) e).0 in
+      let f : b.saturated ≡ false = (or-false b.saturated (eqb b.last (length b.nodes)) e).0 in
       depths_complete G E m d af (deeper_layered R E b i f) (λ z. omega (arith, q f, (deeper_depth R E b).0 z))
       (complete_deeper E b i f (λ g l h o n. af g l h o (omega (arith, q f)))
       (present_before d.depth (depths R E d m).depth (depths_prefix R E m d) gr (depth_rises E m d) K) cp) gr K)

@@ -14,7 +14,7 @@ use Rattle.ints.proofs.Bools.{clash}
 use Rattle.exact.proofs.Values.{pick_ind}
 use Rattle.walk.specs.Walk.{Rules, Node, State, Build, root, list_at, child, try, opened, walked, settled, deeper, ended, depths, begin, is_nil, walk}
 use Rattle.walk.proofs.Grown.{Prefix, ParentsTo, Grown, alone, more, Layered, Shape}
-use Rattle.walk.proofs.Sequences.{or_false, or_cases, bool, lt_or, length_snoc, all_snoc, prefix_refl, prefix_snoc, prefix_trans, prefix_at, prefix_length}
+use Rattle.walk.proofs.Sequences.{or-false, or_cases, bool, lt_or, length_snoc, all_snoc, prefix_refl, prefix_snoc, prefix_trans, prefix_at, prefix_length}
 use Rattle.walk.proofs.Candidates.{try_cases, layer_keeps}
 
 pub settled_nodes : (b : Build) (s : State) → (settled b s).nodes ≡ s.nodes
@@ -174,7 +174,7 @@ module _ (R : Rules) where
 
   going_next : (G E m : ℕ) (b : Build) → ended b ≡ false → Going G E (suc m) b → Going G E m (deeper R E b)
   going_next G E m b e i =
-      let f : b.saturated ≡ false = (or_false b.saturated (eqb b.last (length b.nodes)) e).0 in
+      let f : b.saturated ≡ false = (or-false b.saturated (eqb b.last (length b.nodes)) e).0 in
       let d = deeper_depth E b in
       record {
         layered = deeper_layered E b i.layered f;

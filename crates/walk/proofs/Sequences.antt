@@ -16,9 +16,9 @@ use Rattle.walk.proofs.Grown.{Prefix}
 
 -- ---- tests
 
-pub or_false : (s t : Bool) → (s || t) ≡ false → (s ≡ false) × (t ≡ false)
-or_false true t e = clash refl e
-or_false false t e = (refl, e)
+pub or-false : (s t : Bool) → (s || t) ≡ false → (s ≡ false) × (t ≡ false)
+or-false true t e = clash refl e
+or-false false t e = (refl, e)
 
 pub or_cases : (s t : Bool) → (s || t) ≡ true → (s ≡ true) ⊎ (t ≡ true)
 or_cases true t e = inl refl
@@ -46,8 +46,8 @@ module _ {A : Type 0} (f : A → Bool) (d : A) where
 
   pub any_false : (ns : List A) → any f ns ≡ false → (k : ℕ) → k < length ns → f (get_or ns k d) ≡ false
   any_false [] e k h = absurd (not-suc-le-zero h)
-  any_false (n ∷ ns) e zero h = (or_false (f n) (any f ns) e).0
-  any_false (n ∷ ns) e (suc k) h = any_false ns (or_false (f n) (any f ns) e).1 k (le_of_suc-le-suc h)
+  any_false (n ∷ ns) e zero h = (or-false (f n) (any f ns) e).0
+  any_false (n ∷ ns) e (suc k) h = any_false ns (or-false (f n) (any f ns) e).1 k (le_of_suc-le-suc h)
 
   pub any_at : (ns : List A) (k : ℕ) → k < length ns → f (get_or ns k d) ≡ true → any f ns ≡ true
   any_at [] k h e = absurd (not-suc-le-zero h)

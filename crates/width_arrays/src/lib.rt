@@ -12,7 +12,7 @@ use index::LookupBy;
 use synthesis_arena::{MARK, WidthLimits};
 
 // How many nodes there are now, and whether the width is saturated (SPECIFICATION 6.8).
-#[derive(Drop)]
+#[derive(Clone, Copy)]
 pub struct Tried {
     pub count: usize,
     pub saturated: bool,

@@ -6,7 +6,7 @@
 #![tactic(auto)]
 
 // How many nodes the width has, its completed depth, and whether it is saturated.
-#[derive(Drop)]
+#[derive(Clone, Copy)]
 pub struct WidthTable {
     pub count: usize,
     pub depth: usize,

@@ -136,8 +136,8 @@ module _ (n : ℕ) where
   coefficients_decide h u w (phase ks p) pr = plain_decide h u w (phase ks p) tt
   coefficients_decide h u w (exchange ks k) pr = plain_decide h u w (exchange ks k) tt
   coefficients_decide h u w (had ks k) pr = plain_decide h u w (had ks k) tt
-  coefficients_decide h {x} u w (then f g) pr =
-      by (step_fits n f x) refl (coefficients_decide h u w f pr.0) (λ e. coefficients_decide h (unitary_act n f pr.0 u) (fits_act f x pr.0 e) g pr.1)
+  coefficients_decide h {x = x} u w (then f g) pr =
+      by (step_fits n f x) refl (coefficients_decide h u w f pr.0) (λ e. coefficients_decide h {x = act n f x} (unitary_act n f pr.0 u) (fits_act f x pr.0 e) g pr.1)
     where
       by : (b : Bool) → step_fits n f x ≡ b → step_fits n f x ≡ raw_within n f x → (step_fits n f x ≡ true → step_fits n g (act n f x) ≡ raw_within n g (act n f x))
           → (step_fits n f x && step_fits n g (act n f x)) ≡ (raw_within n f x && raw_within n g (act n f x))

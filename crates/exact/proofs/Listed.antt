@@ -36,7 +36,7 @@ module _ (n : ℕ) where
   -- ---- the lowest denominator
   pub after_lowest : {x : Exact} (l : List ℕ) → Lowest n x → Lowest n (after n x l)
   after_lowest [] h = h
-  after_lowest {x} (g ∷ l) h = after_lowest l (act_lowest n (gate_of n g) x)
+  after_lowest {x = x} (g ∷ l) h = after_lowest {x = act n (gate_of n g) x} l (act_lowest n (gate_of n g) x)
 
   pub product_lowest : (l : List ℕ) → Lowest n (product n l)
   unfolding product
@@ -45,11 +45,11 @@ module _ (n : ℕ) where
   -- ---- the same steps from two matrices
   pub after_equal : {x y : Exact} (l : List ℕ) → Equal n x y → Equal n (after n x l) (after n y l)
   after_equal [] s = s
-  after_equal (g ∷ l) s = after_equal l (act_equal n (gate_of n g) (proper n g) (equal_same n s))
+  after_equal {x = x} {y = y} (g ∷ l) s = after_equal {x = act n (gate_of n g) x} {y = act n (gate_of n g) y} l (act_equal n (gate_of n g) (proper n g) (equal_same n s))
 
   pub after_power : {x y : Exact} (l : List ℕ) → PowerOf n x y → PowerOf n (after n x l) (after n y l)
   after_power [] s = s
-  after_power (g ∷ l) s = after_power l (act_power n (gate_of n g) (proper n g) s)
+  after_power {x = x} {y = y} (g ∷ l) s = after_power {x = act n (gate_of n g) x} {y = act n (gate_of n g) y} l (act_power n (gate_of n g) (proper n g) s)
 
   -- ---- lists of one product: two adjacent codes anywhere
   pub product_swap : (l : List ℕ) (g h : ℕ) (m : List ℕ) → disjoint g h ≡ true → Equal n (product n (l ++ (g ∷ h ∷ m))) (product n (l ++ (h ∷ g ∷ m)))

@@ -14,7 +14,7 @@ use Rattle.ints.specs.Bits.{bit}
 use Rattle.ints.specs.Lists.{pick, all}
 use Rattle.ints.proofs.Bools.{and-true, and_assoc}
 use Rattle.cyclotomic.specs.Zomega.{Zω, zeroω, oneω, addω, subω, mulω, turn, sqrt2}
-use Rattle.cyclotomic.proofs.Sums.{add_comm, add_zero, zero-add as add-zero-left}
+use Rattle.cyclotomic.proofs.Sums.{add_comm, add_zero, zero_add as add_zero_left}
 use Rattle.cyclotomic.proofs.Turns.{sub_is, turn_sum, turn_none}
 use Rattle.cyclotomic.proofs.Product.{one_mul, zero_mul, turn_is_mul, sqrt2_is_mul}
 use Rattle.cyclotomic.proofs.Four.{same4, one_e, add_e, sub_e, mul_e, turn_e, of2}
@@ -100,7 +100,7 @@ module _ (n t : ℕ) (x : Exact) (h : t < n) where
   }
     where
       turns_alone : (p : ℕ) (y z : Zω) → addω (mulω zeroω y) (mulω (turn p oneω) z) ≡ turn p z
-      turns_alone p y z = (λ i. addω (zero_mul y i) (sym (turn_is_mul p z) i)) ∙ add-zero-left (turn p z)
+      turns_alone p y z = (λ i. addω (zero_mul y i) (sym (turn_is_mul p z) i)) ∙ add_zero_left (turn p z)
 
       by : (o b : Bool) (r c : ℕ) → bit r t ≡ b
           → addω (mulω (pick o (pauli_y.u b b) oneω) (x.e r c)) (mulω (pick o (pauli_y.u b (not b)) zeroω) (x.e (flip t r) c))

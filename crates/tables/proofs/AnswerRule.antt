@@ -24,7 +24,7 @@ use Rattle.tables.specs.Tables.{Table, walk_of, not_a_width, count_at, Query, ma
 use Rattle.tables.specs.Built.{Built, FilledFrom}
 use Rattle.tables.specs.AnswerRule.{DistinctAt, first_found_in, first_synthesized, AnswerRule, FirstNode}
 use Rattle.tables.proofs.Accepted.{accepted}
-use Rattle.tables.proofs.Counts.{a_width, counted, record_count, walk_count, count_at, good_record}
+use Rattle.tables.proofs.Counts.{a_width, counted, record_count, walk_count, count_at_lem, good_record}
 use Rattle.tables.proofs.Indexes.{looks_scan}
 use Rattle.tables.proofs.Rows.{rows_pass, rows_refuse_at_0}
 use Rattle.tables.proofs.Asked.{no_positions_find, good_look, find_passed, find_refused}
@@ -79,7 +79,7 @@ module _ (t : Table) (a : Arrays) (q : Query) where
 by_print_lem : (t : Table) (a : Arrays) → Built by_print t a → (w : ℕ) → DistinctAt t a w
 by_print_lem t a b w i j l h s =
     let (p, q, z) = counted t w h in
-    let c = count_at t a b w p q in
+    let c = count_at_lem t a b w p q in
     prints_distinct w t.limits.basis (walk_shape (at_width by_print w t.limits.basis) t.limits.gates t.limits.entries).layered.grown i j l (omega (arith, c, h))
     (sym (b.nodes w p q i (omega (arith, c, h, l))).print ∙ s ∙ (b.nodes w p q j (omega (arith, c, h))).print)
 

@@ -90,8 +90,8 @@ module _ {mode : Mode} (t : Table) (a : Arrays) (b : Built mode t a) where
       ap (λ (z : Table). width_at z w) b.returned ∙ record_at mode t.limits w p e ∙ row_is mode t.limits w q
 
   -- so it has as many entries as its walk has nodes
-  pub count_at : (w : ℕ) → 0 < w → w ≤ t.limits.qubits → count_at t w ≡ length (walk_of mode t.limits w).nodes
-  count_at w p q = rw (has_width t w p q) (ap (λ (v : Width). v.count) (width_is w p q))
+  pub count_at_lem : (w : ℕ) → 0 < w → w ≤ t.limits.qubits → count_at t w ≡ length (walk_of mode t.limits w).nodes
+  count_at_lem w p q = rw (has_width t w p q) (ap (λ (v : Width). v.count) (width_is w p q))
 
   -- no count is 0, and none is above E
   pub counts : (w : ℕ) → 0 < w → w ≤ t.limits.qubits → (0 < (width_at t w).count) × ((width_at t w).count ≤ t.limits.entries)

@@ -30,7 +30,7 @@ use Rattle.tables.proofs.Rows.{numbered_query, first_here, first_past, first_row
 use Rattle.tables.proofs.FromBuild.{build_built, build_refused, built_again}
 use Rattle.tables.proofs.Counts.{width_is, counts, good_record}
 use Rattle.tables.proofs.Joined.{told_option}
-use Rattle.tables.proofs.Replies.{number_of, row_of_answer, ReplyCase, not_a_width, part_asked_lem, by_row, row_refuses, cases}
+use Rattle.tables.proofs.Replies.{number_of, row_of_answer, ReplyCase, not_a_width_lem, part_asked_lem, by_row, row_refuses, cases}
 use Rattle.tables.proofs.Replies.{gives_asked, no_row, asked_means, decided, gives_right}
 use Rattle.tables.proofs.OfBuilt.{asked_lowest, has_width, a_width, told_none, only_record, query_passed, rows_are, widths_small, no_fault, told_walk, gives_walk, scan_gives}
 
@@ -111,7 +111,7 @@ module _ {mode : Mode} (t : Table) (a : Arrays) (b : Built mode t a) where
   never_13 q out n = by (cases t a q out)
     where
       by : ReplyCase t a q out → ⊥
-      by (not_a_width e f m) = absurd (omega (arith, kind_of_lem (sym m ∙ n)))
+      by (not_a_width_lem e f m) = absurd (omega (arith, kind_of_lem (sym m ∙ n)))
       by (part_asked_lem e f p) = no_fault t a b q.width (matrix_of q) (((asked_means t a q out).is_refused 13 0 out).0 (sym p ∙ n)).0
       by (by_row r h e m) = only_record t a q out (good_record t a b) (e ∙ number_of (sym m ∙ n))
 

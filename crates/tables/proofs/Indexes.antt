@@ -24,7 +24,7 @@ use Rattle.tables.specs.EitherLookup.{PartSizes}
 use Rattle.tables.proofs.InWords.{in_parts_to, not-both}
 use Rattle.tables.proofs.Accepted.{accepted, record_limits}
 use Rattle.tables.proofs.Filled.{part_length, room_at, parts_length, parts_part, parts_same, parts_cong, parts_anew}
-use Rattle.tables.proofs.Counts.{record_count, walk_count, count_at}
+use Rattle.tables.proofs.Counts.{record_count, walk_count, count_at_lem}
 
 -- ---- the parts of so many places
 
@@ -186,6 +186,6 @@ module _ {mode : Mode} (t : Table) (a : Arrays) (b : Built mode t a) where
   fill_is_build =
       parts_cong (λ w. kept indexed (part_of w t.limits.entries a.prints) (count_at t w))
       (λ w. kept indexed (prints_of mode t.limits w) (length (walk_of mode t.limits w).nodes)) (part_size t.limits (length a.index)) t.limits.qubits a.index
-      (λ v h xs. let c = count_at t a b (suc v) (omega arith) h in
+      (λ v h xs. let c = count_at_lem t a b (suc v) (omega arith) h in
       ap (λ (m : ℕ). kept indexed (part_of (suc v) t.limits.entries a.prints) m xs) c
       ∙ kept_cong indexed _ _ xs (length (walk_of mode t.limits (suc v)).nodes) (prints_at (suc v) (omega arith) h))

@@ -35,7 +35,7 @@ use Rattle.tables.proofs.Causes.{is_true, fails, none_to}
 use Rattle.tables.proofs.InWords.{not-both, query_in_words}
 use Rattle.tables.proofs.Accepted.{accepted}
 pub use Rattle.tables.proofs.Counts.{has_width, a_width, counted}
-use Rattle.tables.proofs.Counts.{walk_count, count_at, width_is, good_record}
+use Rattle.tables.proofs.Counts.{walk_count, count_at_lem, width_is, good_record}
 use Rattle.tables.proofs.Indexes.{looks_scan}
 use Rattle.tables.proofs.Asked.{passed, good_look, look_passed}
 use Rattle.tables.proofs.Joined.{told_option, joined}
@@ -138,20 +138,20 @@ module _ {mode : Mode} (t : Table) (a : Arrays) (b : Built mode t a) where
     -- a node's chain is its list
     pub chain_at_lem : (k : ℕ) → k < (width_at t w).count → chain_at (limits_at t.limits w) (part_at t a w) k ≡ good (reverse (list_at (walk_of mode t.limits w).nodes k))
     chain_at_lem k l =
-        held_chain mode (limits_at t.limits w) (widths_small w h) shape.layered.grown shape.limit (part_at t a w) (count_at t a b w p h) holding k
+        held_chain mode (limits_at t.limits w) (widths_small w h) shape.layered.grown shape.limit (part_at t a w) (count_at_lem t a b w p h) holding k
         (omega (arith, l, ap (λ (v : Width). v.count) (width_is t a b w p h)))
 
     -- and none that is looked at is bad
     good_chains : (x : Exact) → BadFound (limits_at t.limits w) (part_at t a w) x → ⊥
     good_chains =
-        not_bad mode (limits_at t.limits w) (widths_small w h) shape.layered.grown shape.limit (part_at t a w) (count_at t a b w p h) holding
+        not_bad mode (limits_at t.limits w) (widths_small w h) shape.layered.grown shape.limit (part_at t a w) (count_at_lem t a b w p h) holding
 
     -- it answers as the walk does, where the index was filled from it
     pub part_answers : FilledFrom t a → (x : Exact) (out : List ℕ)
         → answer_of (limits_at t.limits w) (part_at t a w) x out
         ≡ told_option (answered mode w B G E x) out
     part_answers f x out =
-        joined mode (limits_at t.limits w) (widths_small w h) (part_at t a w) (count_at t a b w p h) holding x (looks_scan t a f (good_record t a b) w p h) out
+        joined mode (limits_at t.limits w) (widths_small w h) (part_at t a w) (count_at_lem t a b w p h) holding x (looks_scan t a f (good_record t a b) w p h) out
 
   -- whatever the index holds, what is looked at has no fault: it is one of the width's nodes
   pub no_fault : (w : ℕ) (x : Exact) → BadFound (limits_at t.limits w) (part_at t a w) x → ⊥
@@ -172,7 +172,7 @@ module _ {mode : Mode} (t : Table) (a : Arrays) (b : Built mode t a) where
         let s = shape q.width p h in
         let r = gives_answers t a q out l g in
         given_held mode (limits_at t.limits q.width) (widths_small q.width h) s.layered.grown s.limit (part_at t a q.width)
-        (count_at t a b q.width p h) (holding q.width p h) (matrix_of q)
+        (count_at_lem t a b q.width p h) (holding q.width p h) (matrix_of q)
         (asked_lowest q.width q.exponent q.numbers (query_passed t a q out e)) r.node l r.found
 
 -- the arrays alone are the table: it is built by the scan too

@@ -18,7 +18,7 @@ use Rattle.tables.specs.Exactly.{cause, First, query_causes}
 use Rattle.tables.proofs.Rows.{NoPositions, first_position_lem, no_positions_append, no_positions_query}
 use Rattle.tables.proofs.Causes.{is_lt, InWords, done, more, words_append, first_to, first_from}
 use Rattle.tables.proofs.InWords.{query_in_words}
-use Rattle.tables.proofs.Replies.{number_of, row_of_answer, ReplyCase, not_a_width, part_asked_lem, by_row, row_refuses, width_none, width_asked, cases}
+use Rattle.tables.proofs.Replies.{number_of, row_of_answer, ReplyCase, not_a_width_lem, part_asked_lem, by_row, row_refuses, width_none, width_asked, cases}
 use Rattle.tables.proofs.Replies.{gives_asked, asked_means, gives_answers}
 use Rattle.tables.proofs.OfBuilt.{rows_are}
 use Rattle.tables.proofs.Demand3.{demand}
@@ -42,7 +42,7 @@ module _ (t : Table) (a : Arrays) (q : Query) (out : List ℕ) where
   refused_by r n = by (cases t a q out)
     where
       by : ReplyCase t a q out → Refusal r
-      by (not_a_width e w m) = absurd (omega (arith, kind_of_lem (sym m ∙ n)))
+      by (not_a_width_lem e w m) = absurd (omega (arith, kind_of_lem (sym m ∙ n)))
       by (part_asked_lem e w p) = let x = ((asked_means t a q out).is_refused r 0 out).0 (sym p ∙ n) in chain_bad x.1 e w x.0
       by (by_row s h e m) = let z = number_of (sym m ∙ n) in row_holds (omega arith) (e ∙ z)
 
@@ -54,7 +54,7 @@ module _ (t : Table) (a : Arrays) (q : Query) (out : List ℕ) where
       to n = by (cases t a q out)
         where
           by : ReplyCase t a q out → (row_of_answer t a q out ≡ 0) × ((not_a_width t q.width ≡ true) ⊎ ((not_a_width t q.width ≡ false) × NoPart))
-          by (not_a_width e w m) = (e, inl w)
+          by (not_a_width_lem e w m) = (e, inl w)
           by (part_asked_lem e w p) = (e, inr (w, (((asked_means t a q out).is_none out).0 (sym p ∙ n)).0))
           by (by_row s h e m) = absurd (omega (arith, kind_of_lem (sym m ∙ n)))
 

@@ -39,7 +39,7 @@ module _ (t : Table) (a : Arrays) (q : Query) (out : List ℕ) where
   row_of_answer = first_row (answer_rows t a q out)
 
   pub data ReplyCase : Type 0 where
-    not_a_width : row_of_answer ≡ 0 → not_a_width t q.width ≡ true → GivesNone t a q out → ReplyCase
+    not_a_width_lem : row_of_answer ≡ 0 → not_a_width t q.width ≡ true → GivesNone t a q out → ReplyCase
     part_asked_lem : row_of_answer ≡ 0 → not_a_width t q.width ≡ false → synthesized t a q out ≡ part_asked t a q out → ReplyCase
     by_row : (r : ℕ) → 0 < r → row_of_answer ≡ r → Refuses t a q out r → ReplyCase
 
@@ -58,7 +58,7 @@ module _ (t : Table) (a : Arrays) (q : Query) (out : List ℕ) where
   cases = by row_of_answer refl
     where
       at : row_of_answer ≡ 0 → (b : Bool) → not_a_width t q.width ≡ b → ReplyCase
-      at e true f = not_a_width e f (width_none e f)
+      at e true f = not_a_width_lem e f (width_none e f)
       at e false f = part_asked_lem e f (width_asked e f)
 
       by : (r : ℕ) → row_of_answer ≡ r → ReplyCase
@@ -73,7 +73,7 @@ module _ (t : Table) (a : Arrays) (q : Query) (out : List ℕ) where
   gives_asked l g = by cases
     where
       by : ReplyCase → (row_of_answer ≡ 0) × (not_a_width t q.width ≡ false) × (part_asked t a q out ≡ outcome (given (length l)) (l ++ drop (length l) out))
-      by (not_a_width e f n) = not_given (omega arith) (sym n ∙ g)
+      by (not_a_width_lem e f n) = not_given (omega arith) (sym n ∙ g)
       by (part_asked_lem e f p) = (e, f, sym p ∙ g)
       by (by_row r h e n) = not_given (omega arith) (sym n ∙ g)
 
@@ -82,7 +82,7 @@ module _ (t : Table) (a : Arrays) (q : Query) (out : List ℕ) where
   no_row h = by cases
     where
       by : ReplyCase → row_of_answer ≡ 0
-      by (not_a_width e f n) = e
+      by (not_a_width_lem e f n) = e
       by (part_asked_lem e f p) = e
       by (by_row r p e n) = absurd (h r n)
 
@@ -108,7 +108,7 @@ module _ (t : Table) (a : Arrays) (q : Query) (out : List ℕ) where
           a_refusal r (p ∙ f ∙ (λ k. outcome (refused r (y k)) (h k)))
 
       by : ReplyCase → Decided t a q out
-      by (not_a_width e f n) = no_list n
+      by (not_a_width_lem e f n) = no_list n
       by (part_asked_lem e f p) = at p (part_asked t a q out).reply refl
       by (by_row r h e n) = a_refusal r n
 

@@ -156,6 +156,7 @@ module _ (R : Rules) where
     try_all_deals : (s : State) (k : ℕ) (gs : List ℕ) → k < length s.nodes → (g : ℕ) → Memᴰ g gs
         → Dealt (list_at s.nodes k) g (try_all R most s k gs)
     unfolding try_all
+    try_all_deals s k [] l g m = elim m [ ]
     try_all_deals s k (h ∷ gs) l g (Memᴰ.head e) =
         subst (λ (x : ℕ). Dealt (list_at s.nodes k) x (try_all R most (try R most s k h) k gs)) (sym e)
         (dealt_later (list_at s.nodes k) h (try_all_later most (try R most s k h) k gs) (try_deals s k h))

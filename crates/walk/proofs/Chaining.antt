@@ -87,7 +87,7 @@ module _ (n basis : ℕ) (parents codes : List ℕ) where
 
   chain_spent : (node : ℕ) → 0 < node → chain_of n basis parents codes 0 node ≡ bad
   unfolding chain_of
-  chain_spent node p = linked_at _ node p ∙ never_good (fine node) (get_or codes node 0)
+  chain_spent node p = linked_at bad node p ∙ never_good (fine node) (get_or codes node 0)
 
   chain_step : (left node : ℕ) → 0 < node → chain_of n basis parents codes (suc left) node ≡ pick (fine node) (then (chain left (get_or parents node 0)) (get_or codes node 0)) bad
   unfolding chain_of

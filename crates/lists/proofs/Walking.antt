@@ -47,8 +47,8 @@ later_unfit (suc i) j = later_unfit i (suc j) ∙ ap unfit_at (omega arith)
 module _ (n : ℕ) where
   steps_equal : {x y : Exact} (l : List ℕ) → Equal n x y → steps_from n x l ≡ steps_from n y l
   steps_equal [] s = refl
-  steps_equal (g ∷ l) s =
-      λ i. pick (step_equal n (gate_of n g) s (proper n g) i) (next (steps_equal l (act_equal' n (gate_of n g) s (proper n g)) i)) (unfit_at 0)
+  steps_equal {x = x} {y = y} (g ∷ l) s =
+      λ i. pick (step_equal n (gate_of n g) s (proper n g) i) (next (steps_equal {x = act n (gate_of n g) x} {y = act n (gate_of n g) y} l (act_equal' n (gate_of n g) s (proper n g)) i)) (unfit_at 0)
 
 -- the first i gates of a list were applied, and the places hold their product over √2 to the k
 pub record Walking (n : ℕ) (codes : List ℕ) (i k : ℕ) (l : List ℤ) : Type 0 where

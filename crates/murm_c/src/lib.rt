@@ -109,8 +109,7 @@ pub fn counts_table(
 }
 
 // A list becomes a matrix: `library_circuit_matrix` as a number.
-#[unsafe(no_mangle)]
-pub extern "C" fn murm_library_circuit_matrix(
+pub fn murm_library_circuit_matrix(
     width: u32,
     codes: &[u32],
     out: &mut [Coefficient],
@@ -122,8 +121,7 @@ pub extern "C" fn murm_library_circuit_matrix(
 }
 
 // A matrix is answered: `synthesize` as a number, with the table's record as numbers.
-#[unsafe(no_mangle)]
-pub extern "C" fn murm_synthesize(
+pub fn murm_synthesize(
     q: u32,
     g: u32,
     e: u32,

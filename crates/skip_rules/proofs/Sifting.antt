@@ -18,6 +18,7 @@ unskipped_cons skip g gs b e = ap (λ (t : Bool). pick t (unskipped skip gs) (g 
 
 -- what is left is of the list, and is not skipped
 pub unskipped_mem : (skip : ℕ → Bool) (gs : List ℕ) (g : ℕ) → Memᴰ g (unskipped skip gs) → (Memᴰ g gs) × (skip g ≡ false)
+unskipped_mem skip [] g m = elim m [ ]
 unskipped_mem skip (h ∷ gs) g m = by (skip h) refl (unskipped_mem skip gs g) m
   where
     by : (b : Bool) → skip h ≡ b → (Memᴰ g (unskipped skip gs) → (Memᴰ g gs) × (skip g ≡ false)) → Memᴰ g (pick b (unskipped skip gs) (h ∷ unskipped skip gs))

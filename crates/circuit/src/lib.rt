@@ -104,6 +104,7 @@ impl LibraryGate {
     }
 
     // Whether the code is valid at a width.
+    #[tactic(auto, using(kinds::proofs::ByNumber::kind_placed, kinds::proofs::ByNumber::kind_used, kinds::proofs::ByNumber::arity_most, kinds::proofs::ByNumber::one_sorted), unfolding(crate::specs::Codes::valid, operands::specs::Operands::rises))]
     pub fn is_valid(self, width: u32) -> bool
         ensures { result ≡ valid width self.0 }
     {
@@ -125,6 +126,7 @@ impl LibraryGate {
     }
 
     // Whether the code is valid at a width, of a kind of tables, and this kind is in the basis.
+    #[tactic(auto, unfolding(crate::specs::Codes::valid_for))]
     pub fn is_valid_for(self, width: u32, basis: GateSet) -> bool
         ensures { result ≡ valid_for width basis.0 self.0 }
     {
@@ -139,6 +141,7 @@ impl LibraryGate {
     }
 
     // Whether this gate undoes the other, one of a kind of tables.
+    #[tactic(auto, unfolding(crate::specs::Pairs::inverse))]
     pub fn is_inverse_of(self, other: LibraryGate) -> bool
         ensures { result ≡ inverse self.0 other.0 }
     {
@@ -187,6 +190,7 @@ impl LibraryGate {
 }
 
 // The T charge of a list of codes.
+#[tactic(auto, using(crate::proofs::Charges::charge_most, crate::proofs::Charges::charge_from))]
 pub fn t_charge(codes: &[u32]) -> usize
     ensures { result ≡ charge codes.now }
 {

@@ -34,10 +34,10 @@ behind_byte {n} {w} b h s =
 
 digits_from : {v : ℕ} {u : List ℕ} (w : List ℕ) → all is_digit w ≡ true → Digits v u → Digits (value_from v w) (u ++ w)
 unfolding all value_from
-digits_from {v} {u} [] h s = rw append-nil s
-digits_from {v} {u} (b ∷ w) h s =
+digits_from {v = v} {u = u} [] h s = rw append-nil s
+digits_from {v = v} {u = u} (b ∷ w) h s =
     let p = both_true (is_digit b) (all is_digit w) h in
-    subst (λ (l : List ℕ). Digits (value_from (v * 10 + (b - 48)) w) l) (append_assoc u (b ∷ []) w) (digits_from w p.1 (behind_byte b p.0 s))
+    subst (λ (l : List ℕ). Digits (value_from (v * 10 + (b - 48)) w) l) (append_assoc u (b ∷ []) w) (digits_from {v = v * 10 + (b - 48)} {u = u ++ (b ∷ [])} w p.1 (behind_byte b p.0 s))
 
 -- digits pass the parser's test, and have the parser's value
 digits_good : {n : ℕ} {w : List ℕ} → Digits n w → (all is_digit w ≡ true) × (value w ≡ n)

@@ -24,6 +24,7 @@ fn code_of(kind: u32, a: u32, b: u32, c: u32) -> u32
 }
 
 // Each of the following writes its codes from the place `count` on and returns the place after them.
+#[tactic(auto, unfolding(crate::specs::Generators::kept))]
 fn push_valid(n: u32, basis: u32, code: u32, gates: &mut [u32; MOST], count: usize) -> usize
     requires { count + length (kept n basis code) ≤ most }
     ensures next { result ≡ count + length (kept n basis code) }

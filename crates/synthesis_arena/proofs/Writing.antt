@@ -5,11 +5,10 @@ use Prim.Native.Nat.{ℕ, suc, ◌+◌, ◌-◌, ◌≤◌, ◌<◌}
 use native.Mathlib.Omega.{arith}
 use lib.ListN.{length, get_or, take, drop, set, length-append, length-set, take-append-drop}
 use lib.Seq.{take-suc, set_at, length-take-le}
-use Rattle.exact.specs.Answers.{given, refused}
 use Rattle.synthesis_arena.specs.Chains.{depth_of, told_depth}
 use Rattle.walk.specs.Answers.{outcome, written}
 use Rattle.walk.specs.Answers as a
-use Rattle.walk.specs.Chains.{Chain, good, chain_of}
+use Rattle.walk.specs.Chains.{good, chain_of}
 use Rattle.synthesis_arena.specs.declared.NodeDepth.{NodeDepth}
 use Rattle.synthesis_arena.specs.declared.NodeDepth.TheVariants.{At, Bad}
 use Rattle.walk.proofs.Chaining.{LastGate, link}

@@ -1,7 +1,7 @@
 -- The size of the parts of an index: the places divided by Q. Assumes nothing.
 use mathlib.Core.Path.{◌≡◌, refl, sym, ap, ◌∙◌}
 use mathlib.Core.Bool.{Bool, true, false}
-use Prim.Native.Nat.{ℕ, suc, ◌+◌, ◌*◌, ◌/◌, ◌%◌, ◌^◌, ◌-◌, ◌≤◌, ◌<◌}
+use Prim.Native.Nat.{ℕ, zero, suc, ◌+◌, ◌*◌, ◌/◌, ◌%◌, ◌^◌, ◌-◌, ◌≤◌, ◌<◌}
 use native.Mathlib.Nat.{mul_comm, div-add-mod'}
 use native.Mathlib.Omega.{arith}
 use borrow.Author.Tests.{leb-true, leb-false}
@@ -26,6 +26,7 @@ within q places = omega (arith, div-add-mod' places q, mul_comm q (places / q))
 
 -- a size is no more than q of them
 one_of : (q size : ℕ) → 0 < q → size ≤ q * size
+one_of zero size h = elim h [ ]
 one_of (suc q) size h = omega arith
 
 module _ (l : Limits) (places : ℕ) (some : 0 < l.qubits) where

@@ -5,7 +5,7 @@ use mathlib.Core.Bool.{true, not, ◌&&◌}
 use Prim.Native.Nat.{◌+◌, ◌≤◌}
 use native.Mathlib.Omega.{arith}
 use borrow.Author.Tests.{ltb-false, le-ltb, not-true}
-use lib.IntN.{ℤ, pos, negsuc, nat_abs, neg_ℤ, ◌+ℤ◌, ◌-ℤ◌}
+use lib.IntN.{ℤ, pos, negsuc, nat_abs, neg_ℤ, ◌-ℤ◌}
 use Rattle.ints.proofs.Bools.{iff, and_both, both_true}
 use Rattle.ints.proofs.Int.{up, dn, Is, add_is, neg_is}
 use Rattle.cyclotomic.specs.Zomega.{Zω, addω, subω, sqrt2, fits, Small}

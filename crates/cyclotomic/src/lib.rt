@@ -102,6 +102,7 @@ impl Cyclotomic {
     }
 
     // One turn: omega times this. The paper has no other turn, so turns by powers are worked by single turns alone.
+    #[tactic(auto, unfolding(crate::specs::Zomega::turn))]
     pub fn turned(self) -> Cyclotomic
         requires { Small self }
         ensures { result ≡ turn 1 self }
@@ -150,6 +151,7 @@ impl Cyclotomic {
     }
 
     // Whether this is sqrt(2) times an element.
+    #[tactic(auto, unfolding(crate::specs::Zomega::divisible))]
     pub fn divisible_by_sqrt_2(self) -> bool
         ensures { result ≡ divisible self }
     {
@@ -160,6 +162,7 @@ impl Cyclotomic {
     }
 
     // This over sqrt(2), where it is divisible. The halves never pass the limit.
+    #[tactic(auto, unfolding(crate::specs::Zomega::over_sqrt2))]
     pub fn divide_by_sqrt_2(self) -> Cyclotomic
         requires { Small self }
         ensures { result ≡ over_sqrt2 self }
@@ -173,6 +176,7 @@ impl Cyclotomic {
     }
 
     // Whether sqrt(2) times this is within the limit: its coefficients are b - d, a + c, b + d and c - a.
+    #[tactic(auto, using(crate::proofs::Sizes::root_tests))]
     pub fn sqrt_2_fits(self) -> bool
         ensures { result ≡ fits (sqrt2 self) }
     {
@@ -183,6 +187,7 @@ impl Cyclotomic {
     }
 
     // sqrt(2) times this, where it is within the limit.
+    #[tactic(auto, unfolding(crate::specs::Zomega::sqrt2))]
     pub fn times_sqrt_2(self) -> Cyclotomic
         requires { Small (sqrt2 self) }
         ensures { result ≡ sqrt2 self }
@@ -197,6 +202,7 @@ impl Cyclotomic {
 
     // Whether this comes before the other: by a, then b, then c, then d, as signed numbers. It returns at the first pair
     // that differs: with no branch, builds at width 1 took 4 % longer.
+    #[tactic(auto, unfolding(crate::specs::Zomega::less))]
     pub fn less_than(self, rhs: Cyclotomic) -> bool
         ensures { result ≡ less self rhs }
     {

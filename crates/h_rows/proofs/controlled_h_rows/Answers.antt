@@ -1,0 +1,24 @@
+-- `controlled_h_rows` meets its contract: pairs whose lower row was passed are worked and all others are as they were,
+-- so each pair fits when it is reached.
+use native.Mathlib.Omega.{arith}
+use Rattle.h_rows.proofs.HRows.{row_next, row_worked, rows_worked}
+use Rattle.h_rows.proofs.controlled_h_rows.Goals as goal
+
+pub controlled_row_pair-requires-clause-n_bound : goal.controlled_row_pair-requires-clause-n_bound
+controlled_row_pair-requires-clause-n_bound c =
+    let p = row_next c.args.control c.args.t c.requires.t_value c.requires.n_bound.1 c.dim-d.ensures c.mask-bit.ensures c.loop-r.invariant.1 c.requires.all_small c.loop-r-test.true in
+    (c.requires.n_bound.0, p.0, p.1)
+
+pub controlled_row_pair-requires-clause-pair_fits : goal.controlled_row_pair-requires-clause-pair_fits
+controlled_row_pair-requires-clause-pair_fits c =
+    let p = row_next c.args.control c.args.t c.requires.t_value c.requires.n_bound.1 c.dim-d.ensures c.mask-bit.ensures c.loop-r.invariant.1 c.requires.all_small c.loop-r-test.true in
+    p.2
+
+pub loop-r-preserved : goal.loop-r-preserved
+loop-r-preserved c =
+    (omega arith, row_worked c.args.control c.args.t c.requires.t_value c.requires.n_bound.1 c.dim-d.ensures c.mask-bit.ensures c.loop-r.invariant.1 c.loop-r-test.true c.controlled_row_pair.ensures)
+
+pub returns-clause-summed : goal.returns-clause-summed
+returns-clause-summed c =
+    let p = rows_worked c.args.control c.args.t c.requires.t_value c.requires.n_bound.1 c.dim-d.ensures c.mask-bit.ensures c.loop-r.invariant.1 c.requires.m_len c.loop-r-test.false in
+    p.1.0

@@ -17,6 +17,7 @@ pub enum Checked {
     TooLarge,
 }
 
+#[tactic(auto, unfolding(cyclotomic::specs::Zomega::fits, cyclotomic::specs::Told::checked))]
 fn narrowed(a: Wide, b: Wide, c: Wide, d: Wide) -> Checked
     ensures { told_checked result ≡ checked (mk a b c d) }
 {

@@ -7,7 +7,7 @@ use borrow.Author.Tests.{ne_eqb, lt-ltb, le-ltb}
 use native.Mathlib.Omega.{arith}
 use lib.Dec.{eqb, ltb}
 use Rattle.ints.proofs.Bools.{or_right}
-use Rattle.tables.specs.Checks.{first_row, too_short}
+use Rattle.tables.specs.Checks.{first_row, too_short as arrays_short}
 use Rattle.tables.specs.Tables.{Table, Width, width_at, record_row, table_rows, count_at, node_rows}
 use Rattle.tables.proofs.Rows.{Numbered, first_here, first_past, first_last}
 
@@ -16,10 +16,10 @@ module _ (t : Table) (f u c : ℕ) where
   bad e = sym (first_here _ _ e)
 
   module _ (good : (record_row t).holds ≡ false) where
-    pub short : too_short t.limits f u c ≡ true → 5 ≡ first_row (table_rows t f u c)
+    pub short : arrays_short t.limits f u c ≡ true → 5 ≡ first_row (table_rows t f u c)
     short e = sym (first_past _ _ good ∙ first_here _ _ e)
 
-    pub asked : too_short t.limits f u c ≡ false → 0 ≡ first_row (table_rows t f u c)
+    pub asked : arrays_short t.limits f u c ≡ false → 0 ≡ first_row (table_rows t f u c)
     asked e = sym (first_past _ _ good ∙ first_last _ e)
 
 pub count_above : (t : Table) (w : ℕ) → t.limits.qubits < w → 0 ≡ count_at t w

@@ -1,6 +1,6 @@
 -- Turns of an entry by places: its four coefficients and their negatives are eight numbers, and every turn of the entry
 -- is four of these. Which four is the same for all entries. Assumes nothing.
-use Rattle.std.specs.Prelude.{◌≡◌, List, [], ◌∷◌, ℕ, ◌<◌, ℤ, pos, neg_ℤ, get_or}
+use Rattle.std.specs.Prelude.{◌≡◌, List, ℕ, ◌<◌, ℤ, pos, neg_ℤ, get_or}
 use Rattle.place_turns.specs.declared.TurnPlaces.{TurnPlaces}
 use Rattle.cyclotomic.specs.Zomega.{Zω, mk, turn, eight_of}
 

@@ -5,7 +5,7 @@ use mathlib.Core.List.{List}
 use Prim.Native.Nat.{ℕ, zero, suc, ◌<◌}
 use native.Mathlib.Omega.{arith}
 use lib.Dec.{ltb}
-use lib.ListN.{length, get_or}
+use lib.ListN.{get_or}
 use Rattle.circuit.specs.Codes.{mark}
 use Rattle.circuit.specs.Pairs.{inverse, disjoint}
 use Rattle.exact.specs.Matrix.{Exact}

@@ -7,7 +7,7 @@ use native.Mathlib.Omega.{arith}
 use lib.IntN.{ℤ}
 use lib.ListN.{length, get_or, take, drop, drop_of_length-le}
 use lib.Seq.{drop-cons, take-suc, take_all}
-use Rattle.ints.specs.Lists.{pick, all}
+use Rattle.ints.specs.Lists.{pick}
 use Rattle.exact.specs.Matrix.{Exact, identity}
 use Rattle.exact.proofs.Words.{Equal}
 use Rattle.exact.specs.Rows.{act, gate_of}

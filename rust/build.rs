@@ -29,6 +29,6 @@ fn main() {
 fn fail(reason: &str) -> ! {
     eprintln!("{reason}");
     eprintln!("MURM_LIB has to name the folder of {ARCHIVE}, by its full path");
-    eprintln!("`rt staticlib murm_c` writes the archive to target/staticlib of the repository");
+    eprintln!("`tools/archive murm_c` writes the archive to target/staticlib of the repository");
     process::exit(1)
 }

@@ -1,6 +1,6 @@
 //! With the feature `port` the archive of crates/bench, `libbench.a` in the folder
 //! that `PORT` names, is linked beside the original; the crate `murm` links that of
-//! crates/murm_c.
+//! crates/murm_c_c, `libmurm_c.a`.
 
 use std::env;
 

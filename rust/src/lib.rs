@@ -13,7 +13,7 @@
 //! | [`synthesize`] | lent | the codes of a list that a table has for a matrix |
 //! | [`gates_of`] | its own | the [`Gate`]s of such a list |
 //!
-//! The archive is built by `rt staticlib murm_c` at the repository's root, and is written to
+//! The archive is built by `tools/archive murm_c` at the repository's root, and is written to
 //! target/staticlib. To build this crate, the variable `MURM_LIB` names that folder, by its full
 //! path.
 //!

@@ -1,5 +1,5 @@
 //! The port's functions: lists and answers by the crate in rust/, over the archive
-//! of crates/murm_c; the others out of the archive of crates/bench. No other file
+//! of crates/murm_c_c; the others out of the archive of crates/bench. No other file
 //! here names them.
 
 use murm::{Arrays, Query, Record, Refusal};

@@ -42,7 +42,7 @@ module _ (l : List ℤ) (p q : ℕ) where
   pub still_high : {l1 : List ℤ} (c len : ℕ) → Exchanged l l1 p q c → p + len ≤ q → c < len → at l1 (q + c) ≡ at l (q + c)
   still_high c len w s b = w.other (q + c) (λ i k e. omega arith) (λ i k e. omega arith)
 
-  pub exchanged-more :
+  pub exchanged_more :
       {l1 l2 : List ℤ} {x y : ℤ} (c len : ℕ)
       → Exchanged l l1 p q c
       → p + len ≤ q
@@ -52,7 +52,7 @@ module _ (l : List ℤ) (p q : ℕ) where
       → x ≡ at l (p + c)
       → l2 ≡ set (set l1 (p + c) y) (q + c) x
       → Exchanged l l2 p q (c + 1)
-  exchanged-more {l1} {l2} {x} {y} c len w s n b ey ex e =
+  exchanged_more {l1} {l2} {x} {y} c len w s n b ey ex e =
       record {
         long = ap length e ∙ simp length-set w.long;
         low = below_more _ c (λ i k. rw e (keep (p + i) (λ t. omega arith) (λ t. omega arith) ∙ w.low i k))
@@ -235,7 +235,7 @@ module _ (n control t r : ℕ) {l : List ℤ} where
         kept = kept_refl n l;
       }
 
-  pub pair-exchanged :
+  pub pair_exchanged :
       {l' : List ℤ}
       → t < n
       → r < 2 ^ n
@@ -243,7 +243,7 @@ module _ (n control t r : ℕ) {l : List ℤ} where
       → (bit_and r (2 ^ t) ≡ 2 ^ t → ⊥)
       → Exchanged l l' (4 * (r * 2 ^ n)) (4 * (bit_or r (2 ^ t) * 2 ^ n)) (4 * 2 ^ n)
       → Worked n (low_row (2 ^ t)) r (exchange_rows control (2 ^ t) (read n l)) l l'
-  pair-exchanged {l'} ht hr h g w =
+  pair_exchanged {l'} ht hr h g w =
       record {
         long = w.long;
         worked = λ s c hs hc e. by_low s t r e

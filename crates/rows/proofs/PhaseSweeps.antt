@@ -13,7 +13,7 @@ use Rattle.rows.specs.Rows.{phase_rows}
 use Rattle.rows.specs.Work.{Turned, SmallFrom}
 use Rattle.places.proofs.Placed.{rows_apart, kept_entries}
 use Rattle.exact.proofs.Phases.{flat_lt}
-use Rattle.rows.proofs.Sweeps.{Swept, swept-more, swept_pass}
+use Rattle.rows.proofs.Sweeps.{Swept, swept_more, swept_pass}
 
 -- row s is worked at s
 abbrev pub Phased : ℕ → ℕ → ℕ → List ℤ → List ℤ → ℕ → Type 0
@@ -27,7 +27,7 @@ module _ (n mask power : ℕ) (l₀ : List ℤ) {l : List ℤ} (r : ℕ) (w : Ph
   pub phase_turn : {l' : List ℤ} → bit_and r mask ≡ mask → Turned power l l' (r * 2 ^ n) (2 ^ n) → Phased n mask power l₀ l' (r + 1)
   unfolding phase_rows
   phase_turn {l'} h t =
-      swept-more n (λ s. s) r w
+      swept_more n (λ s. s) r w
       (record {
         long = t.long;
         worked = λ s c p q e. rw (e, eq-eqb _ _ h) (t.turned c q ∙ ap (turn power) (w.rest r c lt q (omega arith)));

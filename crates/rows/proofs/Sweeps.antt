@@ -25,13 +25,13 @@ module _ (n : ℕ) (key : ℕ → ℕ) where
   pub swept_none : (y : ℕ → ℕ → Zω) (l : List ℤ) → length l ≡ places → Swept n key l y l 0
   swept_none y l h = record { long = h; done = λ s c hs hc b. absurd (omega arith); rest = λ s c hs hc b. refl; kept = kept_refl n l }
 
-  pub swept-more :
+  pub swept_more :
       {l₀ : List ℤ} {y z : ℕ → ℕ → Zω} {l l' : List ℤ} (r : ℕ)
       → Swept n key l₀ y l r
       → Worked n key r z l l'
       → ((s c : ℕ) → s < 2 ^ n → c < 2 ^ n → key s ≡ r → z s c ≡ y s c)
       → Swept n key l₀ y l' (r + 1)
-  swept-more {y = y} {l' = l'} r w k same =
+  swept_more {y = y} {l' = l'} r w k same =
       record {
         long = k.long ∙ w.long;
         done = λ s c hs hc b. by s c hs hc b (ℕ_discrete (key s) r);
@@ -47,7 +47,7 @@ module _ (n : ℕ) (key : ℕ → ℕ) where
   pub swept_pass : {l₀ : List ℤ} {y : ℕ → ℕ → Zω} {l : List ℤ} (r : ℕ) → Swept n key l₀ y l r → ((s c : ℕ) → key s ≡ r → read n l₀ s c ≡ y s c)
       → Swept n key l₀ y l (r + 1)
   swept_pass {l₀} {y} {l} r w same =
-      swept-more r w
+      swept_more r w
       (record { long = refl; worked = λ s c hs hc e. w.rest s c hs hc (omega arith); other = λ s c hs hc e. refl; kept = kept_refl n l })
       (λ s c hs hc e. same s c e)
 

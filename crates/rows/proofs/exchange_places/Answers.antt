@@ -7,7 +7,7 @@ use borrow.Author.Rules.{rules}
 use mir.Val.{to_z, of_z}
 use Rattle.coefficients.specs.Coefficients.{near}
 use Rattle.rows.specs.Work.{at}
-use Rattle.rows.proofs.Pairs.{still_low, still_high, exchanged-more}
+use Rattle.rows.proofs.Pairs.{still_low, still_high, exchanged_more}
 use Rattle.rows.proofs.exchange_places.Goals as goal
 
 pub loop-i-preserved : goal.loop-i-preserved
@@ -19,7 +19,7 @@ loop-i-preserved c =
     let x : to_z near (of_z near (at m (c.args.p + i))) ≡ at m (c.args.p + i) = search rules in
     let y : to_z near (of_z near (at m (c.args.q + i))) ≡ at m (c.args.q + i) = search rules in (
       omega arith,
-      exchanged-more _ _ _ i c.args.len w b.0 (omega (arith, c.requires.m_len)) c.loop-i-test.true
+      exchanged_more _ _ _ i c.args.len w b.0 (omega (arith, c.requires.m_len)) c.loop-i-test.true
           (y ∙ still_high _ _ _ i c.args.len w b.0 c.loop-i-test.true)
           (x ∙ still_low _ _ _ i c.args.len w b.0 c.loop-i-test.true) refl,
     )

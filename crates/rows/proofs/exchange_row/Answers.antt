@@ -1,7 +1,7 @@
 -- `exchange_row` meets its contract: the pair of r is r and r | 2^t, both with all bits of control or neither; where r
 -- has the bit it is no lower row.
 use native.Mathlib.Omega.{arith}
-use Rattle.rows.proofs.Pairs.{pair_fits, pair_off, pair_none, pair-exchanged}
+use Rattle.rows.proofs.Pairs.{pair_fits, pair_off, pair_none, pair_exchanged}
 use Rattle.rows.proofs.exchange_row.Goals as goal
 
 pub returns-then-r-control : goal.returns-then-r-control
@@ -34,4 +34,4 @@ pub returns : goal.returns
 returns c =
     let d = c.dim-d.ensures in
     let b = c.mask-bit.ensures in
-    pair-exchanged _ _ _ _ c.requires.n_bound.1 c.requires.r_bound c.if-r-control.false (rw b at c.if-r-bit.false) (rw (d, b) at c.exchange_places.ensures)
+    pair_exchanged _ _ _ _ c.requires.n_bound.1 c.requires.r_bound c.if-r-control.false (rw b at c.if-r-bit.false) (rw (d, b) at c.exchange_places.ensures)

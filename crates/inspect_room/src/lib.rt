@@ -3,12 +3,12 @@
 // only that word's crate and the program proved again.
 #![tactic(auto)]
 
-ghost use Rattle.std.specs.Prelude.{◌≡◌, ◌≤◌, length};
+ghost use Rattle.std.specs.Prelude.{◌≡◌, ◌≤◌, IfOk, length};
 
 use cyclotomic::Coefficient;
 use index::LookupBy;
-use libc::STDOUT_FILENO;
 use murm::Fingerprinted;
+use std::io;
 
 // The fingerprint of a matrix; 0 where it is refused.
 pub fn fingerprint_of(width: u32, exponent: u16, coefficients: &[Coefficient]) -> u64 {
@@ -25,17 +25,17 @@ pub fn coefficient_space() -> [Coefficient; 4097]
     [0; 4097]
 }
 
-// Writes what is there once less than a line's room is left, and answers where the next line goes. What cannot be
-// written is lost.
-pub fn make_room(out: &[u8], filled: usize) -> usize
+// Writes what is there once less than a line's room is left, and answers where the next line goes, or the error of the
+// write.
+pub fn make_room(rt: &impl Print, out: &[u8], filled: usize) -> io::Result<usize>
     requires { filled ≤ length out.now }
-    ensures { result ≤ 16346 }
+    ensures { IfOk result (λ n. n ≤ 16346) }
 {
     if filled <= 16346 {
-        return filled;
+        return Ok(filled);
     }
-    io::write_all(STDOUT_FILENO, &out[..filled]);
-    0
+    rt.write_all(&out[..filled])?;
+    Ok(0)
 }
 
 // Where a part of an array ends; 0 if some of it lies past the places that there are.

@@ -3,7 +3,7 @@
 // chosen: a smaller table may follow.
 #![tactic(auto)]
 
-ghost use Rattle.std.specs.Prelude.{◌+◌, ◌≤◌, length};
+ghost use Rattle.std.specs.Prelude.{◌+◌, ◌≤◌, IfOk, length};
 
 use circuits_text::{NEWLINE, SPACE, Word};
 use index::LookupBy;
@@ -11,6 +11,7 @@ use inspect_room::Lookup;
 use murm::{Building, Filling};
 use murm_config::Murm;
 use refusal::Refusal;
+use std::io;
 use synthesis_arena::MARK;
 
 // A word about the index; of `index` its M, and how many places that makes.
@@ -125,79 +126,114 @@ fn put_filling(filling: Filling, out: &mut [u8], at: usize) -> usize
 }
 
 // A place and its node; an empty place has no line.
-fn put_place(out: &mut [u8], filled: usize, place: usize, node: u32) -> usize
+fn put_place(
+    rt: &impl Print,
+    out: &mut [u8],
+    filled: usize,
+    place: usize,
+    node: u32,
+) -> io::Result<usize>
     requires { (filled ≤ 65536) × (65536 ≤ length out.old) }
-    ensures { result ≤ 65536 }
+    ensures { IfOk result (λ n. n ≤ 65536) }
 {
     if node == MARK {
-        return filled;
+        return Ok(filled);
     }
-    let at = inspect_room::make_room(out, filled);
+    let at = inspect_room::make_room(rt, out, filled)?;
     let next = circuits_lines::put_number(out, at, place as u64, SPACE);
-    circuits_lines::put_number(out, next, node as u64, NEWLINE)
+    Ok(circuits_lines::put_number(out, next, node as u64, NEWLINE))
 }
 
 // The places from start up to end, counted from start.
-fn put_part(start: usize, end: usize, index: &[u32], out: &mut [u8], filled: usize) -> usize
+fn put_part(
+    rt: &impl Print,
+    start: usize,
+    end: usize,
+    index: &[u32],
+    out: &mut [u8],
+    filled: usize,
+) -> io::Result<usize>
     requires { (filled ≤ 65536) × (65536 ≤ length out.old) × (end ≤ length index.now) }
-    ensures { result ≤ 65536 }
+    ensures { IfOk result (λ n. n ≤ 65536) }
 {
     let mut p = filled;
     let mut i = start;
     while i < end {
-        p = put_place(out, p, i - start, index[i]);
+        p = put_place(rt, out, p, i - start, index[i])?;
         i += 1;
     }
-    p
+    Ok(p)
 }
 
 // A width's part of the index.
-fn put_width_part(width: u32, size: u32, index: &[u32], out: &mut [u8], filled: usize) -> usize
+fn put_width_part(
+    rt: &impl Print,
+    width: u32,
+    size: u32,
+    index: &[u32],
+    out: &mut [u8],
+    filled: usize,
+) -> io::Result<usize>
     requires { (1 ≤ width) × (filled ≤ 65536) × (65536 ≤ length out.old) }
-    ensures { result ≤ 65536 }
+    ensures { IfOk result (λ n. n ≤ 65536) }
 {
     let start = inspect_room::product(width - 1, size);
     let end = inspect_room::part_end(start, size as usize, index.len());
-    let at = inspect_room::make_room(out, filled);
+    let at = inspect_room::make_room(rt, out, filled)?;
     let next = circuits_text::put_bytes(out, at, b"places ");
     let first = circuits_lines::put_number(out, next, width as u64, NEWLINE);
-    put_part(start, end, index, out, first)
+    put_part(rt, start, end, index, out, first)
 }
 
 // Each width's part.
-fn put_parts(widths: u32, size: u32, index: &[u32], out: &mut [u8], filled: usize) -> usize
+fn put_parts(
+    rt: &impl Print,
+    widths: u32,
+    size: u32,
+    index: &[u32],
+    out: &mut [u8],
+    filled: usize,
+) -> io::Result<usize>
     requires { (filled ≤ 65536) × (65536 ≤ length out.old) }
-    ensures { result ≤ 65536 }
+    ensures { IfOk result (λ n. n ≤ 65536) }
 {
     let mut p = filled;
     let mut w = 0;
     while w < widths {
-        p = put_width_part(w + 1, size, index, out, p);
+        p = put_width_part(rt, w + 1, size, index, out, p)?;
         w += 1;
     }
-    p
+    Ok(p)
 }
 
 // The index of the last table.
-fn put_places(lookup: Lookup, built: Building, index: &[u32], out: &mut [u8], at: usize) -> usize
+fn put_places(
+    rt: &impl Print,
+    lookup: Lookup,
+    built: Building,
+    index: &[u32],
+    out: &mut [u8],
+    at: usize,
+) -> io::Result<usize>
     requires { (at ≤ 16346) × (65536 ≤ length out.old) }
-    ensures { result ≤ 65536 }
+    ensures { IfOk result (λ n. n ≤ 65536) }
 {
     let by = lookup.by;
     let LookupBy::Index = by else {
-        return circuits_lines::put_refused(out, at, Refusal::BrokenLine);
+        return Ok(circuits_lines::put_refused(out, at, Refusal::BrokenLine));
     };
     let Building::Table(table) = built else {
-        return circuits_lines::put_refused(out, at, Refusal::BrokenLine);
+        return Ok(circuits_lines::put_refused(out, at, Refusal::BrokenLine));
     };
     if inspect_room::too_large(lookup, table.config.max_qubits, index.len()) {
-        return circuits_lines::put_refused(out, at, Refusal::BrokenLine);
+        return Ok(circuits_lines::put_refused(out, at, Refusal::BrokenLine));
     }
-    put_parts(table.config.max_qubits, lookup.size, index, out, at)
+    put_parts(rt, table.config.max_qubits, lookup.size, index, out, at)
 }
 
 // What a word about the index prints.
 pub fn put_index_word(
+    rt: &impl Print,
     word: IndexWord,
     lookup: Lookup,
     table: Building,
@@ -205,15 +241,15 @@ pub fn put_index_word(
     index: &[u32],
     out: &mut [u8],
     at: usize,
-) -> usize
+) -> io::Result<usize>
     requires { (at ≤ 16346) × (65536 ≤ length out.old) }
-    ensures { result ≤ 65536 }
+    ensures { IfOk result (λ n. n ≤ 65536) }
 {
     match word {
-        IndexWord::Index(m, _) => put_index(out, at, m),
-        IndexWord::Scan => circuits_text::put_bytes(out, at, b"scan\n"),
-        IndexWord::Places => put_places(lookup, table, index, out, at),
-        IndexWord::Fill => put_filling(filling, out, at),
-        IndexWord::Broken => circuits_lines::put_refused(out, at, Refusal::BrokenLine),
+        IndexWord::Index(m, _) => Ok(put_index(out, at, m)),
+        IndexWord::Scan => Ok(circuits_text::put_bytes(out, at, b"scan\n")),
+        IndexWord::Places => put_places(rt, lookup, table, index, out, at),
+        IndexWord::Fill => Ok(put_filling(filling, out, at)),
+        IndexWord::Broken => Ok(circuits_lines::put_refused(out, at, Refusal::BrokenLine)),
     }
 }

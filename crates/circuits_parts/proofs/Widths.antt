@@ -1,18 +1,15 @@
 -- Laws of a table's text: a width's part, and one width after the other. Assumes nothing.
-use mathlib.Core.Bool.{false}
 use mathlib.Core.List.{List, [], ◌∷◌, ◌++◌}
 use mathlib.Core.Path.{◌≡◌, refl, sym, ap, ◌∙◌}
 use Prim.Native.Nat.{ℕ, zero, suc, ◌+◌, ◌-◌, ◌*◌, ◌≤◌, ◌<◌}
 use native.Mathlib.Nat.{suc-mul, mul-le-mul}
 use native.Mathlib.Numerals.{add-one}
 use native.Mathlib.Omega.{arith}
-use borrow.Author.Tests.{le-ltb}
-use lib.ListN.{length, get_or, take, drop}
+use lib.ListN.{get_or, take, drop}
 use lib.Seq.{get_or-take}
 use Rattle.ints.specs.Lists.{range, each}
 use Rattle.ints.proofs.Runs.{range_snoc, each_append}
-use Rattle.tables.specs.Checks.{arrays, places_of}
-use Rattle.tables.specs.Tables.{Width, Table, width_at, record_row}
+use Rattle.tables.specs.Tables.{Width, Table, width_at}
 use Rattle.circuits_lines.specs.Lines.{table_line, node_line, node_lines}
 use Rattle.circuits_lines.proofs.Each.{each_one}
 use Rattle.circuits_parts.specs.Texts.{row_text, width_text, width_texts}

@@ -3,7 +3,7 @@
 // whatever was proved of it.
 #![tactic(auto)]
 
-ghost use Rattle.std.specs.Prelude.{◌+◌, ◌≤◌, length};
+ghost use Rattle.std.specs.Prelude.{◌+◌, ◌≤◌, IfOk, length};
 
 use circuits_input::LineOne;
 use circuits_text::{NEWLINE, SPACE};
@@ -12,6 +12,7 @@ use known::BuildMode;
 use murm::Building;
 use murm_config::{Murm, MurmConfig};
 use refusal::Refusal;
+use std::io;
 
 // Fingerprint, parent, code: at most 59 bytes.
 fn put_node(out: &mut [u8], at: usize, fingerprint: u64, parent: u32, code: u32) -> usize
@@ -26,6 +27,7 @@ fn put_node(out: &mut [u8], at: usize, fingerprint: u64, parent: u32, code: u32)
 
 // The nodes from start up to end.
 fn put_nodes(
+    rt: &impl Print,
     start: usize,
     end: usize,
     fingerprints: &[u64],
@@ -33,19 +35,19 @@ fn put_nodes(
     codes: &[u32],
     out: &mut [u8],
     filled: usize,
-) -> usize
+) -> io::Result<usize>
     requires filled_bound { (filled ≤ 65536) × (65536 ≤ length out.old) }
     requires end_in_bounds { (end ≤ length fingerprints.now) × (end ≤ length parents.now) × (end ≤ length codes.now) }
-    ensures { result ≤ 65536 }
+    ensures { IfOk result (λ n. n ≤ 65536) }
 {
     let mut p = filled;
     let mut i = start;
     while i < end {
-        let next = inspect_room::make_room(out, p);
+        let next = inspect_room::make_room(rt, out, p)?;
         p = put_node(out, next, fingerprints[i], parents[i], codes[i]);
         i += 1;
     }
-    p
+    Ok(p)
 }
 
 // How many places the shortest of three arrays has.
@@ -66,6 +68,7 @@ fn least(a: usize, b: usize, c: usize) -> usize
 
 // A width's row and its nodes. That they are within the arrays is tested, so that no contract of the build is used.
 fn put_width(
+    rt: &impl Print,
     table: Murm,
     width: u32,
     fingerprints: &[u64],
@@ -73,57 +76,59 @@ fn put_width(
     codes: &[u32],
     out: &mut [u8],
     filled: usize,
-) -> usize
+) -> io::Result<usize>
     requires { (1 ≤ width) × (filled ≤ 65536) × (65536 ≤ length out.old) }
-    ensures { result ≤ 65536 }
+    ensures { IfOk result (λ n. n ≤ 65536) }
 {
     let row = murm_config::width_table(table, width);
     let start = inspect_room::product(width - 1, table.config.max_entries_per_qubit);
     let places = least(fingerprints.len(), parents.len(), codes.len());
     let end = inspect_room::part_end(start, row.count, places);
-    let at = inspect_room::make_room(out, filled);
+    let at = inspect_room::make_room(rt, out, filled)?;
     let next = circuits_lines::put_table_line(out, at, width, row);
-    put_nodes(start, end, fingerprints, parents, codes, out, next)
+    put_nodes(rt, start, end, fingerprints, parents, codes, out, next)
 }
 
 // Each width of a table.
 fn put_widths(
+    rt: &impl Print,
     table: Murm,
     fingerprints: &[u64],
     parents: &[u32],
     codes: &[u32],
     out: &mut [u8],
     filled: usize,
-) -> usize
+) -> io::Result<usize>
     requires { (filled ≤ 65536) × (65536 ≤ length out.old) }
-    ensures { result ≤ 65536 }
+    ensures { IfOk result (λ n. n ≤ 65536) }
 {
     let t = table;
     let q = t.config.max_qubits;
     let mut p = filled;
     let mut w = 0;
     while w < q {
-        p = put_width(t, w + 1, fingerprints, parents, codes, out, p);
+        p = put_width(rt, t, w + 1, fingerprints, parents, codes, out, p)?;
         w += 1;
     }
-    p
+    Ok(p)
 }
 
 // A table that was built, or the refusal.
 pub fn put_table(
+    rt: &impl Print,
     built: Building,
     fingerprints: &[u64],
     parents: &[u32],
     codes: &[u32],
     out: &mut [u8],
     at: usize,
-) -> usize
+) -> io::Result<usize>
     requires { (at ≤ 16346) × (65536 ≤ length out.old) }
-    ensures { result ≤ 65536 }
+    ensures { IfOk result (λ n. n ≤ 65536) }
 {
     match built {
-        Building::Table(table) => put_widths(table, fingerprints, parents, codes, out, at),
-        Building::Refused(r) => circuits_lines::put_refused(out, at, r),
+        Building::Table(table) => put_widths(rt, table, fingerprints, parents, codes, out, at),
+        Building::Refused(r) => Ok(circuits_lines::put_refused(out, at, r)),
     }
 }
 

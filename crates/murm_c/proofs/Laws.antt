@@ -31,7 +31,7 @@ use Rattle.tables.proofs.InWords.{not-both, limits_in_words, answer_in_words}
 use Rattle.tables.proofs.Accepted.{accepted}
 use Rattle.tables.proofs.ListExactly.{accepted as accepted-list}
 use Rattle.tables.proofs.Demand2.{accepted_narrow, accepted_fits}
-use Rattle.tables.proofs.Replies.{ReplyCase, not_a_width, part_asked_lem, by_row, row_of_answer, row_refuses, width_none, width_asked, cases, gives_asked, decided, gives_right}
+use Rattle.tables.proofs.Replies.{ReplyCase, not_a_width_lem, part_asked_lem, by_row, row_of_answer, row_refuses, width_none, width_asked, cases, gives_asked, decided, gives_right}
 use Rattle.tables.proofs.Exactly.{exactly}
 use Rattle.murm_c.specs.Numbers.{capped, list_number, reply_number, counts_table}
 use Rattle.murm_c.specs.Laws.{value, refusal, reading, list_says, reply_says, SameCounts, counts_of, sample_with, Laws}
@@ -224,7 +224,7 @@ record_kept : (t : Table) (a : Arrays) (q : Query) (out : List ℕ) → synthesi
 record_kept t a q out = by (cases t a q out)
   where
     by : ReplyCase t a q out → synthesized t a q out ≡ synthesized (counts_of t) a q out
-    by (not_a_width e f n) = n ∙ sym (width_none (counts_of t) a q out e f)
+    by (not_a_width_lem e f n) = n ∙ sym (width_none (counts_of t) a q out e f)
     by (part_asked_lem e f p) = p ∙ part ∙ sym (width_asked (counts_of t) a q out e f)
       where
         part : part_asked t a q out ≡ part_asked (counts_of t) a q out

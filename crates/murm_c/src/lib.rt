@@ -109,11 +109,7 @@ pub fn counts_table(
 }
 
 // A list becomes a matrix: `library_circuit_matrix` as a number.
-pub fn murm_library_circuit_matrix(
-    width: u32,
-    codes: &[u32],
-    out: &mut [Coefficient],
-) -> u64
+pub fn murm_library_circuit_matrix(width: u32, codes: &[u32], out: &mut [Coefficient]) -> u64
     ensures number { result ≡ list_number (listed width codes.now out.old).answer }
     ensures places { out.new ≡ (listed width codes.now out.old).numbers }
 {

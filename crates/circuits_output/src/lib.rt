@@ -4,7 +4,7 @@
 #![tactic(auto)]
 
 ghost use Rattle.std.specs.Prelude.{◌≡◌, length};
-ghost use Rattle.circuits_answers.specs.Lent.{lent, left_in};
+ghost use Rattle.tables.specs.Checks.{arrays};
 ghost use Rattle.circuits_built.specs.Built.{room_for};
 ghost use Rattle.circuits_output.specs.Output.{told_printed, run, program_of};
 
@@ -18,6 +18,7 @@ pub enum Printed {
 }
 
 // As many bytes as any output takes, where that many parents have places (SPECIFICATION 10.10).
+#[tactic(auto, unfolding(circuits_built::specs::Built::room_for))]
 fn room(places: usize) -> usize
     ensures { result ≡ room_for places }
 {
@@ -36,7 +37,8 @@ pub fn circuits(
     codes: &mut [u32],
     out: &mut [u8],
 ) -> Printed
-    ensures { run (told_printed result) out.new (left_in fingerprints parents codes) ≡ program_of input.now (lent fingerprints parents codes) out.old }
+    ensures { run (told_printed result) out.new (arrays fingerprints.new parents.new codes.new)
+        ≡ program_of input.now (arrays fingerprints.old parents.old codes.old) out.old }
 {
     if out.len() < room(parents.len()) {
         return Printed::NoRoom;

@@ -34,15 +34,15 @@
 // usually give 8,192, and what is left is for the arrays of further words.
 #![tactic(auto)]
 
-ghost use Rattle.std.specs.Prelude.{◌≤◌, length};
+ghost use Rattle.std.specs.Prelude.{◌≤◌, IfOk, length};
 
 use circuits_text::NEWLINE;
 use index::LookupBy;
 use inspect_room::Lookup;
 use inspect_words::First;
-use libc::{STDIN_FILENO, STDOUT_FILENO};
 use murm::{Building, Filling};
 use refusal::Refusal;
+use std::io;
 
 // What is at hand: the look-up, the last table, and what the last line did to the index.
 #[derive(Clone, Copy)]
@@ -137,6 +137,7 @@ fn after(
 
 // What a line prints.
 fn put_line(
+    rt: &impl Print,
     word: First,
     state: State,
     fingerprints: &[u64],
@@ -146,17 +147,19 @@ fn put_line(
     rest: &[u8],
     out: &mut [u8],
     at: usize,
-) -> usize
+) -> io::Result<usize>
     requires { (at ≤ 16346) × (65536 ≤ length out.old) }
-    ensures { result ≤ 65536 }
+    ensures { IfOk result (λ n. n ≤ 65536) }
 {
     let lookup = state.lookup;
     let table = state.table;
     let filling = state.filling;
     match word {
-        First::List => inspect_lists::put_list_line(rest, out, at),
-        First::Table(_) => inspect_tables::put_table(table, fingerprints, parents, codes, out, at),
-        First::Asks(what) => inspect_asks::put_asked(
+        First::List => Ok(inspect_lists::put_list_line(rest, out, at)),
+        First::Table(_) => {
+            inspect_tables::put_table(rt, table, fingerprints, parents, codes, out, at)
+        }
+        First::Asks(what) => Ok(inspect_asks::put_asked(
             what,
             lookup,
             table,
@@ -167,30 +170,31 @@ fn put_line(
             rest,
             out,
             at,
-        ),
+        )),
         First::Index(w) => {
-            inspect_index::put_index_word(w, lookup, table, filling, index, out, at)
+            inspect_index::put_index_word(rt, w, lookup, table, filling, index, out, at)
         }
-        First::Other => circuits_lines::put_refused(out, at, Refusal::BrokenLine),
+        First::Other => Ok(circuits_lines::put_refused(out, at, Refusal::BrokenLine)),
     }
 }
 
 // Each line of the input.
 fn lines(
+    rt: &impl Print,
     input: &[u8],
     fingerprints: &mut [u64],
     parents: &mut [u32],
     codes: &mut [u32],
     index: &mut [u32],
     out: &mut [u8],
-)
+) -> io::Result<()>
     requires { 65536 ≤ length out.old }
 {
     let mut filled = 0;
     let mut state = first_state();
     let mut at = 0;
     while at < input.len() {
-        let next = inspect_room::make_room(out, filled);
+        let next = inspect_room::make_room(rt, out, filled)?;
         let e = circuits_text::find(input, at, NEWLINE);
         let begun = inspect_words::begin(input, at, e);
         let word = begun.word;
@@ -205,6 +209,7 @@ fn lines(
             &input[rest..e],
         );
         filled = put_line(
+            rt,
             word,
             state,
             fingerprints,
@@ -214,10 +219,10 @@ fn lines(
             &input[rest..e],
             out,
             next,
-        );
+        )?;
         at = e + 1;
     }
-    io::write_all(STDOUT_FILENO, &out[..filled]);
+    rt.write_all(&out[..filled])
 }
 
 // The longest input, one byte more than which is read.
@@ -225,28 +230,28 @@ const MOST: usize = 1048576;
 
 // The input's lines, with arrays for the nodes that the widths of a table have together, and an index. The arrays are
 // locals: one that a function returns may stand on the stack three times, and these take most of it.
-fn answer(input: &[u8]) {
-    let mut out = io::large_buffer();
+fn answer(rt: &impl Print, input: &[u8]) -> io::Result<()> {
+    let mut out = [0u8; 65536];
     let mut fingerprints = [0u64; 100000];
     let mut parents = [0u32; 100000];
     let mut codes = [0u32; 100000];
     let mut index = [0u32; 524288];
     lines(
+        rt,
         input,
         &mut fingerprints,
         &mut parents,
         &mut codes,
         &mut index,
         &mut out,
-    );
+    )
 }
 
-fn main() {
+fn main(rt: HostRuntime) -> io::Result<()> {
     let mut input = [0u8; 1048577];
-    let n = io::read_full(STDIN_FILENO, &mut input);
+    let n = input_bytes::fill(&mut rt.reader(), &mut input)?;
     if MOST < n {
-        io::write_all(STDOUT_FILENO, b"refused 15 0\n");
-        return;
+        return rt.write_all(b"refused 15 0\n");
     }
-    answer(&input[..n]);
+    answer(&rt, &input[..n])
 }

@@ -9,7 +9,7 @@ ghost use Rattle.circuits_built.specs.Built.{room_for};
 ghost use Rattle.circuits_output.specs.Output.{output};
 
 use circuits_output::Printed;
-use libc::{STDIN_FILENO, STDOUT_FILENO};
+use std::io;
 
 // The program's output for an input, in the first of the lent bytes: how many they are.
 fn answer(input: &[u8], out: &mut [u8]) -> usize
@@ -26,22 +26,22 @@ fn answer(input: &[u8], out: &mut [u8]) -> usize
 }
 
 // The output is made and written.
-fn write_answer(input: &[u8], out: &mut [u8])
+fn write_answer(rt: &impl Print, input: &[u8], out: &mut [u8]) -> io::Result<()>
     requires { room_for 2048 ≤ length out.old }
 {
     let n = answer(input, out);
-    io::write_all(STDOUT_FILENO, &out[..n]);
+    rt.write_all(&out[..n])
 }
 
 // As many bytes as any output takes. They are a local: an array that a function returns may stand on the stack three
 // times.
-fn with_output(input: &[u8]) {
+fn with_output(rt: &impl Print, input: &[u8]) -> io::Result<()> {
     let mut out = [0u8; 3133584];
-    write_answer(input, &mut out);
+    write_answer(rt, input, &mut out)
 }
 
-fn main() {
+fn main(rt: HostRuntime) -> io::Result<()> {
     let mut input = circuits_spaces::input_space();
-    let n = io::read_full(STDIN_FILENO, &mut input);
-    with_output(&input[..n]);
+    let n = input_bytes::fill(&mut rt.reader(), &mut input)?;
+    with_output(&rt, &input[..n])
 }

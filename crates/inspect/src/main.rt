@@ -23,7 +23,7 @@
 // asks it prints `refused 14 0`. So do `places` and `fill` while the scan is used. Numbers and lines are those of the
 // program `circuits`, and a line of another form prints `refused 14 0`. The COUNT of a list is up to 256, K up to
 // 65535. A coefficient is such a number, after a `-` or not, from -32768 to 32767; there are at most 4097. More than 1
-// MiB of input prints `refused 15 0` alone.
+// MiB of input prints `refused 15 0` alone. A read or a write that fails ends the program with its error.
 // The index has 524,288 places. Where Q x 2^M is more, `table` and `clashes` print `refused 14 0` before the build
 // checks anything but whether Q is 1 to 5, and forget the table at hand; `fill`, `places`, `matrix` and `find` print it
 // too.

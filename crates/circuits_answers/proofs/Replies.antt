@@ -53,12 +53,12 @@ module _ {n : ℕ} {space : List ℤ} (few : n ≤ 4096) (all : space ≡ lent_m
 
 module _ (t : Table) (m : Arrays) (out : List ℕ) where
   -- the answer to a list is the case s
-  pub list-reply :
+  pub list_reply_lem :
       (width : ℕ) (codes : List ℕ) {r s : Listed} {lent coefficients : List ℤ} → r ≡ s → lent ≡ lent_coefficients width →
       outcome (told_listed r) coefficients ≡ listed width codes lent →
       formed_reply t m width out (told_listed s) coefficients ≡ list_reply t m width codes out
   unfolding list_reply
-  list-reply width codes {r} {s} {lent} {coefficients} e l h =
+  list_reply_lem width codes {r} {s} {lent} {coefficients} e l h =
       ap (λ (x : Listed). formed_reply t m width out (told_listed x) coefficients) (sym e)
       ∙ ap (λ (o : ListOutcome). formed_reply t m width out o.answer o.numbers) (h ∙ ap (listed width codes) l)
 

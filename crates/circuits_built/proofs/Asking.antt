@@ -17,7 +17,7 @@ use Rattle.circuits_lines.specs.Lines.{refused_line}
 use Rattle.circuits_input.specs.Input.{InputLine, ended, cut, lines_of}
 use Rattle.circuits_input.proofs.InputLines.{lines_none, lines_more, lines_last}
 use Rattle.circuits_parts.specs.Texts.{query_text, query_texts}
-use Rattle.circuits_built.proofs.Rooms.{cut_text, query-room}
+use Rattle.circuits_built.proofs.Rooms.{cut_text, query_room}
 
 module _ (t : Table) (m : Arrays) where
   texts_none : query_texts t m [] ≡ []
@@ -37,9 +37,9 @@ pub record Asking (t : Table) (m : Arrays) (input : List ℕ) (at : ℕ) (old xs
   pub place : i ≤ length input
 
 -- no line is passed
-pub asking-none :
+pub asking_none :
     (t : Table) (m : Arrays) (input : List ℕ) {old : List ℕ} {at : ℕ} → at ≤ length old → Asking t m input at old old at 0
-asking-none t m input {old} {at} h = record {
+asking_none t m input {old} {at} h = record {
   text = [];
   put = record { is = sym (rw add-zero (take-append-drop at old)); after = omega arith; room = h };
   splits = refl;
@@ -72,10 +72,10 @@ module _ {t : Table} {m : Arrays} {input old xs : List ℕ} {at p i : ℕ} (a : 
         put_as (sym (a.splits ∙ ap (λ (bs : List ℕ). a.text ++ bs) f)) (then_put a.put d)
 
     -- one line more
-    pub asking-on :
+    pub asking_on :
         {q : ℕ} {ys : List ℕ} → e < length input → Put p (query_text t m (ended (take (e - i) (drop i input)))) q xs ys →
         q ≤ p + 746 → length ys ≡ length xs → Asking t m input at old ys q (e + 1)
-    asking-on {q} {ys} h d b s =
+    asking_on {q} {ys} h d b s =
         let n = length (before newline (drop i input)) in
         let c : e - i ≡ n = omega arith in
         let line : take (e - i) (drop i input) ≡ before newline (drop i input) =
@@ -89,7 +89,7 @@ module _ {t : Table} {m : Arrays} {input old xs : List ℕ} {at p i : ℕ} (a : 
         ap (query_texts t m) l ∙ (texts_more t m (ended (before newline (drop i input))) (lines_of (drop (suc n) (drop i input)))
         ∙ (ap (λ (bs : List ℕ). query_text t m (ended bs) ++ query_texts t m (lines_of (drop (suc n) (drop i input)))) (sym line)
         ∙ ap (λ (bs : List ℕ). w ++ query_texts t m (lines_of bs)) r)) in
-        let k = query-room t m (take (e - i) (drop i input)) (omega (arith, d.after)) in
+        let k = query_room t m (take (e - i) (drop i input)) (omega (arith, d.after)) in
         let z : length (take (e - i) (drop i input)) ≡ e - i = ap length line ∙ sym c in
         record {
           text = a.text ++ w;

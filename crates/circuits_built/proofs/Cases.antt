@@ -15,7 +15,7 @@ module _ {built b : Building} (e : built ≡ b) where
   pub ready_as : (parents codes : List ℕ) → Printable (told_building built) parents codes → Printable (told_building b) parents codes
   ready_as parents codes r = subst (λ (z : Building). Printable (told_building z) parents codes) e r
 
-  pub building-as :
+  pub building_as :
       {p : ℕ} {xs ys : List ℕ} (m : Arrays) (ls : List InputLine) →
       Put 0 (reply_then (told_building b) m ls) p xs ys → Put 0 (reply_then (told_building built) m ls) p xs ys
-  building-as m ls d = put_as (ap (λ (z : Building). reply_then (told_building z) m ls) (sym e)) d
+  building_as m ls d = put_as (ap (λ (z : Building). reply_then (told_building z) m ls) (sym e)) d

@@ -35,10 +35,10 @@ module _ (t : Table) (m : Arrays) where
   cut_text bytes = ap (λ (q : Read AskedList). answer_text (asked_reply t m lent_list q)) (cut_broken bytes)
 
   -- a query has 4 bytes with its newline, and prints at most 746; other lines print 13
-  pub query-room :
+  pub query_room :
       (bytes : List ℕ) → length (query_text t m (ended bytes)) ≤ 746 → length (query_text t m (ended bytes)) ≤ 187 * (length bytes + 1)
   unfolding query_text line_reply question_of
-  query-room bytes h = by (all_numbers (words bytes)) (is_query (numbers (words bytes))) refl refl h
+  query_room bytes h = by (all_numbers (words bytes)) (is_query (numbers (words bytes))) refl refl h
     where
       text : Bool → Bool → List ℕ
       text a b = answer_text (asked_reply t m lent_list (pick a (pick b (gives (asked_list (get_or (numbers (words bytes)) 0 0) (drop 2 (numbers (words bytes))))) broken) broken))
@@ -54,11 +54,11 @@ module _ (t : Table) (m : Arrays) where
       by false b e f g = omega (arith, broken_length)
 
 -- a table's text, the queries' and 756 bytes more have room
-pub table-room :
+pub table_room :
     (t : Table) (places : ℕ) → (record_row t).holds ≡ false → places_of t.limits ≤ places →
     t.limits.qubits * (33 * t.limits.entries + 90) + (187 * input_most + 756) ≤ room_for places
 unfolding room_for
-table-room t places r h =
+table_room t places r h =
     let l = record_limits t r in
     let q = t.limits.qubits in
     let e = t.limits.entries in

@@ -74,11 +74,11 @@ lines_unique (newlined {l} {bytes} u r) = ap (λ (ls : List InputLine). ended l 
 -- ---- line one
 
 -- four numbers on line one are asked for
-first-asks :
+first_asks :
     {q g e b : ℕ} {rest input : List ℕ} → length input ≤ 16384 → FirstLine q g e b rest input →
     input_of input ≡ gives (wanted (limits_of q g e b) (lines_of rest))
 unfolding input_of line_one
-first-asks {q} {g} {e} {b} {rest} {input} h f =
+first_asks {q} {g} {e} {b} {rest} {input} h f =
     let a = accepted f.says in
     let ls = ap lines_of f.place ∙ lines_first f.line rest (line_unbroken f.says) in
     rw (le-ltb 16384 (length input) h, ls, a.0, a.1)
@@ -93,7 +93,7 @@ four (a ∷ b ∷ c ∷ d ∷ e ∷ ns) h = absurd (omega arith)
 
 -- an input that asks for nothing has no such line
 asks_nothing : {input : List ℕ} → length input ≤ 16384 → input_of input ≡ broken → Comes input broken
-asks_nothing h e = stopped h (λ q g n b rest f. let z : ◌≡◌ {A = ℕ} 0 1 = cc (first-asks h f) in absurd (omega arith))
+asks_nothing h e = stopped h (λ q g n b rest f. let z : ◌≡◌ {A = ℕ} 0 1 = cc (first_asks h f) in absurd (omega arith))
 
 -- by its lines
 lines_come : {input : List ℕ} {ls : List InputLine} → length input ≤ 16384 → Lines input ls → input_of input ≡ lines_input ls → Comes input (lines_input ls)
@@ -126,7 +126,7 @@ input_comes input = by (ltb 16384 (length input)) refl
 -- and to nothing else
 pub comes_unique : {input : List ℕ} {x : Read Wanted} → Comes input x → x ≡ input_of input
 comes_unique {input} (long h) = input_long input h
-comes_unique (asked {q} {g} {e} {b} h f r) = ap (λ (ls : List InputLine). gives (wanted (limits_of q g e b) ls)) (lines_unique r) ∙ sym (first-asks h f)
+comes_unique (asked {q} {g} {e} {b} h f r) = ap (λ (ls : List InputLine). gives (wanted (limits_of q g e b) ls)) (lines_unique r) ∙ sym (first_asks h f)
 comes_unique {input} (stopped h f) = by (input_comes input)
   where
     by : {x : Read Wanted} → Comes input x → broken ≡ x
@@ -152,18 +152,18 @@ shape_query width codes h =
     rw (le-leb 2 n (omega arith), le-leb (length codes) 256 h, eq-eqb n (length codes + 2) (omega arith))
 
 -- what the program takes for a query is one
-pub query-accepts :
+pub query_accepts :
     (l : List ℕ) → all_numbers (words l) ≡ true → is_query (numbers (words l)) ≡ true →
     QueryLine (get_or (numbers (words l)) 0 0) (drop 2 (numbers (words l))) l
-query-accepts l h g =
+query_accepts l h g =
     let s = query_shape (numbers (words l)) g in
     record { says = subst (λ (ns : List ℕ). AllowedLine ns l) s.0 (accepts l h); few = s.1 }
 
 -- a query is taken for one, with its width and its codes
-pub query-accepted :
+pub query_accepted :
     {width : ℕ} {codes l : List ℕ} → QueryLine width codes l →
     (all_numbers (words l) ≡ true) × (is_query (numbers (words l)) ≡ true) × (numbers (words l) ≡ width ∷ length codes ∷ codes)
-query-accepted {width} {codes} {l} q =
+query_accepted {width} {codes} {l} q =
     let a = accepted q.says in
     (a.0, ap is_query a.1 ∙ shape_query width codes q.few, a.1)
 
@@ -171,7 +171,7 @@ query-accepted {width} {codes} {l} q =
 pub query_asks : {width : ℕ} {codes l : List ℕ} → QueryLine width codes l → question_of (ended l) ≡ gives (asked_list width codes)
 unfolding question_of
 query_asks {width} {codes} {l} q =
-    let a = query-accepted q in
+    let a = query_accepted q in
     rw (a.0, a.2, shape_query width codes q.few)
 
 -- any other line is broken
@@ -182,7 +182,7 @@ other_broken l h = by (all_numbers (words l)) (is_query (numbers (words l))) ref
     by :
         (s b : Bool) → all_numbers (words l) ≡ s → is_query (numbers (words l)) ≡ b →
         pick s (pick b (gives (asked_list (get_or (numbers (words l)) 0 0) (drop 2 (numbers (words l))))) broken) broken ≡ broken
-    by true true a g = absurd (h _ _ (query-accepts l a g))
+    by true true a g = absurd (h _ _ (query_accepts l a g))
     by true false a g = refl
     by false b a g = refl
 

@@ -25,11 +25,11 @@ input_cut input h g = rw (le-ltb input_most (length input) h) (by input g)
     by (b ∷ bs) k = ap lines_input (sym (lines_last (b ∷ bs) (omega arith) k))
 
 -- line one, and the lines after it
-pub input-first :
+pub input_first :
     (input : List ℕ) (e : ℕ) → length input ≤ input_most → e ≡ length (before newline input) → e < length input →
     with_later (lines_of (drop (e + 1) input)) (line_one (ended (take e input))) ≡ input_of input
 unfolding input_of
-input-first input e h g l =
+input_first input e h g l =
     let n = length (before newline input) in
     let line : take e input ≡ before newline input = ap (λ (k : ℕ). take k input) g ∙ before_take newline input in
     let k : e + 1 ≡ suc n = omega arith in

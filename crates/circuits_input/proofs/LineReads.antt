@@ -42,11 +42,11 @@ read_numbers {A} {bytes} {old} {now} {line} {n} f r g =
     rw w.0 (ap f e)
 
 -- a broken line, where more numbers than the list has places come to the same
-pub read-broken :
+pub read_broken :
     {A : Type 0} {bytes old now : List ℕ} {line : Option ℕ} (f : List ℕ → Read A) → ((ns : List ℕ) → length old < length ns → f ns ≡ broken) →
     ReadInto bytes old now line → line ≡ none → broken ≡ read_line f (ended bytes)
 unfolding line_of
-read-broken {A} {bytes} {old} {now} {line} f long r e = by (all_numbers (words bytes)) (leb (length (words bytes)) (length old)) refl refl (sym e ∙ r.is)
+read_broken {A} {bytes} {old} {now} {line} f long r e = by (all_numbers (words bytes)) (leb (length (words bytes)) (length old)) refl refl (sym e ∙ r.is)
   where
     by :
         (s t : Bool) → all_numbers (words bytes) ≡ s → leb (length (words bytes)) (length old) ≡ t →
@@ -101,10 +101,10 @@ after_two (suc (suc k)) (a ∷ b ∷ ns) h =
     ap (λ (j : ℕ). take j ns) e
 
 -- its codes are what stands after the first two numbers, among the first n places
-pub query-is :
+pub query_is :
     (n : ℕ) (ns : List ℕ) → is_query (take n ns) ≡ true → length (take n ns) ≡ n →
     gives (asked_list (get_or ns 0 0) (take (n - 2) (drop 2 ns))) ≡ question_by (take n ns)
-query-is n ns q l =
+query_is n ns q l =
     let two = two_numbers (take n ns) q in
     let w : get_or ns 0 0 ≡ get_or (take n ns) 0 0 = sym (get_or-take n ns 0 0 (omega (arith, two, l))) in
     let c : take (n - 2) (drop 2 ns) ≡ drop 2 (take n ns) = after_two n ns (omega (arith, two, l)) in

@@ -23,12 +23,12 @@ unfolding node_lines
 nodes_none parents codes = sym (each_none _)
 
 -- the nodes stand from a place on
-pub nodes-more :
+pub nodes_more :
     (parents codes : List ℕ) (start i : ℕ) →
     node_lines (drop start parents) (drop start codes) i ++ node_line i (get_or parents (start + i) 0) (get_or codes (start + i) 0)
     ≡ node_lines (drop start parents) (drop start codes) (i + 1)
 unfolding node_lines
-nodes-more parents codes start i =
+nodes_more parents codes start i =
     rw (← get_or-drop start parents i 0, ← get_or-drop start codes i 0)
     (sym (each_more i (λ j. node_line j (get_or (drop start parents) j 0) (get_or (drop start codes) j 0))))
 

@@ -31,11 +31,11 @@ pub later_all : (input : List ℕ) (from : ℕ) → take (length input - from) (
 later_all input from = take_all (length input - from) (drop from input) (omega (arith, length-drop from input))
 
 -- what a build came to, and they, are put
-pub built-put :
+pub built_put :
     (l : Limits) (lent : Arrays) (input : List ℕ) (from : ℕ) {after : Arrays} {reply : BuildReply} {p : ℕ} {xs ys : List ℕ} →
     left reply after ≡ build_of by_print l lent → Put 0 (reply_then reply after (lines_of (take (length input - from) (drop from input)))) p xs ys →
     Put 0 (built_text lent (lines_of (drop from input)) l) p xs ys
-built-put l lent input from {after} {reply} e d =
+built_put l lent input from {after} {reply} e d =
     put_as (ap (λ (bs : List ℕ). reply_then reply after (lines_of bs)) (later_all input from) ∙ text_is l lent (lines_of (drop from input)) e) d
 
 -- ---- the whole
@@ -50,11 +50,11 @@ module _ (input : List ℕ) (lent : Arrays) (old : List ℕ) where
   program_short h = rw (lt-ltb (length old) (room_for (length lent.parents)) h)
 
   -- what was read of the input is the case s
-  pub program-came :
+  pub program_came :
       {after : Arrays} {p : ℕ} {xs : List ℕ} {r s : Request} → room_for (length lent.parents) ≤ length old → r ≡ s →
       told_request input r ≡ input_of input → Came lent after p old xs (told_request input s) → run (some p) xs after ≡ program_of input lent old
   unfolding program_of output_with arrays_after
-  program-came {after} {p} {xs} {r} {s} h e is came =
+  program_came {after} {p} {xs} {r} {s} h e is came =
       let d = subst (λ (x : Request). Came lent after p old xs (told_request input x)) (sym e) came in
       let text = input_text lent (told_request input r) in
       let n : p ≡ length text = omega (arith, d.0.after) in

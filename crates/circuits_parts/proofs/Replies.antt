@@ -13,15 +13,15 @@ use Rattle.circuits_answers.specs.Replies.{told, line_reply}
 use Rattle.circuits_parts.specs.Texts.{reply_text, answer_text, lent_list, query_text}
 
 -- the answer is the case s
-pub reply-as :
+pub reply_as :
     (list : List ℕ) {at p : ℕ} {xs ys : List ℕ} {r s : Synthesized} →
     r ≡ s → Put at (reply_text (told_synthesized s) list) p xs ys → Put at (reply_text (told_synthesized r) list) p xs ys
-reply-as list e d = put_as (ap (λ (x : Synthesized). reply_text (told_synthesized x) list) (sym e)) d
+reply_as list e d = put_as (ap (λ (x : Synthesized). reply_text (told_synthesized x) list) (sym e)) d
 
 -- the answer to a line, with a list lent as it was made
-pub query-as :
+pub query_as :
     (t : Table) (m : Arrays) (line : InputLine) (r : Synthesized) (old after : List ℕ) {at p : ℕ} {xs ys : List ℕ} →
     old ≡ lent_list → told r after ≡ line_reply t m line old →
     Put at (reply_text (told_synthesized r) after) p xs ys → Put at (query_text t m line) p xs ys
 unfolding query_text
-query-as t m line r old after e h d = put_as (ap answer_text h ∙ ap (λ (l : List ℕ). answer_text (line_reply t m line l)) e) d
+query_as t m line r old after e h d = put_as (ap answer_text h ∙ ap (λ (l : List ℕ). answer_text (line_reply t m line l)) e) d

@@ -34,13 +34,13 @@ nodes_part e count parents codes h =
     ap (λ (x : ℕ). node_line j x (get_or codes j 0)) u ∙ ap (λ (x : ℕ). node_line j (get_or (take e parents) j 0) x) v)
 
 -- the row is the record's, and the nodes are those of the width's part
-pub width-as :
+pub width_as :
     (t : Table) (parents codes : List ℕ) (w : ℕ) {row : Width} → row ≡ width_at t w → (width_at t w).count ≤ t.limits.entries →
     table_line w row.count row.depth row.saturated
     ++ node_lines (drop ((w - 1) * t.limits.entries) parents) (drop ((w - 1) * t.limits.entries) codes) row.count
     ≡ width_text t parents codes w
 unfolding width_text row_text
-width-as t parents codes w {row} e h =
+width_as t parents codes w {row} e h =
     let n = (width_at t w).count in
     let u = drop ((w - 1) * t.limits.entries) parents in
     let v = drop ((w - 1) * t.limits.entries) codes in
@@ -53,10 +53,10 @@ pub widths_none : (t : Table) (parents codes : List ℕ) → [] ≡ width_texts 
 unfolding width_texts each range
 widths_none t parents codes = refl
 
-pub widths-more :
+pub widths_more :
     (t : Table) (parents codes : List ℕ) (w : ℕ) → width_texts t parents codes w ++ width_text t parents codes (w + 1) ≡ width_texts t parents codes (w + 1)
 unfolding width_texts
-widths-more t parents codes w =
+widths_more t parents codes w =
     let f = width_text t parents codes in
     let e : 1 + w ≡ w + 1 = omega arith in
     sym (ap (λ (n : ℕ). each (range 1 n) f) (add-one w)

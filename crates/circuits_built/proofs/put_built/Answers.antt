@@ -3,15 +3,15 @@ use native.Mathlib.Omega.{arith}
 use Rattle.tables.specs.Checks.{arrays}
 use Rattle.murm_config.specs.Told.{told_murm}
 use Rattle.circuits_text.proofs.Placing.{then_put}
-use Rattle.circuits_built.proofs.Rooms.{some_room, table-room}
-use Rattle.circuits_built.proofs.Cases.{ready_as, building-as}
+use Rattle.circuits_built.proofs.Rooms.{some_room, table_room}
+use Rattle.circuits_built.proofs.Cases.{ready_as, building_as}
 use Rattle.circuits_built.proofs.put_built.Goals as goal
 
 pub put_widths-next-requires-clause-max_entries_per_qubit_in_bounds :
     goal.put_widths-next-requires-clause-max_entries_per_qubit_in_bounds
 put_widths-next-requires-clause-max_entries_per_qubit_in_bounds c =
     let r = ready_as c.in-Table.is _ _ c.requires.printable in
-    omega (arith, table-room (told_murm c.in-Table.table) _ r.0 r.1, c.requires.later_len_bound.1)
+    omega (arith, table_room (told_murm c.in-Table.table) _ r.0 r.1, c.requires.later_len_bound.1)
 
 pub put_queries-requires : goal.put_queries-requires
 put_queries-requires c =
@@ -19,7 +19,7 @@ put_queries-requires c =
     let d = c.put_widths-next in
     omega (
       arith,
-      table-room (told_murm c.in-Table.table) _ r.0 r.1,
+      table_room (told_murm c.in-Table.table) _ r.0 r.1,
       c.requires.later_len_bound.0,
       c.requires.later_len_bound.1,
       d.ensures.most,
@@ -32,4 +32,4 @@ put_refused-requires c = omega (arith, some_room _ _ c.requires.later_len_bound.
 pub returns-in-Table : goal.returns-in-Table
 returns-in-Table c =
     let a = c.args in
-    building-as c.in-Table.is (arrays a.fingerprints.now a.parents.now a.codes.now) _ (then_put c.put_widths-next.ensures.text c.put_queries.ensures)
+    building_as c.in-Table.is (arrays a.fingerprints.now a.parents.now a.codes.now) _ (then_put c.put_widths-next.ensures.text c.put_queries.ensures)

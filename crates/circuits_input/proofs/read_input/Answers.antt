@@ -4,7 +4,7 @@ use native.Mathlib.Omega.{arith}
 use Prim.Native.Nat.{◌+◌}
 use lib.ListN.{drop}
 use Rattle.circuits_input.specs.Input.{lines_of, with_later}
-use Rattle.circuits_input.proofs.Inputs.{input_long, input_cut, input-first}
+use Rattle.circuits_input.proofs.Inputs.{input_long, input_cut, input_first}
 use Rattle.circuits_input.proofs.read_input.Goals as goal
 
 pub returns-then-input-gt16384 : goal.returns-then-input-gt16384
@@ -19,13 +19,13 @@ returns-then-input-e c = record {
 pub returns-in-Limits : goal.returns-in-Limits
 returns-in-Limits c = record {
   is = ap (with_later (lines_of (drop (c.find-e.result + 1) c.args.input.now))) c.in-Limits.ensures
-      ∙ input-first c.args.input.now c.find-e.result (omega (arith, c.if-input-gt16384.false)) (omega (arith, c.find-e.ensures.found)) (omega (arith, c.if-input-e.false));
+      ∙ input_first c.args.input.now c.find-e.result (omega (arith, c.if-input-gt16384.false)) (omega (arith, c.find-e.ensures.found)) (omega (arith, c.if-input-e.false));
   placed = (omega (arith, c.if-input-e.false), omega (arith, c.if-input-gt16384.false));
 }
 
 pub returns-in-Refused : goal.returns-in-Refused
 returns-in-Refused c = record {
   is = ap (with_later (lines_of (drop (c.find-e.result + 1) c.args.input.now))) c.in-Refused.ensures
-      ∙ input-first c.args.input.now c.find-e.result (omega (arith, c.if-input-gt16384.false)) (omega (arith, c.find-e.ensures.found)) (omega (arith, c.if-input-e.false));
+      ∙ input_first c.args.input.now c.find-e.result (omega (arith, c.if-input-gt16384.false)) (omega (arith, c.find-e.ensures.found)) (omega (arith, c.if-input-e.false));
   placed = refl;
 }

@@ -5,7 +5,7 @@ use lib.ListN.{length, take}
 use lib.Seq.{length-take-le}
 use Rattle.circuits_text.proofs.Split.{line_fits}
 use Rattle.circuits_input.specs.Input.{line_one, limits_by}
-use Rattle.circuits_input.proofs.LineReads.{read_numbers, read-broken, no_limits, limits_are}
+use Rattle.circuits_input.proofs.LineReads.{read_numbers, read_broken, no_limits, limits_are}
 use Rattle.circuits_input.proofs.read_line_one.Goals as goal
 
 pub returns-then-n-ne4 : goal.returns-then-n-ne4
@@ -29,4 +29,4 @@ pub returns-in-Broken : goal.returns-in-Broken
 unfolding line_one
 returns-in-Broken c =
     let size = c.limit_space-numbers.ensures in
-    read-broken limits_by (λ ns h. no_limits ns (λ e. absurd (omega (arith, h, e, size)))) c.in-Broken.ensures refl
+    read_broken limits_by (λ ns h. no_limits ns (λ e. absurd (omega (arith, h, e, size)))) c.in-Broken.ensures refl

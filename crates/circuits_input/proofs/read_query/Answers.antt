@@ -7,7 +7,7 @@ use lib.ListN.{length, take}
 use lib.Seq.{length-take-le}
 use Rattle.circuits_text.proofs.Split.{line_fits}
 use Rattle.circuits_input.specs.Input.{question_by, question_of}
-use Rattle.circuits_input.proofs.LineReads.{read_numbers, read-broken, no_query, long_query, two_numbers, query-is}
+use Rattle.circuits_input.proofs.LineReads.{read_numbers, read_broken, no_query, long_query, two_numbers, query_is}
 use Rattle.circuits_input.proofs.read_query.Goals as goal
 
 pub slice_bounds-is_query-end : goal.slice_bounds-is_query-end
@@ -36,7 +36,7 @@ returns-else-not-is_query c =
     let fits : n ≤ length now = omega (arith, line_fits c.in-Numbers.ensures refl, c.numbers.auto.list) in
     let l = length-take-le n now fits in
     record {
-      is = query-is n now q l ∙ read_numbers question_by c.in-Numbers.ensures refl;
+      is = query_is n now q l ∙ read_numbers question_by c.in-Numbers.ensures refl;
       start = omega (arith, two_numbers (take n now) q, l);
       within = fits;
     }
@@ -46,7 +46,7 @@ unfolding question_of
 returns-in-Broken c =
     let size = c.requires in
     record {
-      is = read-broken question_by (λ ns h. long_query ns (omega (arith, h, size))) c.in-Broken.ensures refl;
+      is = read_broken question_by (λ ns h. long_query ns (omega (arith, h, size))) c.in-Broken.ensures refl;
       start = search rules;
       within = search rules;
     }

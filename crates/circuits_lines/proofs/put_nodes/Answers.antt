@@ -1,6 +1,6 @@
 -- `put_nodes` meets its contract. Assumes nothing.
 use native.Mathlib.Omega.{arith}
-use Rattle.circuits_lines.proofs.Each.{laid_none, laid_on, nodes_none, nodes-more}
+use Rattle.circuits_lines.proofs.Each.{laid_none, laid_on, nodes_none, nodes_more}
 use Rattle.circuits_lines.proofs.put_nodes.Goals as goal
 
 pub loop-i-init : goal.loop-i-init
@@ -13,5 +13,5 @@ loop-i-preserved c =
     let d = c.put_node-p in (
       omega (arith, c.loop-i-test.true),
       omega (arith, l.invariant.1, d.ensures.most),
-      laid_on (nodes-more a.parents.now a.codes.now a.start l.i) l.invariant.2 d.ensures.text d.auto.out,
+      laid_on (nodes_more a.parents.now a.codes.now a.start l.i) l.invariant.2 d.ensures.text d.auto.out,
     )

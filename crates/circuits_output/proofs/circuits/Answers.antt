@@ -8,7 +8,7 @@ use Rattle.murm_config.specs.Told.{told_config}
 use Rattle.circuits_built.specs.Built.{room_for}
 use Rattle.circuits_built.proofs.Rooms.{some_room}
 use Rattle.circuits_output.proofs.Builds.{arrays_are, ready}
-use Rattle.circuits_output.proofs.Runs.{built-put, program_short, program-came}
+use Rattle.circuits_output.proofs.Runs.{built_put, program_short, program_came}
 use Rattle.circuits_output.proofs.circuits.Goals as goal
 
 pub returns-then-out-room : goal.returns-then-out-room
@@ -32,8 +32,8 @@ returns-in-Table c =
     let a = c.args in
     let lent = arrays a.fingerprints.now a.parents.now a.codes.now in
     let enough : room_for (length a.parents.now) ≤ length a.out.now = omega (arith, c.if-out-room.false, c.room.ensures) in
-    program-came a.input.now lent a.out.now enough c.in-Table.is c.read_input.ensures.is (
-      built-put (told_config c.in-Table.config) lent a.input.now c.in-Table.from c.build-built.ensures c.put_built.ensures,
+    program_came a.input.now lent a.out.now enough c.in-Table.is c.read_input.ensures.is (
+      built_put (told_config c.in-Table.config) lent a.input.now c.in-Table.from c.build-built.ensures c.put_built.ensures,
       arrays_are (told_config c.in-Table.config) lent c.build-built.ensures,
     )
 
@@ -41,5 +41,5 @@ pub returns-in-Refused : goal.returns-in-Refused
 returns-in-Refused c =
     let a = c.args in
     let enough : room_for (length a.parents.now) ≤ length a.out.now = omega (arith, c.if-out-room.false, c.room.ensures) in
-    program-came a.input.now (arrays a.fingerprints.now a.parents.now a.codes.now) a.out.now enough c.in-Refused.is c.read_input.ensures.is
+    program_came a.input.now (arrays a.fingerprints.now a.parents.now a.codes.now) a.out.now enough c.in-Refused.is c.read_input.ensures.is
     (c.put_refused.ensures.text, refl)

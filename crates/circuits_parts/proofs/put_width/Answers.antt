@@ -5,7 +5,7 @@ use Rattle.tables.specs.Tables.{Width}
 use Rattle.murm_config.specs.Told.{told_murm}
 use Rattle.murm_part.proofs.Parts.{part}
 use Rattle.circuits_text.proofs.Placing.{put_as, then_put}
-use Rattle.circuits_parts.proofs.Widths.{width-as}
+use Rattle.circuits_parts.proofs.Widths.{width_as}
 use Rattle.circuits_parts.proofs.put_width.Goals as goal
 
 pub put_nodes-requires-clause-count_in_bounds : goal.put_nodes-requires-clause-count_in_bounds
@@ -27,7 +27,7 @@ pub returns-clause-text : goal.returns-clause-text
 returns-clause-text c =
     let a = c.args in
     let p = part (told_murm a.table) a.width c.requires.printable.0 c.requires.width_nonzero.0 c.requires.width_nonzero.1 in
-    put_as (width-as (told_murm a.table) a.parents.now a.codes.now a.width c.width_table-row.ensures (omega (arith, p.few))) (then_put c.put_table_line-next.ensures.text c.put_nodes.ensures.text)
+    put_as (width_as (told_murm a.table) a.parents.now a.codes.now a.width c.width_table-row.ensures (omega (arith, p.few))) (then_put c.put_table_line-next.ensures.text c.put_nodes.ensures.text)
 
 pub returns-clause-most : goal.returns-clause-most
 returns-clause-most c =

@@ -3,7 +3,7 @@ use Prim.Native.Nat.{◌+◌, ◌*◌}
 use native.Mathlib.Omega.{arith}
 use Rattle.murm_config.specs.Told.{told_murm}
 use Rattle.circuits_lines.proofs.Each.{laid_none, laid_on}
-use Rattle.circuits_parts.proofs.Widths.{widths_none, widths-more, more_room}
+use Rattle.circuits_parts.proofs.Widths.{widths_none, widths_more, more_room}
 use Rattle.circuits_parts.proofs.put_widths.Goals as goal
 
 pub loop-w-init : goal.loop-w-init
@@ -21,5 +21,5 @@ loop-w-preserved c =
     let room = more_room l.w a.table.config.max_qubits x c.loop-w-test.true in (
       omega (arith, c.loop-w-test.true),
       omega (arith, l.invariant.1, d.ensures.most, room.0),
-      laid_on (widths-more (told_murm a.table) a.parents.now a.codes.now l.w) l.invariant.2 d.ensures.text d.auto.out,
+      laid_on (widths_more (told_murm a.table) a.parents.now a.codes.now l.w) l.invariant.2 d.ensures.text d.auto.out,
     )

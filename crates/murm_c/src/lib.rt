@@ -1,5 +1,5 @@
-// The entries for lists and for answers as C functions on numbers and slices (SPECIFICATION, chapter 14). A slice
-// passes as a pointer and then its length; include/murm.h declares both.
+// The entries for lists and for answers as functions on numbers and slices, which `murm_c_c` exports to C
+// (SPECIFICATION, chapter 14). A slice passes as a pointer and then its length; include/murm.h declares both.
 #![tactic(auto)]
 
 ghost use Rattle.std.specs.Prelude.{◌≡◌, ◌≤◌};

@@ -3,7 +3,7 @@
 // chosen: a smaller table may follow.
 #![tactic(auto)]
 
-ghost use Rattle.std.specs.Prelude.{◌+◌, ◌≤◌, IfOk, length};
+ghost use Rattle.std.specs.Prelude.{◌+◌, ◌≤◌, IfOk, length, OnErr, ◌≡◌};
 
 use circuits_text::{NEWLINE, SPACE, Word};
 use index::LookupBy;
@@ -231,7 +231,7 @@ fn put_places(
     put_parts(rt, table.config.max_qubits, lookup.size, index, out, at)
 }
 
-// What a word about the index prints.
+// What a word about the index prints. A write that fails on the way is told by its error, and leaves as many lent bytes.
 pub fn put_index_word(
     rt: &impl Print,
     word: IndexWord,
@@ -243,7 +243,8 @@ pub fn put_index_word(
     at: usize,
 ) -> io::Result<usize>
     requires { (at ≤ 16346) × (65536 ≤ length out.old) }
-    ensures { IfOk result (λ n. n ≤ 65536) }
+    ensures most { IfOk result (λ n. n ≤ 65536) }
+    ensures failed { OnErr result (length out.new ≡ length out.old) }
 {
     match word {
         IndexWord::Index(m, _) => Ok(put_index(out, at, m)),

@@ -26,7 +26,7 @@ pub fn coefficient_space() -> [Coefficient; 4097]
 }
 
 // Writes what is there once less than a line's room is left, and answers where the next line goes, or the error of the
-// write.
+// write. The lent bytes are only read.
 pub fn make_room(rt: &impl Print, out: &[u8], filled: usize) -> io::Result<usize>
     requires { filled ≤ length out.now }
     ensures { IfOk result (λ n. n ≤ 16346) }

@@ -3,7 +3,7 @@
 // whatever was proved of it.
 #![tactic(auto)]
 
-ghost use Rattle.std.specs.Prelude.{◌+◌, ◌≤◌, IfOk, length};
+ghost use Rattle.std.specs.Prelude.{◌+◌, ◌≤◌, IfOk, length, OnErr, ◌≡◌};
 
 use circuits_input::LineOne;
 use circuits_text::{NEWLINE, SPACE};
@@ -113,7 +113,8 @@ fn put_widths(
     Ok(p)
 }
 
-// A table that was built, or the refusal.
+// A table that was built, or the refusal. A write that fails on the way is told by its error, and leaves as many lent
+// bytes.
 pub fn put_table(
     rt: &impl Print,
     built: Building,
@@ -124,7 +125,8 @@ pub fn put_table(
     at: usize,
 ) -> io::Result<usize>
     requires { (at ≤ 16346) × (65536 ≤ length out.old) }
-    ensures { IfOk result (λ n. n ≤ 65536) }
+    ensures most { IfOk result (λ n. n ≤ 65536) }
+    ensures failed { OnErr result (length out.new ≡ length out.old) }
 {
     match built {
         Building::Table(table) => put_widths(rt, table, fingerprints, parents, codes, out, at),

@@ -2,15 +2,11 @@
 use mathlib.Core.Path.{◌≡◌, ap, ◌∙◌}
 use mathlib.Core.List.{List, [], ◌∷◌}
 use Prim.Native.Nat.{ℕ, suc, ◌≤◌, ◌+◌}
-use native.Mathlib.Numerals.{add-one, add-two}
 use lib.ListN.{length, set}
 use lib.Seq.{sets, sets-eq}
 use Rattle.ints.specs.Lists.{over}
 use Rattle.tables.specs.Tables.{Width}
 use Rattle.bench.specs.Tables.{width_numbers, widths_numbers}
-
-pub three_put : (l : List ℕ) (i a b : ℕ) {x y : ℕ} → x ≡ y → set (set (set l i a) (i + 1) b) (i + 2) x ≡ sets l i (a ∷ b ∷ y ∷ [])
-three_put l i a b e = rw (add-one, add-two) (ap (set (set (set l i a) (suc i) b) (suc (suc i))) e)
 
 abbrev put : ℕ → Width → List ℕ → List ℕ
 put i w l = sets l i (width_numbers w)

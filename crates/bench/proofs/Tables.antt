@@ -10,13 +10,6 @@ use Rattle.walk.specs.Modes.{Mode}
 use Rattle.walk.specs.Index.{By}
 use Rattle.tables.specs.Checks.{Limits, Arrays, arrays_by}
 use Rattle.tables.specs.Tables.{BuildReply, Left, left, build_of}
-use Rattle.murm_config.specs.Told.{told_murm}
-use Rattle.murm_config.specs.declared.Murm.{Murm}
-use Rattle.refusal.specs.Told.{number_of}
-use Rattle.refusal.specs.declared.Refusal.{Refusal}
-use Rattle.murm_build.specs.Entries.{told_building}
-use Rattle.murm_build.specs.declared.Building.{Building}
-use Rattle.murm_build.specs.declared.Building.TheVariants as b
 use Rattle.bench.specs.Tables.{limits_of_numbers, too_few, numbers_of, build_number, recorded, built_as, built_by, bench_built}
 
 -- ---- too few numbers
@@ -32,20 +25,6 @@ module _ (l numbers : List ℕ) where
   enough g h = rw (le-ltb (length l) 4 g, le-ltb (length numbers) 15 h)
 
 -- ---- a build
-
-pub table_told : (old : List ℕ) (m : Murm) {t : Building} {new : List ℕ} → t ≡ b.Table m → new ≡ over (numbers_of (told_murm m)) old
-    → (0 ≡ build_number (told_building t)) × (new ≡ recorded (told_building t) old)
-table_told old m e h = (
-  ap (λ (x : Building). build_number (told_building x)) (sym e),
-  h ∙ ap (λ (x : Building). recorded (told_building x) old) (sym e),
-)
-
-pub refused_told : (old : List ℕ) (r : Refusal) {t : Building} {n : ℕ} → t ≡ b.Refused r → n ≡ number_of r
-    → (n ≡ build_number (told_building t)) × (old ≡ recorded (told_building t) old)
-refused_told old r e h = (
-  h ∙ ap (λ (x : Building). build_number (told_building x)) (sym e),
-  ap (λ (x : Building). recorded (told_building x) old) (sym e),
-)
 
 -- in the same mode and by the same look-up, called otherwise
 pub by_built : (t : BuildReply) (l : Limits) (f u c i f' u' c' i' : List ℕ) {m m' : Mode} {b b' : By} → m ≡ m' → b ≡ b'

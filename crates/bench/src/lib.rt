@@ -27,8 +27,8 @@ use circuit::GateSet;
 use cyclotomic::Coefficient;
 use index::LookupBy;
 use known::BuildMode;
-use murm::{Building, Filling, Fingerprinted, FoundNode, Written};
 use murm_config::{Murm, MurmConfig};
+use refusal::Refusal;
 use width_record::WidthTable;
 
 // The entry for fingerprints: the fingerprint, or 0 for every refusal.
@@ -36,10 +36,7 @@ use width_record::WidthTable;
 pub extern "C" fn bench_query(width: u32, exponent: u16, entries: &[Coefficient]) -> u64
     ensures { result ≡ given_or 0 (fingerprinted width exponent entries.now) }
 {
-    match murm::library_fingerprint(width, exponent, entries) {
-        Fingerprinted::Fingerprint(p) => p,
-        Fingerprinted::Refused(_) => 0,
-    }
+    murm::library_fingerprint(width, exponent, entries).unwrap_or(0)
 }
 
 // The fingerprint below the entry, which tests nothing.
@@ -89,17 +86,17 @@ fn put_record(numbers: &mut [u64], table: Murm)
 }
 
 // What a build came to: 0, with the record, or the number of the refusal.
-fn built(building: Building, numbers: &mut [u64]) -> u64
+fn built(building: Result<Murm, Refusal>, numbers: &mut [u64]) -> u64
     requires { 15 ≤ length numbers.old }
     ensures value { result ≡ build_number (told_building building) }
     ensures numbers_after { numbers.new ≡ recorded (told_building building) numbers.old }
 {
     match building {
-        Building::Table(table) => {
+        Ok(table) => {
             put_record(numbers, table);
             0
         }
-        Building::Refused(r) => refusal::number_of(r).0,
+        Err(why) => refusal::number_of(why).0,
     }
 }
 
@@ -140,10 +137,7 @@ pub extern "C" fn bench_build(
         ≡ bench_built (mode_number mode) limits.now
         (arrays_by (by_number by) fingerprints.old parents.old codes.old index.old) numbers.old }
 {
-    if limits.len() < 4 {
-        return 99;
-    }
-    if numbers.len() < 15 {
+    if limits.len() < 4 || numbers.len() < 15 {
         return 99;
     }
     let building = murm::build_by(
@@ -159,12 +153,12 @@ pub extern "C" fn bench_build(
 }
 
 // What a fill came to: 0, or the number of the refusal.
-fn filled(filling: Filling) -> u64
+fn filled(filling: Result<(), Refusal>) -> u64
     ensures { result ≡ fill_number (told_filling filling) }
 {
     match filling {
-        Filling::Filled => 0,
-        Filling::Refused(r) => refusal::number_of(r).0,
+        Ok(()) => 0,
+        Err(why) => refusal::number_of(why).0,
     }
 }
 
@@ -199,23 +193,20 @@ pub extern "C" fn bench_fill(
 fn node_number(node: usize, gates: usize) -> u64
     ensures { result ≡ node_number node gates }
 {
-    if node > 1000000 {
-        return 4294967294;
-    }
-    if gates > 64 {
+    if node > 1000000 || gates > 64 {
         return 4294967294;
     }
     node as u64 * 128 + gates as u64
 }
 
 // What was found: a node, 4294967295 for none, or why it was refused.
-fn found_number(told: FoundNode) -> u64
+fn found_number(told: Result<Option<(usize, usize)>, Refusal>) -> u64
     ensures { result ≡ found_number (told_found_node told) }
 {
     match told {
-        FoundNode::Node(node, gates) => node_number(node, gates),
-        FoundNode::Nothing => 4294967295,
-        FoundNode::Refused(r) => murm_c::refusal_number(r),
+        Ok(Some((node, gates))) => node_number(node, gates),
+        Ok(None) => 4294967295,
+        Err(why) => murm_c::refusal_number(why),
     }
 }
 
@@ -305,12 +296,12 @@ pub extern "C" fn bench_synthesize(
 }
 
 // What a write came to: the gate count, or why it was refused.
-fn written_number(told: Written) -> u64
+fn written_number(told: Result<usize, Refusal>) -> u64
     ensures { result ≡ reply_number (told_written told) }
 {
     match told {
-        Written::List(m) => m as u64,
-        Written::Refused(r) => murm_c::refusal_number(r),
+        Ok(m) => m as u64,
+        Err(why) => murm_c::refusal_number(why),
     }
 }
 

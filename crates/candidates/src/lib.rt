@@ -15,7 +15,7 @@ ghost use Rattle.width_arrays.specs.Arrays.{Live};
 ghost use Rattle.candidates.specs.Tries.{NodeTried, Lent};
 
 use cyclotomic::Coefficient;
-use index::LookupBy;
+use index::{LookupBy, Part};
 use known::BuildMode;
 use synthesis_arena::WidthLimits;
 use width_arrays::Tried;
@@ -55,7 +55,15 @@ pub fn try_node(
     let n = limits.width as usize;
     let fit = fitting_gates::fitting(n, exponent, size, &mut kept, &mut prints, m, left, right);
     let mut nodes: [u32; 105] = [0; 105];
-    looked_ahead::look_ahead(by, count, fit, &prints, fingerprints, index, &mut nodes);
+    let part = Part {
+        by,
+        count,
+        fingerprints,
+        parents,
+        codes,
+        index,
+    };
+    looked_ahead::look_ahead(part, fit, &prints, &mut nodes);
     tried_gates::try_gates(
         mode,
         by,

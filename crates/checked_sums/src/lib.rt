@@ -1,5 +1,5 @@
-// Sums and differences of any two entries: the value, or that a coefficient of it passes the limit. H, which has tested
-// all its pairs before it stores one, takes `add` and `subtract` of the ring; these are for a caller that has not.
+// Sums and differences of any two entries: the value, or none where a coefficient of it passes the limit. H, which has
+// tested all its pairs before it stores one, takes `+` and `-` of the ring; these are for a caller that has not.
 #![tactic(auto)]
 
 ghost use Rattle.std.specs.Prelude.{◌≡◌};
@@ -10,30 +10,19 @@ ghost use Rattle.checked_sums.specs.Sums.{told_checked};
 use coefficients::Wide;
 use cyclotomic::Cyclotomic;
 
-// A sum or a difference: its value, or that a coefficient of it passes the limit.
-#[derive(Clone, Copy)]
-pub enum Checked {
-    Value(Cyclotomic),
-    TooLarge,
-}
-
+// The element of four numbers, or none where one of them passes the limit.
 #[tactic(auto, unfolding(cyclotomic::specs::Zomega::fits, cyclotomic::specs::Told::checked))]
-fn narrowed(a: Wide, b: Wide, c: Wide, d: Wide) -> Checked
+fn narrowed(a: Wide, b: Wide, c: Wide, d: Wide) -> Option<Cyclotomic>
     ensures { told_checked result ≡ checked (mk a b c d) }
 {
-    if !coefficients::in_limit(a) {
-        return Checked::TooLarge;
+    let fits = coefficients::in_limit(a)
+        && coefficients::in_limit(b)
+        && coefficients::in_limit(c)
+        && coefficients::in_limit(d);
+    if !fits {
+        return None;
     }
-    if !coefficients::in_limit(b) {
-        return Checked::TooLarge;
-    }
-    if !coefficients::in_limit(c) {
-        return Checked::TooLarge;
-    }
-    if !coefficients::in_limit(d) {
-        return Checked::TooLarge;
-    }
-    Checked::Value(Cyclotomic {
+    Some(Cyclotomic {
         a: coefficients::narrow_coefficient(a),
         b: coefficients::narrow_coefficient(b),
         c: coefficients::narrow_coefficient(c),
@@ -41,9 +30,8 @@ fn narrowed(a: Wide, b: Wide, c: Wide, d: Wide) -> Checked
     })
 }
 
-// The sum, unless a coefficient of it passes the limit: the ring's sum of any two elements. H, which has tested all its
-// pairs before it stores one, takes `add`; a caller that has not takes this.
-pub fn checked_add(x: Cyclotomic, y: Cyclotomic) -> Checked
+// The sum, unless a coefficient of it passes the limit: the ring's sum of any two elements.
+pub fn checked_add(x: Cyclotomic, y: Cyclotomic) -> Option<Cyclotomic>
     ensures { told_checked result ≡ checked (addω x y) }
 {
     narrowed(
@@ -54,8 +42,8 @@ pub fn checked_add(x: Cyclotomic, y: Cyclotomic) -> Checked
     )
 }
 
-// The difference, likewise; H takes `subtract`.
-pub fn checked_sub(x: Cyclotomic, y: Cyclotomic) -> Checked
+// The difference, likewise. Two functions: one that is told which of the two to form would be no plainer.
+pub fn checked_sub(x: Cyclotomic, y: Cyclotomic) -> Option<Cyclotomic>
     ensures { told_checked result ≡ checked (subω x y) }
 {
     narrowed(

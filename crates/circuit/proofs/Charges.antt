@@ -1,12 +1,13 @@
 -- The T charge of a list, gate by gate. Assumes nothing.
-use mathlib.Core.Path.{◌≡◌, refl, ap}
+use mathlib.Core.Path.{◌≡◌, refl}
 use mathlib.Core.List.{List, [], ◌∷◌}
-use Prim.Native.Nat.{ℕ, suc, ◌+◌, ◌*◌, ◌≤◌, ◌<◌}
+use Prim.Native.Nat.{ℕ, ◌*◌, ◌≤◌}
 use native.Mathlib.Omega.{arith}
 use borrow.Author.Tests.{leb-true}
 use lib.Dec.{leb}
-use lib.ListN.{length, get_or, drop}
-use lib.Seq.{drop-cons}
+use lib.ListN.{length}
+use Rattle.std.specs.List.{sum_by}
+use Rattle.std.proofs.lemmas.List.Sums.{sum_by-cons}
 use Rattle.ints.specs.Lists.{all, range}
 use Rattle.kinds.specs.Kinds.{Kind, kind_at}
 use Rattle.circuit.specs.Codes.{kind_of}
@@ -24,7 +25,8 @@ unfolding charge
 charge_most [] = omega arith
 charge_most (g ∷ gs) = omega (arith, kind_most (kind_of g), charge_most gs)
 
--- what is left from gate i on is that gate and what is left after it
-pub charge_from : (gs : List ℕ) (i : ℕ) → i < length gs → charge (drop i gs) ≡ kind_charge (kind_of (get_or gs i 0)) + charge (drop (suc i) gs)
+-- the charge is the sum of the gates' charges
+pub charge_sum : (gs : List ℕ) → sum_by (λ g. kind_charge (kind_of g)) gs ≡ charge gs
 unfolding charge
-charge_from gs i h = ap charge (drop-cons gs i 0 h)
+charge_sum [] = refl
+charge_sum (g ∷ gs) = omega (arith, sum_by-cons (λ (g : ℕ). kind_charge (kind_of g)) g gs, charge_sum gs)

@@ -4,11 +4,14 @@
 #![tactic(auto)]
 
 ghost use Rattle.std.specs.Prelude.{◌≡◌, ◌^◌, ◌<◌, eqb};
-ghost use Rattle.kinds.specs.Kinds.{kind_at, kind_charge};
+ghost use Rattle.kinds.specs.Kinds.{kind_charge};
+ghost use Rattle.kinds.specs.Told.{told_found};
 ghost use Rattle.circuit.specs.Sets.{supported, base, member, subset};
-ghost use Rattle.circuit.specs.Codes.{kind_number, first, second, third, valid, valid_for};
+ghost use Rattle.circuit.specs.Codes.{kind_number, kind_of, first, second, third, valid, valid_for};
 ghost use Rattle.circuit.specs.Pairs.{inverse, qubits, disjoint, mask_of};
 ghost use Rattle.circuit.specs.Charge.{charge};
+
+use kinds::GateKind;
 
 // The set of the one number q.
 fn singleton(q: u32) -> u32
@@ -35,7 +38,8 @@ impl GateSet {
         self.0
     }
 
-    // Whether the kind is in the set. Any number is taken: a set has no bit past 31.
+    // Whether the kind of that number is in the set. Any number is taken and not a kind alone, as is promised: a set has
+    // no bit past 31.
     pub fn contains(self, kind: u32) -> bool
         ensures { result ≡ member self.0 kind }
     {
@@ -78,10 +82,18 @@ impl GateSet {
 pub struct LibraryGate(pub u32);
 
 impl LibraryGate {
-    pub fn kind(self) -> u32
+    // The number that the code has for its kind, whether or not it is that of a kind.
+    pub fn kind_number(self) -> u32
         ensures { result ≡ kind_number self.0 }
     {
         self.0 / 4096
+    }
+
+    // The kind, where the code has one of the seventeen.
+    pub fn kind(self) -> Option<GateKind>
+        ensures { told_found result ≡ kind_of self.0 }
+    {
+        GateKind::try_from(self.kind_number()).ok()
     }
 
     // The operands, in the order of the original's constructor.
@@ -104,25 +116,18 @@ impl LibraryGate {
     }
 
     // Whether the code is valid at a width.
-    #[tactic(auto, using(kinds::proofs::ByNumber::kind_placed, kinds::proofs::ByNumber::kind_used, kinds::proofs::ByNumber::arity_most, kinds::proofs::ByNumber::one_sorted), unfolding(crate::specs::Codes::valid, operands::specs::Operands::rises))]
+    #[tactic(auto, unfolding(crate::specs::Codes::valid))]
     pub fn is_valid(self, width: u32) -> bool
         ensures { result ≡ valid width self.0 }
     {
-        let kind = self.kind();
+        let Some(kind) = self.kind() else {
+            return false;
+        };
         let a = self.first();
         let b = self.second();
         let c = self.third();
-        let count = kinds::operand_count(kind);
-        if count == 0 {
-            return false;
-        }
-        if !operands::operands_placed(width, count, a, b, c) {
-            return false;
-        }
-        if count == 1 {
-            return true; // one operand stands in no order
-        }
-        operands::in_order(kinds::sorted_count(kind), a, b, c)
+        operands::operands_placed(width, kind.operands(), a, b, c)
+            && operands::in_order(kind.sorted(), a, b, c)
     }
 
     // Whether the code is valid at a width, of a kind of tables, and this kind is in the basis.
@@ -130,14 +135,10 @@ impl LibraryGate {
     pub fn is_valid_for(self, width: u32, basis: GateSet) -> bool
         ensures { result ≡ valid_for width basis.0 self.0 }
     {
-        let kind = self.kind();
-        if !basis.contains(kind) {
+        let Some(kind) = self.kind() else {
             return false;
-        }
-        if !kinds::is_table_kind(kind) {
-            return false;
-        }
-        self.is_valid(width)
+        };
+        basis.contains(self.kind_number()) && kind.is_of_tables() && self.is_valid(width)
     }
 
     // Whether this gate undoes the other, one of a kind of tables.
@@ -145,34 +146,27 @@ impl LibraryGate {
     pub fn is_inverse_of(self, other: LibraryGate) -> bool
         ensures { result ≡ inverse self.0 other.0 }
     {
-        let kind = other.kind();
-        if !kinds::is_table_kind(kind) {
+        let Some(dual) = other.kind().and_then(GateKind::dual) else {
             return false;
-        }
-        if self.kind() != kinds::dual_kind(kind) {
-            return false;
-        }
-        self.0 % 4096 == other.0 % 4096
+        };
+        self.kind_number() == dual.number() && self.0 % 4096 == other.0 % 4096
     }
 
     // The qubits as one set of bits: bit q is qubit q.
     pub fn qubit_mask(self) -> u32
         ensures { result ≡ mask_of (qubits self.0) }
     {
+        let Some(kind) = self.kind() else {
+            return 0;
+        };
         let a = singleton(self.first());
         let b = singleton(self.second());
         let c = singleton(self.third());
-        let count = kinds::operand_count(self.kind());
-        if count == 0 {
-            return 0;
+        match kind.operands() {
+            1 => a,
+            2 => a | b,
+            _ => a | (b | c),
         }
-        if count == 1 {
-            return a;
-        }
-        if count == 2 {
-            return a | b;
-        }
-        a | (b | c)
     }
 
     // Whether the two share no qubit.
@@ -183,22 +177,15 @@ impl LibraryGate {
     }
 
     pub fn t_charge(self) -> usize
-        ensures { result ≡ kind_charge (kind_at (kind_number self.0)) }
+        ensures { result ≡ kind_charge (kind_of self.0) }
     {
-        kinds::charge_of(self.kind())
+        self.kind().map_or(0, GateKind::charge)
     }
 }
 
 // The T charge of a list of codes.
-#[tactic(auto, using(crate::proofs::Charges::charge_most, crate::proofs::Charges::charge_from))]
 pub fn t_charge(codes: &[u32]) -> usize
     ensures { result ≡ charge codes.now }
 {
-    let mut sum: usize = 0;
-    let mut i = 0;
-    while i < codes.len() {
-        sum += LibraryGate(codes[i]).t_charge();
-        i += 1;
-    }
-    sum
+    codes.iter().map(|code| LibraryGate(*code).t_charge()).sum()
 }

@@ -8,7 +8,6 @@ ghost use Rattle.circuits_text.specs.Writing.{Put};
 ghost use Rattle.circuits_built.specs.Built.{room_for};
 ghost use Rattle.circuits_output.specs.Output.{output};
 
-use circuits_output::Printed;
 use std::io;
 
 // The program's output for an input, in the first of the lent bytes: how many they are.
@@ -19,10 +18,8 @@ fn answer(input: &[u8], out: &mut [u8]) -> usize
     let mut fingerprints = circuits_spaces::fingerprint_space();
     let mut parents = circuits_spaces::node_space();
     let mut codes = circuits_spaces::node_space();
-    match circuits_output::circuits(input, &mut fingerprints, &mut parents, &mut codes, out) {
-        Printed::Text(n) => n,
-        Printed::NoRoom => 0,
-    }
+    let made = circuits_output::circuits(input, &mut fingerprints, &mut parents, &mut codes, out);
+    made.unwrap()
 }
 
 // The output is made and written.

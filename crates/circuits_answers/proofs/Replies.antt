@@ -16,16 +16,11 @@ use Rattle.walk.specs.Answers.{then_write}
 use Rattle.walk.specs.Answers as a
 use Rattle.refusal.specs.Told.{number_of, position_of}
 use Rattle.refusal.specs.declared.Refusal.{Refusal}
-use Rattle.murm.specs.declared.FoundNode.{FoundNode}
-use Rattle.murm.specs.declared.FoundNode.TheVariants as f
-use Rattle.murm.specs.declared.Written.{Written}
-use Rattle.murm_find.specs.declared.Synthesized.{Synthesized}
-use Rattle.murm_lists.specs.declared.Listed.{Listed}
+use Rattle.std.specs.Prelude.{Option, Some, None, Result, Ok, Err}
 use Rattle.murm_lists.specs.Entries.{told_listed}
 use Rattle.murm.specs.Entries.{told_found_node, told_written}
 use Rattle.murm_find.specs.Entries.{told_synthesized}
 use Rattle.tables.specs.Lists.{ListOutcome, outcome, listed}
-use Rattle.circuits_input.specs.declared.Question.{Question}
 use Rattle.circuits_input.specs.Input.{InputLine, question_of}
 use Rattle.circuits_input.specs.Told.{told_question}
 use Rattle.circuits_answers.specs.Replies.{told, lent_count, lent_coefficients, lent_most, formed_reply, list_reply, asked_reply, line_reply}
@@ -52,22 +47,20 @@ module _ {n : ℕ} {space : List ℤ} (few : n ≤ 4096) (all : space ≡ lent_m
 -- ---- by the case of the answer
 
 module _ (t : Table) (m : Arrays) (out : List ℕ) where
-  -- the answer to a list is the case s
+  -- what a list came to
   pub list_reply_lem :
-      (width : ℕ) (codes : List ℕ) {r s : Listed} {lent coefficients : List ℤ} → r ≡ s → lent ≡ lent_coefficients width →
+      (width : ℕ) (codes : List ℕ) (r : Result ℕ Refusal) {lent coefficients : List ℤ} → lent ≡ lent_coefficients width →
       outcome (told_listed r) coefficients ≡ listed width codes lent →
-      formed_reply t m width out (told_listed s) coefficients ≡ list_reply t m width codes out
+      formed_reply t m width out (told_listed r) coefficients ≡ list_reply t m width codes out
   unfolding list_reply
-  list_reply_lem width codes {r} {s} {lent} {coefficients} e l h =
-      ap (λ (x : Listed). formed_reply t m width out (told_listed x) coefficients) (sym e)
-      ∙ ap (λ (o : ListOutcome). formed_reply t m width out o.answer o.numbers) (h ∙ ap (listed width codes) l)
+  list_reply_lem width codes r l h = ap (λ (o : ListOutcome). formed_reply t m width out o.answer o.numbers) (h ∙ ap (listed width codes) l)
 
-  -- what a line asks is the case s
+  -- what a line asks
   pub line_reply_lem :
-      (line : InputLine) (numbers : List ℕ) {r s : Question} → r ≡ s → told_question numbers r ≡ question_of line →
-      asked_reply t m out (told_question numbers s) ≡ line_reply t m line out
+      (line : InputLine) (numbers : List ℕ) (r : Result (ℕ × ℕ) Refusal) → told_question numbers r ≡ question_of line →
+      asked_reply t m out (told_question numbers r) ≡ line_reply t m line out
   unfolding line_reply
-  line_reply_lem line numbers e h = ap (λ (x : Question). asked_reply t m out (told_question numbers x)) (sym e) ∙ ap (asked_reply t m out) h
+  line_reply_lem line numbers r h = ap (asked_reply t m out) h
 
 -- ---- a matrix: the find, followed by the write
 
@@ -75,19 +68,19 @@ module _ (t : Table) (m : Arrays) (q : Query) (out : List ℕ) (room : 64 ≤ le
   long : (record_row t).holds ≡ false → (list_row t out).holds ≡ false
   long e = le-ltb (length out) t.limits.gates (omega (arith, room, (record_limits t e).gates))
 
-  by_find : {r s : FoundNode} → told_found_node r ≡ found_in t m q → r ≡ s
+  by_find : {r s : Result (Option (ℕ × ℕ)) Refusal} → told_found_node r ≡ found_in t m q → r ≡ s
       → then_write (λ k. written_in t m q.width k out) out (told_found_node s) ≡ synthesized t m q out
-  by_find h e = ap (λ (x : FoundNode). then_write (λ k. written_in t m q.width k out) out (told_found_node x)) (sym e)
+  by_find h e = ap (λ (x : Result (Option (ℕ × ℕ)) Refusal). then_write (λ k. written_in t m q.width k out) out (told_found_node x)) (sym e)
       ∙ (ap (then_write (λ k. written_in t m q.width k out) out) h ∙ followed t m q out long)
 
-  pub node_written_lem : {r : FoundNode} {k j : ℕ} (w : Written) (s : Synthesized) {after : List ℕ} → told_found_node r ≡ found_in t m q → r ≡ f.Node k j
-      → a.outcome (told_written w) after ≡ written_in t m q.width k out → told_synthesized s ≡ told_written w
-      → told s after ≡ synthesized t m q out
-  node_written_lem w s {after = after} h e z x = ap (λ (y : a.Reply). a.outcome y after) x ∙ (z ∙ by_find h e)
+  pub node_written_lem : {r : Result (Option (ℕ × ℕ)) Refusal} {k j : ℕ} {after : List ℕ} (w : Result ℕ Refusal) → told_found_node r ≡ found_in t m q
+      → r ≡ Ok (Some (k, j)) → a.outcome (told_written w) after ≡ written_in t m q.width k out
+      → a.outcome (told_written w) after ≡ synthesized t m q out
+  node_written_lem w h e z = z ∙ by_find h e
 
-  pub none_found : {r : FoundNode} → told_found_node r ≡ found_in t m q → r ≡ f.Nothing → a.outcome a.none out ≡ synthesized t m q out
+  pub none_found : {r : Result (Option (ℕ × ℕ)) Refusal} → told_found_node r ≡ found_in t m q → r ≡ Ok None → a.outcome a.none out ≡ synthesized t m q out
   none_found h e = by_find h e
 
-  pub find_refused : {r : FoundNode} {x : Refusal} → told_found_node r ≡ found_in t m q → r ≡ f.Refused x
+  pub find_refused : {r : Result (Option (ℕ × ℕ)) Refusal} {x : Refusal} → told_found_node r ≡ found_in t m q → r ≡ Err x
       → a.outcome (a.refused (number_of x) (position_of x)) out ≡ synthesized t m q out
   find_refused h e = by_find h e

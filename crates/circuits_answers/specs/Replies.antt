@@ -1,18 +1,18 @@
 -- What a table answers to a list, and to a later line of the input (SPECIFICATION 10.6). Assumes nothing.
-use Rattle.std.specs.Prelude.{List, ℕ, ltb, ℤ, pos, replicate}
+use Rattle.std.specs.Prelude.{List, ℕ, ltb, ℤ, pos, replicate, Option, Result}
 use Rattle.ints.specs.Lists.{pick}
 use Rattle.exact.specs.Answers.{Answer}
 use Rattle.exact.specs.Answers as e
 use Rattle.walk.specs.Answers as a
 use Rattle.tables.specs.Checks.{Arrays, coefficient_count}
 use Rattle.tables.specs.Tables.{Table, query, synthesized}
-use Rattle.murm_find.specs.declared.Synthesized.{Synthesized}
+use Rattle.refusal.specs.declared.Refusal.{Refusal}
 use Rattle.murm_find.specs.Entries.{told_synthesized}
 use Rattle.tables.specs.Lists.{listed}
 use Rattle.circuits_input.specs.Input.{Read, gives, refused, InputLine, AskedList, question_of}
 
 -- what a table answered, and what the list lent to it then holds
-abbrev pub told : Synthesized → List ℕ → a.Outcome
+abbrev pub told : Result (Option ℕ) Refusal → List ℕ → a.Outcome
 told answer list = a.outcome (told_synthesized answer) list
 
 -- ---- a list

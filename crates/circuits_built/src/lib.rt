@@ -13,7 +13,6 @@ ghost use Rattle.circuits_parts.specs.Texts.{Printable, query_texts};
 ghost use Rattle.circuits_built.specs.Built.{reply_then, room_for};
 
 use circuits_text::NEWLINE;
-use murm::Building;
 use murm_config::Murm;
 use refusal::Refusal;
 
@@ -46,7 +45,7 @@ fn put_queries(
 
 // What a build came to: its table and the later lines, or its refusal.
 pub fn put_built(
-    built: Building,
+    built: Result<Murm, Refusal>,
     fingerprints: &[u64],
     parents: &[u32],
     codes: &[u32],
@@ -58,10 +57,10 @@ pub fn put_built(
     ensures { Put 0 (reply_then (told_building built) (lent fingerprints parents codes) (lines_of later.now)) result out.old out.new }
 {
     match built {
-        Building::Table(table) => {
+        Ok(table) => {
             let next = circuits_parts::put_widths(table, parents, codes, out);
             put_queries(table, fingerprints, parents, codes, later, out, next)
         }
-        Building::Refused(r) => circuits_lines::put_refused(out, 0, r),
+        Err(r) => circuits_lines::put_refused(out, 0, r),
     }
 }

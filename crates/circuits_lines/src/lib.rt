@@ -73,10 +73,8 @@ pub fn put_nodes(
     ensures most { result ≤ at + 33 * count }
 {
     let mut p = at;
-    let mut i = 0;
-    while i < count {
+    for i in 0..count {
         p = put_node(out, p, i as u32, parents[start + i], codes[start + i]);
-        i += 1;
     }
     p
 }
@@ -98,10 +96,8 @@ pub fn put_codes(out: &mut [u8], at: usize, codes: &[u32]) -> usize
     ensures most { result ≤ at + 11 * length codes.now }
 {
     let mut p = at;
-    let mut i = 0;
-    while i < codes.len() {
-        p = put_code(out, p, codes[i]);
-        i += 1;
+    for code in codes {
+        p = put_code(out, p, *code);
     }
     p
 }

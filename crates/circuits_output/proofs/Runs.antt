@@ -15,7 +15,9 @@ use Rattle.circuits_text.specs.Writing.{Put}
 use Rattle.circuits_text.proofs.Placing.{put_as}
 use Rattle.circuits_input.specs.Input.{Read, lines_of, Wanted, input_of}
 use Rattle.circuits_input.specs.Told.{told_request, Placed}
-use Rattle.circuits_input.specs.declared.Request.{Request}
+use Rattle.std.specs.Prelude.{Result}
+use Rattle.refusal.specs.declared.Refusal.{Refusal}
+use Rattle.murm_config.specs.declared.MurmConfig.{MurmConfig}
 use Rattle.circuits_output.proofs.Builds.{text_is}
 use Rattle.circuits_built.specs.Built.{reply_then, room_for}
 use Rattle.circuits_output.specs.Output.{built_text, input_text, input_arrays, output_with, arrays_after, run, program_of}
@@ -23,7 +25,7 @@ use Rattle.circuits_output.specs.Output.{built_text, input_text, input_arrays, o
 -- ---- the later lines
 
 -- they begin within the input
-pub placed_as : (input : List ℕ) {r s : Request} → r ≡ s → Placed input r → Placed input s
+pub placed_as : (input : List ℕ) {r s : Result (MurmConfig × ℕ) Refusal} → r ≡ s → Placed input r → Placed input s
 placed_as input e p = subst (Placed input) e p
 
 -- they are all that stands from there on
@@ -51,11 +53,11 @@ module _ (input : List ℕ) (lent : Arrays) (old : List ℕ) where
 
   -- what was read of the input is the case s
   pub program_came :
-      {after : Arrays} {p : ℕ} {xs : List ℕ} {r s : Request} → room_for (length lent.parents) ≤ length old → r ≡ s →
+      {after : Arrays} {p : ℕ} {xs : List ℕ} {r s : Result (MurmConfig × ℕ) Refusal} → room_for (length lent.parents) ≤ length old → r ≡ s →
       told_request input r ≡ input_of input → Came lent after p old xs (told_request input s) → run (some p) xs after ≡ program_of input lent old
   unfolding program_of output_with arrays_after
   program_came {after} {p} {xs} {r} {s} h e is came =
-      let d = subst (λ (x : Request). Came lent after p old xs (told_request input x)) (sym e) came in
+      let d = subst (λ (x : Result (MurmConfig × ℕ) Refusal). Came lent after p old xs (told_request input x)) (sym e) came in
       let text = input_text lent (told_request input r) in
       let n : p ≡ length text = omega (arith, d.0.after) in
       let z : 0 + length text ≡ length text = omega arith in

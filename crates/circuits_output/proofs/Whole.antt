@@ -9,8 +9,7 @@ use lib.ListN.{length, drop, length-append, length-drop, length-replicate}
 use Rattle.ints.specs.Lists.{over}
 use Rattle.tables.specs.Checks.{Arrays, arrays}
 use Rattle.circuits_text.specs.Writing.{Put}
-use Rattle.circuits_output.specs.declared.Printed.{Printed}
-use Rattle.circuits_output.specs.declared.Printed.TheVariants.{Text, NoRoom}
+use Rattle.std.specs.Prelude.{Option, Some, None}
 use Rattle.circuits_output.specs.Output.{arrays_after, lent_places, lent_arrays, output, told_printed}
 use Rattle.circuits_built.specs.Built.{room_for}
 use Rattle.circuits_output.specs.Output.{ProgramRun, run, text_run, program_of}
@@ -32,20 +31,20 @@ zeros_are {f} {u} {c} a b d =
 over_fits : (new old : List ℕ) → length (over new old) ≡ length old → length new ≤ length old
 over_fits new old e = omega (arith, e, length-append new (drop (length new) old), length-drop (length new) old)
 
-module _ (input old xs : List ℕ) (printed : Printed) {lent after : Arrays} (zeros : lent ≡ lent_arrays) (room : room_for 2048 ≤ length old)
+module _ (input old xs : List ℕ) (printed : Option ℕ) {lent after : Arrays} (zeros : lent ≡ lent_arrays) (room : room_for 2048 ≤ length old)
     (e : run (told_printed printed) xs after ≡ program_of input lent old) where
   made : run (told_printed printed) xs after ≡ text_run (output input) old (arrays_after lent_arrays input)
   unfolding program_of output
   made = e ∙ (ap (λ (a : Arrays). program_of input a old) zeros ∙ rw (le-ltb (length old) (room_for (length lent_places)) (subst (λ (k : ℕ). room_for k ≤ length old) (places_count refl) room)))
 
-  pub some_text : printed ≡ NoRoom → ⊥
+  pub some_text : printed ≡ None → ⊥
   some_text f =
       let g : told_printed printed ≡ some (length (output input)) = ap (λ (r : ProgramRun). r.printed) made in
       let h : told_printed printed ≡ none = ap told_printed f in
       let z : ◌≡◌ {A = ℕ} 0 1 = cc in
       absurd (omega (arith, z))
 
-  pub text_put : (n : ℕ) → length xs ≡ length old → printed ≡ Text n → Put 0 (output input) n old xs
+  pub text_put : (n : ℕ) → length xs ≡ length old → printed ≡ Some n → Put 0 (output input) n old xs
   text_put n same f =
       let g : told_printed printed ≡ some (length (output input)) = ap (λ (r : ProgramRun). r.printed) made in
       let h : told_printed printed ≡ some n = ap told_printed f in

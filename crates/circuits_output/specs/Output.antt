@@ -1,6 +1,6 @@
 -- What the program `circuits` prints, for every input (SPECIFICATION 10.3 to 10.6, 10.10). Assumes nothing.
-use Rattle.std.specs.Prelude.{List, ℕ, ltb, length, replicate}
-use Rattle.std.proofs.Math.Option.{Option, none, some}
+use Rattle.std.specs.Prelude.{List, ℕ, ltb, length, replicate, Option, Some, None}
+use Rattle.std.proofs.Math.Option.{Option as Maybe, none, some}
 use Rattle.ints.specs.Lists.{pick, over}
 use Rattle.walk.specs.Modes.{by_print}
 use Rattle.tables.specs.Checks.{Limits, Arrays, arrays}
@@ -8,8 +8,6 @@ use Rattle.tables.specs.Tables.{build_of}
 use Rattle.circuits_lines.specs.Lines.{refused_line}
 use Rattle.circuits_input.specs.Input.{Read, gives, refused, InputLine, Wanted, input_of}
 use Rattle.circuits_built.specs.Built.{reply_then, room_for}
-use Rattle.circuits_output.specs.declared.Printed.{Printed}
-use Rattle.circuits_output.specs.declared.Printed.TheVariants.{Text, NoRoom}
 
 -- a table is built in the lent arrays
 unfoldable pub built_text : Arrays → List InputLine → Limits → List ℕ
@@ -46,17 +44,17 @@ output input = output_with lent_arrays input
 -- ---- the function that makes the output
 
 -- how many bytes the text has; none where the lent bytes are too few
-abbrev pub told_printed : Printed → Option ℕ
-told_printed (Text n) = some n
-told_printed NoRoom = none
+abbrev pub told_printed : Option ℕ → Maybe ℕ
+told_printed (Some n) = some n
+told_printed None = none
 
 -- what it answers, and what the lent bytes and arrays then hold
 pub record ProgramRun : Type 0 where
-  pub printed : Option ℕ
+  pub printed : Maybe ℕ
   pub out : List ℕ
   pub arrays : Arrays
 
-abbrev pub run : Option ℕ → List ℕ → Arrays → ProgramRun
+abbrev pub run : Maybe ℕ → List ℕ → Arrays → ProgramRun
 run p out a = record { printed = p; out = out; arrays = a }
 
 -- the text is in the first bytes; later ones keep what they held

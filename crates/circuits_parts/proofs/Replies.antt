@@ -1,10 +1,11 @@
 -- A text by what a table answered: the answer's case decides it. Assumes nothing.
 use mathlib.Core.List.{List}
-use mathlib.Core.Path.{◌≡◌, sym, ap, ◌∙◌}
+use mathlib.Core.Path.{◌≡◌, ap, ◌∙◌}
 use Prim.Native.Nat.{ℕ}
 use Rattle.tables.specs.Checks.{Arrays}
 use Rattle.tables.specs.Tables.{Table}
-use Rattle.murm_find.specs.declared.Synthesized.{Synthesized}
+use Rattle.std.specs.Prelude.{Option, Result}
+use Rattle.refusal.specs.declared.Refusal.{Refusal}
 use Rattle.murm_find.specs.Entries.{told_synthesized}
 use Rattle.circuits_text.specs.Writing.{Put}
 use Rattle.circuits_text.proofs.Placing.{put_as}
@@ -12,15 +13,9 @@ use Rattle.circuits_input.specs.Input.{InputLine}
 use Rattle.circuits_answers.specs.Replies.{told, line_reply}
 use Rattle.circuits_parts.specs.Texts.{reply_text, answer_text, lent_list, query_text}
 
--- the answer is the case s
-pub reply_as :
-    (list : List ℕ) {at p : ℕ} {xs ys : List ℕ} {r s : Synthesized} →
-    r ≡ s → Put at (reply_text (told_synthesized s) list) p xs ys → Put at (reply_text (told_synthesized r) list) p xs ys
-reply_as list e d = put_as (ap (λ (x : Synthesized). reply_text (told_synthesized x) list) (sym e)) d
-
 -- the answer to a line, with a list lent as it was made
 pub query_as :
-    (t : Table) (m : Arrays) (line : InputLine) (r : Synthesized) (old after : List ℕ) {at p : ℕ} {xs ys : List ℕ} →
+    (t : Table) (m : Arrays) (line : InputLine) (r : Result (Option ℕ) Refusal) (old after : List ℕ) {at p : ℕ} {xs ys : List ℕ} →
     old ≡ lent_list → told r after ≡ line_reply t m line old →
     Put at (reply_text (told_synthesized r) after) p xs ys → Put at (query_text t m line) p xs ys
 unfolding query_text

@@ -12,8 +12,8 @@ ghost use Rattle.circuits_input.specs.Input.{ended};
 ghost use Rattle.circuits_answers.specs.Lent.{lent};
 ghost use Rattle.circuits_parts.specs.Texts.{width_text, table_text, Printable, reply_text, lent_list, query_text};
 
-use murm::Synthesized;
 use murm_config::Murm;
+use refusal::Refusal;
 
 // A width of a table: at most 90 bytes and 33 for each of its places, and 10 more are left.
 fn put_width(
@@ -47,29 +47,32 @@ pub fn put_widths(table: Murm, parents: &[u32], codes: &[u32], out: &mut [u8]) -
     let t = table;
     let q = t.config.max_qubits;
     let mut p = 0;
-    let mut w = 0;
-    while w < q {
+    for w in 0..q {
         p = put_width(t, w + 1, parents, codes, out, p);
-        w += 1;
     }
     p
 }
 
 // What a table answered, with the list lent to it: at most 746 bytes, where 756 are left.
-fn put_reply(answer: Synthesized, list: &[u32], out: &mut [u8], at: usize) -> usize
+fn put_reply(
+    answer: Result<Option<usize>, Refusal>,
+    list: &[u32],
+    out: &mut [u8],
+    at: usize,
+) -> usize
     requires { (at + 756 ≤ length out.old) × (length list.now ≤ 64) }
     ensures text { Put at (reply_text (told_synthesized answer) list.now) result out.old out.new }
     ensures most { result ≤ at + 746 }
 {
     match answer {
-        Synthesized::Circuit(m) => {
+        Ok(Some(m)) => {
             if list.len() < m {
                 return circuits_lines::put_answer(out, at, list);
             }
             circuits_lines::put_answer(out, at, &list[..m])
         }
-        Synthesized::Nothing => circuits_text::put_bytes(out, at, b"none\n"),
-        Synthesized::Refused(r) => circuits_lines::put_refused(out, at, r),
+        Ok(None) => circuits_text::put_bytes(out, at, b"none\n"),
+        Err(r) => circuits_lines::put_refused(out, at, r),
     }
 }
 

@@ -11,7 +11,7 @@ use borrow.Author.Tests.{lt-ltb, le-ltb, ltb-true, ltb-false}
 use lib.Dec.{ltb}
 use lib.IntN.{ℤ, pos, negsuc, nat_abs}
 use lib.ListN.{length, get_or, set, take, drop, length-append, length-drop, length-set, take-append-drop}
-use lib.Seq.{length-take-le, take_all, take-suc, set_at, set_split, take_at, drop-append-add, drop-drop}
+use lib.Seq.{length-take-le, take-suc, set_at, set_split, take_at, drop-append-add, drop-drop}
 use lib.Signed.{lt_z}
 use mir.Syntax.{w32}
 use mir.Val.{SFits}
@@ -71,30 +71,6 @@ then_put {at} {p} {q} {l} {m} {xs} {ys} {zs} a b =
 -- the same bytes under another name
 pub put_as : {at p : ℕ} {l m xs ys : List ℕ} → l ≡ m → Put at l p xs ys → Put at m p xs ys
 put_as {at} {p} {l} {m} {xs} {ys} e d = subst (λ (u : List ℕ). Put at u p xs ys) e d
-
--- what a loop over bytes keeps: i of them are put
-pub record Putting (bytes : List ℕ) (at : ℕ) (old xs : List ℕ) (i : ℕ) : Type 0 where
-  pub within : i ≤ length bytes
-  pub so_far : Put at (take i bytes) (at + i) old xs
-  pub size : length xs ≡ length old
-
-pub putting_none : (bytes : List ℕ) (at : ℕ) (old : List ℕ) → at ≤ length old → Putting bytes at old old 0
-putting_none bytes at old h =
-    record { within = omega arith; so_far = record { is = sym (put_none at old); after = refl; room = omega arith }; size = refl }
-
-module _ {bytes old xs : List ℕ} {at i : ℕ} (p : Putting bytes at old xs i) where
-  pub putting_on : i < length bytes → at + i < length xs → Putting bytes at old (set xs (at + i) (get_or bytes i 0)) (i + 1)
-  putting_on h l =
-      let e : take i bytes ++ (get_or bytes i 0 ∷ []) ≡ take (i + 1) bytes = rw (add-one, take-suc bytes i 0) in
-      let a : at + i + 1 ≡ at + (i + 1) = omega arith in
-      record {
-        within = omega arith;
-        so_far = rw (e, a) at (then_put p.so_far (put_one (at + i) (get_or bytes i 0) xs l));
-        size = length-set xs (at + i) (get_or bytes i 0) ∙ p.size;
-      }
-
-  pub putting_done : length bytes ≤ i → Put at bytes (at + i) old xs
-  putting_done h = rw (take_all i bytes h) at p.so_far
 
 -- ---- decimal digits
 pick_else : {A : Type 0} (b : Bool) (x y z : A) → (b ≡ false → y ≡ z) → pick b x y ≡ pick b x z

@@ -1,5 +1,5 @@
 -- Laws of reading: where a byte is found, what digits write, which words a line has. Assumes nothing.
-use mathlib.Core.Bool.{Bool, true, false, ◌&&◌, and-false}
+use mathlib.Core.Bool.{Bool, true, false, cond, ◌&&◌, and-false}
 use mathlib.Core.List.{List, [], ◌∷◌, ◌++◌, append_assoc, append-nil}
 use mathlib.Core.Option.{Option, none, some}
 use mathlib.Core.Path.{◌≡◌, refl, sym, ap, ◌∙◌}
@@ -7,40 +7,66 @@ use Prim.Native.Nat.{ℕ, suc, ◌+◌, ◌-◌, ◌*◌, ◌^◌, ◌≤◌, �
 use native.Mathlib.Nat.{pow-suc, pow-le-pow_right}
 use native.Mathlib.Numerals.{add-one}
 use native.Mathlib.Omega.{arith}
-use borrow.Author.Tests.{eq-eqb, ne_eqb, le-leb, lt-leb, leb-true, eqb-true}
-use lib.Dec.{eqb, leb}
+use borrow.Author.Tests.{le-leb, lt-leb, leb-true, eqb-true, ltb-false}
+use lib.Dec.{eqb, leb, ltb}
 use lib.ListN.{length, get_or, set, take, drop, length-append, length-drop, length-set, drop_of_length-le}
 use lib.Seq.{drop-cons, take_at, take_all, set_at, drop-drop}
+use Rattle.std.specs.List.{position_or_len}
+use Rattle.std.specs.Cmp.Lexicographic.{pointwise}
+use Rattle.std.specs.Prelude.{Some, None, Result, Ok, Err, nat_eq}
+use Rattle.std.specs.Result.{OkIff, result_ok}
+use Rattle.std.proofs.lemmas.List.Recursion.{is_position_or_len}
 use Rattle.ints.specs.Lists.{pick, all, over}
 use Rattle.ints.proofs.Bools.{clash, both_true, and_left, and_right}
 use Rattle.circuits_text.specs.Reading.{space, before, same_bytes, longer, words, ReadInto}
-use Rattle.circuits_text.specs.Reading.{is_digit, value_from, value, is_number, word_of, all_numbers, numbers, line_of}
+use Rattle.circuits_text.specs.Reading.{is_digit, value_from, value, is_number, word_of, told_word, all_numbers, numbers, line_of}
 
 -- ---- a byte that is looked for
--- what a search from at on keeps
-pub record Searching (c : ℕ) (s : List ℕ) (at p : ℕ) : Type 0 where
-  pub within : p ≤ length s
-  pub past : at ≤ p
-  pub same : at + length (before c (drop at s)) ≡ p + length (before c (drop p s))
+pub before_position : (c : ℕ) (s : List ℕ) → length (before c s) ≡ position_or_len (λ (b : ℕ). eqb b c) s
+unfolding before
+before_position c s = is_position_or_len (λ (l : List ℕ). length (before c l)) (λ (b : ℕ). eqb b c) refl next s
+  where
+    by : (t : Bool) (b : ℕ) (bs : List ℕ) → length (pick t [] (b ∷ before c bs)) ≡ cond t 0 (1 + length (before c bs))
+    by true b bs = refl
+    by false b bs = omega arith
 
-module _ {c : ℕ} {s : List ℕ} {at p : ℕ} (h : Searching c s at p) where
-  pub found_here : p < length s → get_or s p 0 ≡ c → p ≡ at + length (before c (drop at s))
-  unfolding before
-  found_here l e =
-      let z : length (before c (drop p s)) ≡ 0 = rw (drop-cons s p 0, eq-eqb _ _ e) in
-      omega arith
+    next : (b : ℕ) (bs : List ℕ) → length (before c (b ∷ bs)) ≡ cond (eqb b c) 0 (1 + length (before c bs))
+    next b bs = by (eqb b c) b bs
 
-  pub found_none : length s ≤ p → p ≡ at + length (before c (drop at s))
-  unfolding before
-  found_none l =
-      let z : length (before c (drop p s)) ≡ 0 = rw (drop_of_length-le s {i = p} l) in
-      omega arith
+-- what `position` answers tells how many bytes stand before
+pub found_place :
+    (c : ℕ) (s : List ℕ) (n : ℕ) →
+    Some n ≡ cond (ltb (position_or_len (λ (b : ℕ). eqb b c) s) (length s)) (Some (position_or_len (λ (b : ℕ). eqb b c) s)) None →
+    n ≡ length (before c s)
+found_place c s n h = sym (before_position c s ∙ by (ltb (position_or_len (λ (b : ℕ). eqb b c) s) (length s)) h)
+  where
+    by :
+        (t : Bool) → Some n ≡ cond t (Some (position_or_len (λ (b : ℕ). eqb b c) s)) None →
+        position_or_len (λ (b : ℕ). eqb b c) s ≡ n
+    by true g = cc
+    by false g = cc
 
-  pub search_on : p < length s → (get_or s p 0 ≡ c → ⊥) → Searching c s at (p + 1)
-  unfolding before
-  search_on l e =
-      let z : length (before c (drop p s)) ≡ suc (length (before c (drop (p + 1) s))) = rw (add-one, drop-cons s p 0, ne_eqb _ _ e) in
-      record { within = omega arith; past = omega arith; same = omega arith }
+pub found_nowhere :
+    (c : ℕ) (s : List ℕ) →
+    None ≡ cond (ltb (position_or_len (λ (b : ℕ). eqb b c) s) (length s)) (Some (position_or_len (λ (b : ℕ). eqb b c) s)) None →
+    length s ≤ length (before c s)
+found_nowhere c s h = rw (before_position c s) (by (ltb (position_or_len (λ (b : ℕ). eqb b c) s) (length s)) refl h)
+  where
+    by :
+        (t : Bool) → ltb (position_or_len (λ (b : ℕ). eqb b c) s) (length s) ≡ t →
+        None ≡ cond t (Some (position_or_len (λ (b : ℕ). eqb b c) s)) None →
+        length s ≤ position_or_len (λ (b : ℕ). eqb b c) s
+    by true e g = absurd (cc)
+    by false e g = ltb-false _ _ e
+
+pub before_within : (c : ℕ) (s : List ℕ) → length (before c s) ≤ length s
+unfolding before
+before_within c [] = omega arith
+before_within c (b ∷ bs) = by (eqb b c) (before_within c bs)
+  where
+    by : (t : Bool) → length (before c bs) ≤ length bs → length (pick t [] (b ∷ before c bs)) ≤ length (b ∷ bs)
+    by true h = omega arith
+    by false h = omega arith
 
 -- ---- words compared
 
@@ -55,37 +81,12 @@ same_no (x ∷ a) (y ∷ b) e =
     let t : a ≡ b = same_no a b (and_right (eqb x y) (same_bytes a b) e) in
     cc
 
-same_length : (a b : List ℕ) → same_bytes a b ≡ true → length a ≡ length b
-same_length a b e = ap length (same_no a b e)
-
-pub same_lengths : (a b : List ℕ) → (length a ≡ length b → ⊥) → same_bytes a b ≡ false
-same_lengths a b h = by (same_bytes a b) refl
-  where
-    by : (t : Bool) → same_bytes a b ≡ t → t ≡ false
-    by true e = absurd (h (same_length a b e))
-    by false e = refl
-
--- what the loop over two words of one length keeps
-pub record Comparing (a b : List ℕ) (i : ℕ) : Type 0 where
-  pub lengths : length a ≡ length b
-  pub within : i ≤ length a
-  pub same : same_bytes a b ≡ same_bytes (drop i a) (drop i b)
-
-module _ {a b : List ℕ} {i : ℕ} (h : Comparing a b i) where
-  pub same_done : length a ≤ i → true ≡ same_bytes a b
-  unfolding same_bytes
-  same_done l = sym (h.same ∙ rw (drop_of_length-le a {i = i} l, drop_of_length-le b {i = i} (omega (arith, h.lengths))))
-
-  module _ (l : i < length a) where
-    same_at : same_bytes a b ≡ eqb (get_or a i 0) (get_or b i 0) && same_bytes (drop (i + 1) a) (drop (i + 1) b)
-    unfolding same_bytes
-    same_at = h.same ∙ rw (add-one, drop-cons a i 0, drop-cons b i 0 (omega (arith, h.lengths)))
-
-    pub same_differs : (get_or a i 0 ≡ get_or b i 0 → ⊥) → false ≡ same_bytes a b
-    same_differs e = sym (same_at ∙ rw (ne_eqb _ _ e))
-
-    pub same_on : get_or a i 0 ≡ get_or b i 0 → Comparing a b (i + 1)
-    same_on e = record { lengths = h.lengths; within = omega arith; same = same_at ∙ rw (eq-eqb _ _ e) }
+pub same_pointwise : (a b : List ℕ) → same_bytes a b ≡ pointwise nat_eq a b
+unfolding same_bytes
+same_pointwise [] [] = refl
+same_pointwise [] (y ∷ b) = refl
+same_pointwise (x ∷ a) [] = refl
+same_pointwise (x ∷ a) (y ∷ b) = rw (same_pointwise a b)
 
 -- ---- a number
 more_digits : (k v d : ℕ) → v < 10 ^ k → d ≤ 9 → v * 10 + d < 10 ^ (k + 1)
@@ -103,11 +104,8 @@ module _ (w : List ℕ) (v i : ℕ) (in-word : i < length w) where
   unfolding all
   digits_at = rw (add-one, drop-cons w i 0)
 
-  pub digit_low : get_or w i 0 < 48 → all is_digit (drop i w) ≡ false
-  digit_low h = digits_at ∙ rw (lt-leb 48 _ h)
-
-  pub digit_high : 48 ≤ get_or w i 0 → 57 < get_or w i 0 → all is_digit (drop i w) ≡ false
-  digit_high g h = digits_at ∙ rw (le-leb 48 _ g, lt-leb _ 57 h)
+  pub no_digit : is_digit (get_or w i 0) ≡ false → all is_digit (drop i w) ≡ false
+  no_digit h = digits_at ∙ rw h
 
   digit_more : 48 ≤ get_or w i 0 → get_or w i 0 ≤ 57 → all is_digit (drop i w) ≡ all is_digit (drop (i + 1) w)
   digit_more g h = digits_at ∙ rw (le-leb 48 _ g, le-leb _ 57 h)
@@ -160,6 +158,11 @@ module _ {w : List ℕ} {v i : ℕ} (n : Numbering w v i) where
   pub word_number : length w ≤ i → v ≤ 4294967295 → word_of w ≡ some v
   unfolding word_of is_number
   word_number h g = rw (le-leb 1 (length w) n.some, le-leb (length w) 10 n.few, all_digits h, is_value h, le-leb v 4294967295 g)
+
+  -- what the cast of v answers
+  pub word_fits : {E : Type 0} → length w ≤ i → (r : Result ℕ E) → OkIff r (v < 4294967296) v → told_word (result_ok r) ≡ word_of w
+  word_fits h (Ok x) p = ap some p.1 ∙ sym (word_number h (omega (arith, p.0)))
+  word_fits h (Err e) f = sym (word_large h (omega (arith, f)))
 
 -- ---- words
 pub before_take : (c : ℕ) (bs : List ℕ) → take (length (before c bs)) bs ≡ before c bs

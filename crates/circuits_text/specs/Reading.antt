@@ -1,12 +1,9 @@
 -- Lines of numbers, as bytes, by the tests that the code makes: what a word, a number and a line's numbers are
 -- (SPECIFICATION 10.2). Assumes nothing.
 use Rattle.std.specs.Prelude.{Bool, true, false, ◌&&◌, List, [], ◌∷◌, ◌≡◌, ℕ, ◌+◌, ◌-◌, ◌*◌, eqb, leb, length, take}
-use Rattle.std.proofs.Math.Option.{Option, none, some}
+use Rattle.std.proofs.Math.Option.{Option as Maybe, none, some}
+use Rattle.std.specs.Prelude.{Option, Some, None}
 use Rattle.ints.specs.Lists.{pick, over, all}
-use Rattle.circuits_text.specs.declared.Word.{Word}
-use Rattle.circuits_text.specs.declared.Word.TheVariants.{Number, Other}
-use Rattle.circuits_text.specs.declared.Line.{Line}
-use Rattle.circuits_text.specs.declared.Line.TheVariants.{Numbers, Broken}
 
 -- the bytes between words, and after a line
 abbrev pub space : ℕ
@@ -57,13 +54,13 @@ unfoldable pub is_number : List ℕ → Bool
 is_number w = leb 1 (length w) && (leb (length w) 10 && (all is_digit w && leb (value w) 4294967295))
 
 -- what a word says: its number; none where it is anything else
-unfoldable pub word_of : List ℕ → Option ℕ
+unfoldable pub word_of : List ℕ → Maybe ℕ
 word_of w = pick (is_number w) (some (value w)) none
 
--- the number of each case
-abbrev pub told_word : Word → Option ℕ
-told_word (Number n) = some n
-told_word Other = none
+-- what the code answers, as one
+abbrev pub told_word : Option ℕ → Maybe ℕ
+told_word (Some n) = some n
+told_word None = none
 
 -- every word is a number
 unfoldable pub all_numbers : List (List ℕ) → Bool
@@ -77,15 +74,15 @@ numbers (w ∷ ws) = pick (is_number w) (value w ∷ numbers ws) []
 
 -- how many numbers a line is, for a list with that many places: as many as it has words; none where a word is no
 -- number, or a place lacks
-unfoldable pub line_of : ℕ → List (List ℕ) → Option ℕ
+unfoldable pub line_of : ℕ → List (List ℕ) → Maybe ℕ
 line_of places ws = pick (all_numbers ws && leb (length ws) places) (some (length ws)) none
 
--- how many numbers each case has
-abbrev pub told_line : Line → Option ℕ
-told_line (Numbers n) = some n
-told_line Broken = none
+-- what the code answers, as one
+abbrev pub told_line : Option ℕ → Maybe ℕ
+told_line (Some n) = some n
+told_line None = none
 
 -- a line's bytes were read into a list: it holds the numbers up to the first word that is none, as far as it has places
-pub record ReadInto (bytes old now : List ℕ) (line : Option ℕ) : Type 0 where
+pub record ReadInto (bytes old now : List ℕ) (line : Maybe ℕ) : Type 0 where
   pub is : line ≡ line_of (length old) (words bytes)
   pub holds : now ≡ over (take (length old) (numbers (words bytes))) old

@@ -13,19 +13,8 @@ pub const SPACE: u8 = 32;
 
 pub const NEWLINE: u8 = 10;
 
-// A word: a number, or anything else.
-#[derive(Clone, Copy)]
-pub enum Word {
-    Number(u32),
-    Other,
-}
-
-// A line: that many numbers, or something else; a line with more numbers than places is something else.
-#[derive(Clone, Copy)]
-pub enum Line {
-    Numbers(usize),
-    Broken,
-}
+// No number below 2^32 has more digits, but for zeros before it.
+const MOST_DIGITS: usize = 10;
 
 // The place of the first byte c from at on; the length where there is none.
 pub fn find(s: &[u8], at: usize, c: u8) -> usize
@@ -33,86 +22,55 @@ pub fn find(s: &[u8], at: usize, c: u8) -> usize
     ensures found { result ≡ at + length (before c (drop at s.now)) }
     ensures inside { (at ≤ result) × (result ≤ length s.now) }
 {
-    let mut p = at;
-    while p < s.len() {
-        if s[p] == c {
-            return p;
-        }
-        p += 1;
+    match s[at..].iter().position(|b| *b == c) {
+        Some(n) => at + n,
+        None => s.len(),
     }
-    p
 }
 
 // Whether two words are the same.
 pub fn same_bytes(a: &[u8], b: &[u8]) -> bool
     ensures { result ≡ same_bytes a.now b.now }
 {
-    if a.len() != b.len() {
-        return false;
-    }
-    let mut i = 0;
-    while i < a.len() {
-        if a[i] != b[i] {
-            return false;
-        }
-        i += 1;
-    }
-    true
+    a == b
 }
 
-// The number that a word writes.
-pub fn number(word: &[u8]) -> Word
+// The number that a word writes; none where the word is anything else.
+pub fn number(word: &[u8]) -> Option<u32>
     ensures { told_word result ≡ word_of word.now }
 {
-    if word.len() < 1 {
-        return Word::Other;
+    if word.is_empty() {
+        return None;
     }
-    if 10 < word.len() {
-        return Word::Other;
+    if MOST_DIGITS < word.len() {
+        return None;
     }
     let mut v: u64 = 0;
-    let mut i = 0;
-    while i < word.len() {
-        let b = word[i];
-        if b < 48 {
-            return Word::Other;
+    for b in word {
+        if !b.is_ascii_digit() {
+            return None;
         }
-        if 57 < b {
-            return Word::Other;
-        }
-        v = v * 10 + (b - 48) as u64;
-        i += 1;
+        v = v * 10 + u64::from(*b - b'0');
     }
-    if 4294967295 < v {
-        return Word::Other;
-    }
-    Word::Number(v as u32)
+    u32::try_from(v).ok()
 }
 
-// Reads the numbers of a line, given without its newline, into the lent list, from its first place on. Of a broken line
-// it has the numbers before the first other word, as far as there are places.
-pub fn numbers(line: &[u8], list: &mut [u32]) -> Line
+// Reads the numbers of a line, given without its newline, into the lent list, from its first place on, and answers how
+// many they are; none where a word is no number or a place lacks: then the list has the numbers before the first other
+// word, as far as there are places.
+pub fn numbers(line: &[u8], list: &mut [u32]) -> Option<usize>
     ensures { ReadInto line.now list.old list.new (told_line result) }
 {
     let mut p = 0;
-    let mut k = 0;
-    while k < list.len() {
+    for k in 0..list.len() {
         let e = find(line, p, SPACE);
-        match number(&line[p..e]) {
-            Word::Number(v) => {
-                list[k] = v;
-                k += 1;
-                if line.len() <= e {
-                    return Line::Numbers(k);
-                }
-                p = e + 1;
-            }
-            Word::Other => {
-                return Line::Broken;
-            }
+        list[k] = number(&line[p..e])?;
+        if line.len() <= e {
+            return Some(k + 1);
         }
+        p = e + 1;
     }
-    Line::Broken
+    None
 }
 
 // Puts a byte at a place, and answers the place after it.
@@ -129,22 +87,16 @@ pub fn put_bytes(out: &mut [u8], at: usize, bytes: &[u8]) -> usize
     requires { at + length bytes.now ≤ length out.old }
     ensures { Put at bytes.now result out.old out.new }
 {
-    let mut i = 0;
-    while i < bytes.len() {
-        out[at + i] = bytes[i];
-        i += 1;
-    }
-    at + i
+    let next = at + bytes.len();
+    out[at..next].copy_from_slice(bytes);
+    next
 }
 
 // 0 or 1.
 pub fn digit(b: bool) -> u64
     ensures { result ≡ digit_of b }
 {
-    if b {
-        return 1;
-    }
-    0
+    u64::from(b)
 }
 
 // The byte of a digit.
@@ -180,27 +132,18 @@ pub fn put_decimal(out: &mut [u8], at: usize, n: u64) -> usize
     put_digits(out, at, n)
 }
 
-// A signed number's size.
-fn size(x: i32) -> u64
-    ensures { result ≡ nat_abs x }
-{
-    if x < 0 {
-        return (-1 - x) as u64 + 1;
-    }
-    x as u64
-}
-
 // Puts a signed number where 11 places are left, and answers the place after it.
 pub fn put_signed(out: &mut [u8], at: usize, x: i32) -> usize
     requires { at + 11 ≤ length out.old }
     ensures written { Put at (signed x) result out.old out.new }
     ensures most { result ≤ at + 11 }
 {
+    let size = u64::from(x.unsigned_abs());
     if x < 0 {
-        let next = put_byte(out, at, 45);
-        return put_digits(out, next, size(x));
+        let next = put_byte(out, at, b'-');
+        return put_digits(out, next, size);
     }
-    put_digits(out, at, size(x))
+    put_digits(out, at, size)
 }
 
 // Puts a 64-bit word as sixteen hexadecimal digits, and answers the place after them.
@@ -210,11 +153,9 @@ pub fn put_hex(out: &mut [u8], at: usize, n: u64) -> usize
     ensures long { result ≡ at + 16 }
 {
     let mut rest = n;
-    let mut i = 16;
-    while 0 < i {
-        i -= 1;
+    for i in (0..16).rev() {
         out[at + i] = glyph(rest % 16);
-        rest = rest / 16;
+        rest /= 16;
     }
     at + 16
 }

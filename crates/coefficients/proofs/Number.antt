@@ -11,7 +11,7 @@ use lib.IntN.{ℤ, pos, negsuc, neg_ℤ, nat_abs, ◌+ℤ◌, ◌-ℤ◌}
 use lib.Signed.{mag, lt_z, le_z, rem_z}
 use lib.Dec.{eqb}
 use mir.Syntax.{Width}
-use mir.Val.{bits, hbits, SFits, to_z, of_z}
+use mir.Val.{bits, SFits, to_z, of_z}
 use mir.Facts.{to_z-of_z, sfits_widen}
 use Rattle.ints.proofs.Int.{◌⊕◌, ◌⊖◌, A, B, up, dn, add_is}
 use Rattle.ints.proofs.Machine.{fit, range, read_wide, abs_is, abs_neg}

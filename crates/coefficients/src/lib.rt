@@ -29,6 +29,8 @@ pub fn negated(x: Coefficient) -> Coefficient
     narrow_coefficient(-(x as Wide))
 }
 
+// The sum and the difference of two coefficients. Two functions: one that is told which of the two to form would be no
+// plainer.
 pub fn plus(x: Coefficient, y: Coefficient) -> Wide
     ensures { result ≡ x +ℤ y }
 {
@@ -44,10 +46,7 @@ pub fn minus(x: Coefficient, y: Coefficient) -> Wide
 pub fn in_limit(x: Wide) -> bool
     ensures { result ≡ within x }
 {
-    if x < -LIMIT {
-        return false;
-    }
-    x <= LIMIT
+    -LIMIT <= x && x <= LIMIT
 }
 
 pub fn same(x: Coefficient, y: Coefficient) -> bool
@@ -80,11 +79,7 @@ pub fn halved(x: Wide) -> Coefficient
 fn size(x: Coefficient) -> Wide
     ensures { result ≡ pos (nat_abs x) }
 {
-    let wide = x as Wide;
-    if wide < 0 {
-        return -wide;
-    }
-    wide
+    (x as Wide).abs()
 }
 
 // Whether the sizes of two coefficients add up past the limit: then their sum or their difference does, and only then.

@@ -4,8 +4,10 @@ use mathlib.Core.Path.{◌≡◌, refl, sym, ap, ◌∙◌}
 use mathlib.Core.Bool.{Bool, true, false, ◌&&◌}
 use Prim.Native.Nat.{ℕ, ◌*◌}
 use lib.IntN.{ℤ, pos, negsuc, nat_abs}
+use Rattle.std.specs.Cmp.{signed_Decides}
+use Rattle.std.specs.Ordering.{int_eq}
 use borrow.Author.Tests.{leb-true, le-leb, eqb-true, eq-eqb}
-use Rattle.cyclotomic.specs.Zomega.{Zω, mk, zeroω, turn, is_zero, fits, Small}
+use Rattle.cyclotomic.specs.Zomega.{Zω, mk, zeroω, turn, eqω, is_zero, fits, Small}
 use Rattle.coefficients.specs.Coefficients.{limit, eq_z, within}
 use Rattle.ints.proofs.Bools.{clash, both_true, iff}
 use Rattle.cyclotomic.proofs.Turns.{turn_back, turn_zero}
@@ -47,6 +49,18 @@ eq_z-true (negsuc a) (negsuc b) h = ap negsuc (eqb-true a b h)
 pub eq_z-self : (x : ℤ) → eq_z x x ≡ true
 eq_z-self (pos a) = eq-eqb a a refl
 eq_z-self (negsuc a) = eq-eqb a a refl
+
+-- the derived equality is that of the definition
+int_eq_is : (x y : ℤ) → int_eq x y ≡ eq_z x y
+int_eq_is x y =
+    let d = signed_Decides x y in
+    iff (int_eq x y) (eq_z x y)
+    (λ h. ap (eq_z x) (sym (d.0 h)) ∙ eq_z-self x)
+    (λ h. d.1 (eq_z-true x y h))
+
+pub eq_is : (x y : Zω) → int_eq x.a y.a && (int_eq x.b y.b && (int_eq x.c y.c && int_eq x.d y.d)) ≡ eqω x y
+unfolding eqω
+eq_is x y = λ i. int_eq_is x.a y.a i && (int_eq_is x.b y.b i && (int_eq_is x.c y.c i && int_eq_is x.d y.d i))
 
 pub zero_yes : (x : Zω) → is_zero x ≡ true → x ≡ zeroω
 unfolding is_zero zeroω

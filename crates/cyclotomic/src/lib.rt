@@ -7,8 +7,9 @@ ghost use Rattle.std.specs.Prelude.{◌≡◌};
 ghost use Rattle.cyclotomic.specs.Zomega.{mk, zeroω, oneω, addω, subω, turn, sqrt2, divisible, over_sqrt2, eqω, is_zero, less, fits, Small, eight_of};
 
 pub use coefficients::{Coefficient, LIMIT, Wide, sizes_pass};
+use std::ops::{Add, Sub};
 
-#[derive(Clone, Copy)]
+#[derive(Clone, Copy, PartialEq, Eq)]
 pub struct Cyclotomic {
     pub a: Coefficient,
     pub b: Coefficient,
@@ -26,6 +27,42 @@ fn narrowed(a: Wide, b: Wide, c: Wide, d: Wide) -> Cyclotomic
         b: coefficients::narrow_coefficient(b),
         c: coefficients::narrow_coefficient(c),
         d: coefficients::narrow_coefficient(d),
+    }
+}
+
+// The sum, where it is within the limit.
+impl Add for Cyclotomic {
+    type Output = Cyclotomic;
+
+    ghost can_add = { λ x y. Small (addω x y) };
+
+    ghost add_gives = { λ x y z. z ≡ addω x y };
+
+    fn add(self, rhs: Cyclotomic) -> Cyclotomic {
+        narrowed(
+            coefficients::plus(self.a, rhs.a),
+            coefficients::plus(self.b, rhs.b),
+            coefficients::plus(self.c, rhs.c),
+            coefficients::plus(self.d, rhs.d),
+        )
+    }
+}
+
+// The difference, where it is within the limit.
+impl Sub for Cyclotomic {
+    type Output = Cyclotomic;
+
+    ghost can_sub = { λ x y. Small (subω x y) };
+
+    ghost sub_gives = { λ x y z. z ≡ subω x y };
+
+    fn sub(self, rhs: Cyclotomic) -> Cyclotomic {
+        narrowed(
+            coefficients::minus(self.a, rhs.a),
+            coefficients::minus(self.b, rhs.b),
+            coefficients::minus(self.c, rhs.c),
+            coefficients::minus(self.d, rhs.d),
+        )
     }
 }
 
@@ -61,44 +98,7 @@ impl Cyclotomic {
     pub fn is_zero(self) -> bool
         ensures { result ≡ is_zero self }
     {
-        self.equals(Cyclotomic::zero())
-    }
-
-    // Whether the two are the same.
-    pub fn equals(self, rhs: Cyclotomic) -> bool
-        ensures { result ≡ eqω self rhs }
-    {
-        let a = coefficients::same(self.a, rhs.a);
-        let b = coefficients::same(self.b, rhs.b);
-        let c = coefficients::same(self.c, rhs.c);
-        let d = coefficients::same(self.d, rhs.d);
-        a & (b & (c & d))
-    }
-
-    // The sum, where it is within the limit.
-    pub fn add(self, rhs: Cyclotomic) -> Cyclotomic
-        requires { Small (addω self rhs) }
-        ensures { result ≡ addω self rhs }
-    {
-        narrowed(
-            coefficients::plus(self.a, rhs.a),
-            coefficients::plus(self.b, rhs.b),
-            coefficients::plus(self.c, rhs.c),
-            coefficients::plus(self.d, rhs.d),
-        )
-    }
-
-    // The difference, where it is within the limit.
-    pub fn subtract(self, rhs: Cyclotomic) -> Cyclotomic
-        requires { Small (subω self rhs) }
-        ensures { result ≡ subω self rhs }
-    {
-        narrowed(
-            coefficients::minus(self.a, rhs.a),
-            coefficients::minus(self.b, rhs.b),
-            coefficients::minus(self.c, rhs.c),
-            coefficients::minus(self.d, rhs.d),
-        )
+        self == Cyclotomic::zero()
     }
 
     // One turn: omega times this. The paper has no other turn, so turns by powers are worked by single turns alone.
@@ -126,10 +126,8 @@ impl Cyclotomic {
         ensures { result ≡ turn power self }
     {
         let mut z = self;
-        let mut i: u8 = 0;
-        while i < power {
+        for _ in 0..power {
             z = z.turned();
-            i += 1;
         }
         z
     }
@@ -201,7 +199,8 @@ impl Cyclotomic {
     }
 
     // Whether this comes before the other: by a, then b, then c, then d, as signed numbers. It returns at the first pair
-    // that differs: with no branch, builds at width 1 took 4 % longer.
+    // that differs: with no branch, builds at width 1 took 4 % longer. By hand and not derived, since how two
+    // coefficients compare is a promise of `coefficients` (`below`), which has a must-fail edit of its own.
     #[tactic(auto, unfolding(crate::specs::Zomega::less))]
     pub fn less_than(self, rhs: Cyclotomic) -> bool
         ensures { result ≡ less self rhs }

@@ -3,14 +3,13 @@
 use mathlib.Core.Path.{◌≡◌, sym, ap, ◌∙◌, subst}
 use mathlib.Core.Bool.{Bool, not}
 use mathlib.Core.List.{List}
+use Rattle.std.specs.Prelude.{Option, Some, None}
 use Prim.Native.Nat.{ℕ, ◌+◌, ◌≤◌, ◌<◌}
 use native.Mathlib.Omega.{arith}
 use lib.IntN.{ℤ}
 use lib.ListN.{length, get_or, take}
 use lib.Seq.{length-take-le, get_or-take}
 use Rattle.exact.specs.Matrix.{Exact}
-use Rattle.node_matrix.specs.declared.Candidate.{Candidate}
-use Rattle.node_matrix.specs.declared.Candidate.TheVariants.{Print, DoesNotFit}
 use Rattle.node_matrix.specs.Matrices.{FormedAs}
 use Rattle.node_matrix.proofs.Prints.{print_given, print_refused}
 use Rattle.skip_rules.proofs.Sifting.{Sifted, sifted_none, sifted_skip, sifted_in, sifted_all, map_same}
@@ -59,20 +58,20 @@ module _ (n : ℕ) (x : Exact) {m : ℕ} {kept₀ prints₀ kept prints : List �
   in_source : i < length gs
   in_source = omega (arith, source_long room w)
 
-  put : {g : ℕ} {p : List ℤ} (r : Candidate) → g ≡ get_or gs i 0 → FormedAs n g x p r
+  put : {g : ℕ} {p : List ℤ} (r : Option (ℕ × ℕ)) → g ≡ get_or gs i 0 → FormedAs n g x p r
       → TwoSifted (unfit n x) (candidate_print n x) gs kept₀ prints₀ (placed_gate r g kept size) (placed_print r prints size) (placed_count r size) (i + 1)
-  put {g} (Print v k) q f =
+  put {g} (Some (v, k)) q f =
       let a = print_given n g x f.print in
       let e = ap (unfit n x) (sym q) ∙ ap not a.0 in record {
         gates = sifted_in w.gates in_source q e (omega (arith, w.gates.few, room.few, room.long_gates));
         words = sifted_in w.words in_source (a.1 ∙ ap (candidate_print n x) q) e (omega (arith, w.words.few, room.few, room.long_prints));
       }
-  put {g} DoesNotFit q f =
+  put {g} None q f =
       let e = ap (unfit n x) (sym q) ∙ ap not (print_refused n g x f.print) in
       record { gates = sifted_skip w.gates in_source e; words = sifted_skip w.words in_source e }
 
   -- by what the code returned and left
-  pub two_put : {g next : ℕ} {p : List ℤ} {kept' prints' : List ℕ} (r : Candidate) → g ≡ get_or gs i 0 → FormedAs n g x p r → next ≡ placed_count r size
+  pub two_put : {g next : ℕ} {p : List ℤ} {kept' prints' : List ℕ} (r : Option (ℕ × ℕ)) → g ≡ get_or gs i 0 → FormedAs n g x p r → next ≡ placed_count r size
       → kept' ≡ placed_gate r g kept size → prints' ≡ placed_print r prints size
       → TwoSifted (unfit n x) (candidate_print n x) gs kept₀ prints₀ kept' prints' next (i + 1)
   two_put {g} {next} {p} {kept'} {prints'} r q f a b c =

@@ -1,13 +1,11 @@
 -- Which gates are left because their step fits, and the fingerprints of their candidates: the contracts of `put_formed`
 -- and `fitting`. Assumes nothing.
-use Rattle.std.specs.Prelude.{◌≡◌, Bool, true, not, List, map, ℕ, ◌+◌, ◌≤◌, ◌<◌, length, take, get_or, set}
+use Rattle.std.specs.Prelude.{◌≡◌, Bool, true, not, List, map, ℕ, ◌+◌, ◌≤◌, ◌<◌, length, take, get_or, set, Option, Some, None}
 use Rattle.circuit.specs.Codes.{valid}
 use Rattle.exact.specs.Matrix.{Exact}
 use Rattle.exact.specs.Rows.{act, gate_of}
 use Rattle.exact.specs.Fits.{step_fits}
 use Rattle.exact.specs.Fingerprint.{fingerprint}
-use Rattle.node_matrix.specs.declared.Candidate.{Candidate}
-use Rattle.node_matrix.specs.declared.Candidate.TheVariants.{Print, DoesNotFit}
 use Rattle.skip_rules.specs.Skips.{unskipped}
 
 -- the step by the gate g after the matrix x does not fit
@@ -37,14 +35,14 @@ pub record ValidTo (n : ℕ) (kept : List ℕ) (size : ℕ) : Type 0 where
   pub at : (j : ℕ) → j < size → valid n (get_or kept j 0) ≡ true
 
 -- a candidate that fits is put at a place
-abbrev pub placed_count : Candidate → ℕ → ℕ
-placed_count (Print y k) at = at + 1
-placed_count DoesNotFit at = at
+abbrev pub placed_count : Option (ℕ × ℕ) → ℕ → ℕ
+placed_count (Some (y, k)) at = at + 1
+placed_count None at = at
 
-abbrev pub placed_gate : Candidate → ℕ → List ℕ → ℕ → List ℕ
-placed_gate (Print y k) g kept at = set kept at g
-placed_gate DoesNotFit g kept at = kept
+abbrev pub placed_gate : Option (ℕ × ℕ) → ℕ → List ℕ → ℕ → List ℕ
+placed_gate (Some (y, k)) g kept at = set kept at g
+placed_gate None g kept at = kept
 
-abbrev pub placed_print : Candidate → List ℕ → ℕ → List ℕ
-placed_print (Print y k) prints at = set prints at y
-placed_print DoesNotFit prints at = prints
+abbrev pub placed_print : Option (ℕ × ℕ) → List ℕ → ℕ → List ℕ
+placed_print (Some (y, k)) prints at = set prints at y
+placed_print None prints at = prints

@@ -10,14 +10,13 @@ ghost use Rattle.places.specs.Held.{Ready};
 ghost use Rattle.fitting_gates.specs.Fitting.{unfit, candidate_print, LeftOf, ValidTo, Room105, placed_gate, placed_print, placed_count};
 
 use cyclotomic::Coefficient;
-use node_matrix::Candidate;
 
 // One candidate that was formed: where it fits, its gate and its fingerprint are put at a place. Returns the next
 // place.
 fn put_formed(
     place: usize,
     gate: u32,
-    formed: Candidate,
+    formed: Option<(u64, u16)>,
     kept: &mut [u32; 105],
     prints: &mut [u64; 105],
 ) -> usize
@@ -26,7 +25,7 @@ fn put_formed(
     ensures gates { kept.new ≡ placed_gate formed gate kept.old place }
     ensures prints { prints.new ≡ placed_print formed prints.old place }
 {
-    let Candidate::Print(print, _) = formed else {
+    let Some((print, _)) = formed else {
         return place;
     };
     kept[place] = gate;
@@ -58,23 +57,17 @@ pub fn fitting(
     ensures long { (length left.new ≡ places) × (length right.new ≡ places) }
 {
     let mut fit = 0;
-    let mut j = 0;
-    while j + 1 < size {
-        let next = j + 1;
-        let g = kept[j];
-        let h = kept[next];
+    for pair in 0..size / 2 {
+        let g = kept[2 * pair];
+        let h = kept[2 * pair + 1];
         let two = node_matrix::two_prints(n, g, h, exponent, m, left, right);
-        let first = two.first;
-        let second = two.second;
-        let place = put_formed(fit, g, first, kept, prints);
-        fit = put_formed(place, h, second, kept, prints);
-        j += 2;
+        let place = put_formed(fit, g, two.first, kept, prints);
+        fit = put_formed(place, h, two.second, kept, prints);
     }
-    if j >= size {
+    if size % 2 == 0 {
         return fit;
     }
-    let last = kept[j];
+    let last = kept[size - 1];
     let both = node_matrix::two_prints(n, last, last, exponent, m, left, right);
-    let one = both.first;
-    put_formed(fit, last, one, kept, prints)
+    put_formed(fit, last, both.first, kept, prints)
 }

@@ -16,24 +16,20 @@ pub fn sizes_fit(m: &[Coefficient; 4096], p: usize, q: usize, len: usize) -> boo
     ensures { Tells (SizesFit m.now p q len) result }
 {
     let mut over = false;
-    let mut i = 0;
-    while i < len {
+    for i in 0..len {
         let x = m[p + i];
         let y = m[q + i];
         over = over | cyclotomic::sizes_pass(x, y);
-        i += 1;
     }
     !over
 }
 
 // Whether sqrt(2) times each of c entries from e on and of c entries from f on is within the limit.
 pub fn roots_fit(m: &[Coefficient; 4096], e: usize, f: usize, c: usize) -> bool
-    requires m_len { length m.now ≡ places }
     requires c_bound { (e + c ≤ f) × (f + c ≤ 1024) }
     ensures { Tells (SumsFit false m.now e f c) result }
 {
-    let mut i = 0;
-    while i < c {
+    for i in 0..c {
         let x = places::get(m, e + i);
         if !x.sqrt_2_fits() {
             return false;
@@ -42,41 +38,34 @@ pub fn roots_fit(m: &[Coefficient; 4096], e: usize, f: usize, c: usize) -> bool
         if !y.sqrt_2_fits() {
             return false;
         }
-        i += 1;
     }
     true
 }
 
 // c entries from e on and c entries from f on become their sums and their differences.
 pub fn sum_row(m: &mut [Coefficient; 4096], e: usize, f: usize, c: usize)
-    requires m_len { length m.old ≡ places }
     requires c_bound { (e + c ≤ f) × (f + c ≤ 1024) }
     requires sums_fit { SumsFit true m.old e f c }
     ensures { Summed true m.old m.new e f c }
 {
-    let mut i = 0;
-    while i < c {
+    for i in 0..c {
         let x = places::get(m, e + i);
         let y = places::get(m, f + i);
-        places::put_at(m, e + i, x.add(y));
-        places::put_at(m, f + i, x.subtract(y));
-        i += 1;
+        places::put_at(m, e + i, x + y);
+        places::put_at(m, f + i, x - y);
     }
 }
 
 // c entries from e on and c entries from f on are multiplied by sqrt(2).
 pub fn root_row(m: &mut [Coefficient; 4096], e: usize, f: usize, c: usize)
-    requires m_len { length m.old ≡ places }
     requires c_bound { (e + c ≤ f) × (f + c ≤ 1024) }
     requires sums_fit { SumsFit false m.old e f c }
     ensures { Summed false m.old m.new e f c }
 {
-    let mut i = 0;
-    while i < c {
+    for i in 0..c {
         let x = places::get(m, e + i);
         let y = places::get(m, f + i);
         places::put_at(m, e + i, x.times_sqrt_2());
         places::put_at(m, f + i, y.times_sqrt_2());
-        i += 1;
     }
 }

@@ -18,26 +18,19 @@ fn put_ones(m: &mut [Coefficient; 4096], n: usize)
     ensures kept { Kept n m.old m.new }
 {
     let d = places::dim(n);
-    let mut i = 0;
-    while i < d {
+    for i in 0..d {
         places::put_at(m, i * (d + 1), Cyclotomic::one());
-        i += 1;
     }
 }
 
 // 0 at the places of a matrix of width n.
 fn clear(m: &mut [Coefficient; 4096], n: usize)
-    requires m_len { length m.old ≡ places }
     requires n_bound { n ≤ 5 }
     ensures zero { AllZero n m.new }
     ensures kept { Kept n m.old m.new }
 {
     let size = 4 * places::area(n);
-    let mut i = 0;
-    while i < size {
-        m[i] = 0;
-        i += 1;
-    }
+    m[..size].fill(0);
 }
 
 // The identity of width n, put into places that are all 0.
@@ -52,7 +45,6 @@ pub fn put_identity(m: &mut [Coefficient; 4096], n: usize)
 
 // The same in the places of a matrix of width n, whatever they hold: in lent places the others need not be set.
 pub fn set_identity(m: &mut [Coefficient; 4096], n: usize)
-    requires m_len { length m.old ≡ places }
     requires n_bound { n ≤ 5 }
     ensures identity { Holds n 0 m.new identity }
     ensures kept { Kept n m.old m.new }

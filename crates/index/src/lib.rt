@@ -6,10 +6,11 @@
 ghost use Rattle.std.specs.Prelude.{◌≡◌, ◌+◌, ◌%◌, ◌<◌, ◌≤◌, length, replicate, []};
 ghost use Rattle.circuit.specs.Codes.{mark};
 ghost use Rattle.synthesis_arena.specs.Lookup.{told_found};
-ghost use Rattle.walk.specs.Index.{place_of, leads, probed, inserted, filled, looked_up, kept_up, kept};
-ghost use Rattle.index.specs.Told.{told_by};
+ghost use Rattle.walk.specs.Index.{place_of, leads, probed, inserted, filled, kept_up, kept};
+ghost use Rattle.walk.specs.Finds.{looked_in};
+ghost use Rattle.index.specs.Told.{told_by, told_part};
 
-use synthesis_arena::{Found, MARK};
+use synthesis_arena::MARK;
 
 // Where a probe begins. A part of an index has a power of two of places, and then no division is needed.
 fn first_place(size: usize, fingerprint: u64) -> usize
@@ -57,28 +58,26 @@ pub fn probe(
     count: usize,
     from: usize,
     fingerprint: u64,
-) -> Found
+) -> Option<usize>
     requires within { count ≤ length fingerprints.now }
     ensures probed { told_found result ≡ probed index.now fingerprints.now count from fingerprint }
 {
     let size = index.len();
     if size == 0 {
-        return Found::NotFound;
+        return None;
     }
     let mut place = first_place(size, fingerprint);
-    let mut j = 0;
-    while j < size {
+    for _step in 0..size {
         let node = index[place];
         if node == MARK {
-            return Found::NotFound;
+            return None;
         }
         if leads_to(fingerprints, count, from, fingerprint, node as usize) {
-            return Found::At(node as usize);
+            return Some(node as usize);
         }
         place = next_place(size, place);
-        j += 1;
     }
-    Found::NotFound
+    None
 }
 
 // A node is put at the first empty place of its probe; where none is empty, the part stays (SPECIFICATION 7.14).
@@ -90,14 +89,12 @@ pub fn insert(index: &mut [u32], fingerprint: u64, node: u32)
         return;
     }
     let mut place = first_place(size, fingerprint);
-    let mut j = 0;
-    while j < size {
+    for _step in 0..size {
         if index[place] == MARK {
             index[place] = node;
             return;
         }
         place = next_place(size, place);
-        j += 1;
     }
 }
 
@@ -105,11 +102,7 @@ pub fn insert(index: &mut [u32], fingerprint: u64, node: u32)
 pub fn clear(index: &mut [u32])
     ensures cleared { index.new ≡ replicate (length index.old) mark }
 {
-    let mut i = 0;
-    while i < index.len() {
-        index[i] = MARK;
-        i += 1;
-    }
+    index.fill(MARK);
 }
 
 // The part is cleared and filled from the nodes below the count, rising (SPECIFICATION 7.14).
@@ -118,10 +111,8 @@ pub fn fill(index: &mut [u32], fingerprints: &[u64], count: usize)
     ensures filled { index.new ≡ filled fingerprints.now (length index.old) count }
 {
     clear(index);
-    let mut i = 0;
-    while i < count {
-        insert(index, fingerprints[i], i as u32);
-        i += 1;
+    for (i, &fingerprint) in fingerprints[..count].iter().enumerate() {
+        insert(index, fingerprint, i as u32);
     }
 }
 
@@ -132,21 +123,30 @@ pub enum LookupBy {
     Index,
 }
 
-// The node that the look-up finds, of those from a place on and below the count.
-pub fn look_up(
-    by: LookupBy,
-    index: &[u32],
-    fingerprints: &[u64],
-    count: usize,
-    from: usize,
-    fingerprint: u64,
-) -> Found
-    requires within { count ≤ length fingerprints.now }
-    ensures looked_up { told_found result ≡ looked_up (told_by by) index.now fingerprints.now count from fingerprint }
-{
-    match by {
-        LookupBy::Scan => synthesis_arena::node_for(fingerprints, count, from, fingerprint),
-        LookupBy::Index => probe(index, fingerprints, count, from, fingerprint),
+// One width's part of a table and of an index, lent to be read: how its nodes are looked up, how many it has, and its
+// places of each array (SPECIFICATION 6.2, 7.13).
+#[derive(Clone, Copy)]
+pub struct Part<'a> {
+    pub by: LookupBy,
+    pub count: usize,
+    pub fingerprints: &'a [u64],
+    pub parents: &'a [u32],
+    pub codes: &'a [u32],
+    pub index: &'a [u32],
+}
+
+impl Part<'_> {
+    // The node that the look-up finds, of those from a place on and below the count.
+    pub fn look_up(self, from: usize, fingerprint: u64) -> Option<usize>
+        requires within { self.count ≤ length self.fingerprints.now }
+        ensures looked_up { told_found result ≡ looked_in (told_part self.entry) from fingerprint }
+    {
+        match self.by {
+            LookupBy::Scan => {
+                synthesis_arena::node_for(self.fingerprints, self.count, from, fingerprint)
+            }
+            LookupBy::Index => probe(self.index, self.fingerprints, self.count, from, fingerprint),
+        }
     }
 }
 

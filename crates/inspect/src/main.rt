@@ -40,7 +40,7 @@ use circuits_text::NEWLINE;
 use index::LookupBy;
 use inspect_room::Lookup;
 use inspect_words::First;
-use murm::{Building, Filling};
+use murm_config::Murm;
 use refusal::Refusal;
 use std::io;
 
@@ -48,8 +48,8 @@ use std::io;
 #[derive(Clone, Copy)]
 struct State {
     lookup: Lookup,
-    table: Building,
-    filling: Filling,
+    table: Result<Murm, Refusal>,
+    filling: Result<(), Refusal>,
 }
 
 fn first_state() -> State {
@@ -58,8 +58,8 @@ fn first_state() -> State {
             by: LookupBy::Scan,
             size: 1,
         },
-        table: Building::Refused(Refusal::BrokenLine),
-        filling: Filling::Filled,
+        table: Err(Refusal::BrokenLine),
+        filling: Ok(()),
     }
 }
 
@@ -75,13 +75,13 @@ fn lookup_after(word: First, last: Lookup) -> Lookup {
 fn table_after(
     word: First,
     lookup: Lookup,
-    last: Building,
+    last: Result<Murm, Refusal>,
     fingerprints: &mut [u64],
     parents: &mut [u32],
     codes: &mut [u32],
     index: &mut [u32],
     rest: &[u8],
-) -> Building {
+) -> Result<Murm, Refusal> {
     let First::Table(mode) = word else {
         return last;
     };
@@ -92,14 +92,14 @@ fn table_after(
 fn index_after(
     word: First,
     lookup: Lookup,
-    table: Building,
+    table: Result<Murm, Refusal>,
     fingerprints: &[u64],
     parents: &[u32],
     codes: &[u32],
     index: &mut [u32],
-) -> Filling {
+) -> Result<(), Refusal> {
     let First::Index(w) = word else {
-        return Filling::Filled;
+        return Ok(());
     };
     inspect_index::index_after(w, lookup, table, fingerprints, parents, codes, index)
 }

@@ -1,15 +1,13 @@
 // The words `matrix`, `find` and `write` of `inspect`: what the table at hand tells. A line is read by inspect_read,
-// and what the table told is handed on as one value: so no function has both the arrays of the table and the output but
-// the last.
+// and what the table told, or why it was refused, is handed on as one value: so no function has both the arrays of the
+// table and the output but the last.
 #![tactic(auto)]
 
 ghost use Rattle.std.specs.Prelude.{◌+◌, ◌≤◌, length};
 
 use circuits_text::{NEWLINE, SPACE};
 use index::LookupBy;
-use inspect_read::{Asked, Wanted};
 use inspect_room::Lookup;
-use murm::{Building, FoundNode, Synthesized, Written};
 use murm_config::Murm;
 use refusal::Refusal;
 
@@ -21,14 +19,13 @@ pub enum Asks {
     Write,
 }
 
-// What a table told: its answer to a matrix of this fingerprint, the node found for one, or what the list of a node
-// came to; or the line is broken.
+// What a table told: its answer to a matrix of this fingerprint, the node found for one and how many gates its list
+// has, or how long the list of a node is.
 #[derive(Clone, Copy)]
 enum Told {
-    Answer(u64, Synthesized),
-    Found(FoundNode),
-    List(Written),
-    Broken,
+    Answer(u64, Option<usize>),
+    Found(Option<(usize, usize)>),
+    List(usize),
 }
 
 // A table is asked for the matrix of a line.
@@ -41,27 +38,24 @@ fn ask_matrix(
     index: &[u32],
     rest: &[u8],
     list: &mut [u32],
-) -> Told {
+) -> Result<Told, Refusal> {
     let mut space = inspect_room::coefficient_space();
-    match inspect_read::read_matrix(rest, &mut space) {
-        Asked::Matrix(width, k, n) => {
-            let fingerprint = inspect_room::fingerprint_of(width, k, &space[..n]);
-            let answer = murm::synthesize_by(
-                by,
-                table,
-                fingerprints,
-                parents,
-                codes,
-                index,
-                width,
-                k,
-                &space[..n],
-                list,
-            );
-            Told::Answer(fingerprint, answer)
-        }
-        Asked::Broken => Told::Broken,
-    }
+    let asked = inspect_read::read_matrix(rest, &mut space);
+    let (width, k, n) = asked.ok_or(Refusal::BrokenLine)?;
+    let fingerprint = inspect_room::fingerprint_of(width, k, &space[..n]);
+    let answer = murm::synthesize_by(
+        by,
+        table,
+        fingerprints,
+        parents,
+        codes,
+        index,
+        width,
+        k,
+        &space[..n],
+        list,
+    )?;
+    Ok(Told::Answer(fingerprint, answer))
 }
 
 // The node for the matrix of a line is found (SPECIFICATION 7.10).
@@ -73,22 +67,22 @@ fn ask_find(
     codes: &[u32],
     index: &[u32],
     rest: &[u8],
-) -> Told {
+) -> Result<Told, Refusal> {
     let mut space = inspect_room::coefficient_space();
-    match inspect_read::read_matrix(rest, &mut space) {
-        Asked::Matrix(width, k, n) => Told::Found(murm::find_by(
-            by,
-            table,
-            fingerprints,
-            parents,
-            codes,
-            index,
-            width,
-            k,
-            &space[..n],
-        )),
-        Asked::Broken => Told::Broken,
-    }
+    let asked = inspect_read::read_matrix(rest, &mut space);
+    let (width, k, n) = asked.ok_or(Refusal::BrokenLine)?;
+    let found = murm::find_by(
+        by,
+        table,
+        fingerprints,
+        parents,
+        codes,
+        index,
+        width,
+        k,
+        &space[..n],
+    )?;
+    Ok(Told::Found(found))
 }
 
 // The list of the node of a line is written (SPECIFICATION 7.11), into as many of the lent places as the line says.
@@ -99,21 +93,21 @@ fn ask_write(
     codes: &[u32],
     rest: &[u8],
     list: &mut [u32],
-) -> Told
+) -> Result<Told, Refusal>
     requires { 64 ≤ length list.old }
 {
-    match inspect_read::read_node(rest) {
-        Wanted::Node(width, node, places) => Told::List(murm::write(
-            table,
-            fingerprints,
-            parents,
-            codes,
-            width,
-            node as usize,
-            &mut list[..places],
-        )),
-        Wanted::Broken => Told::Broken,
-    }
+    let wanted = inspect_read::read_node(rest);
+    let (width, node, places) = wanted.ok_or(Refusal::BrokenLine)?;
+    let size = murm::write(
+        table,
+        fingerprints,
+        parents,
+        codes,
+        width,
+        node as usize,
+        &mut list[..places],
+    )?;
+    Ok(Told::List(size))
 }
 
 // A table is asked by a line.
@@ -127,7 +121,7 @@ fn ask(
     index: &[u32],
     rest: &[u8],
     list: &mut [u32],
-) -> Told
+) -> Result<Told, Refusal>
     requires { 64 ≤ length list.old }
 {
     match what {
@@ -156,42 +150,34 @@ fn put_circuit(out: &mut [u8], at: usize, list: &[u32]) -> usize
     circuits_text::put_byte(out, end, NEWLINE)
 }
 
-// What the list of a node came to, with the list lent for it: at most 735 bytes. That a list is no longer than the lent
-// one is tested, so that no contract of an entry is used.
-fn put_written(written: Written, list: &[u32], out: &mut [u8], at: usize) -> usize
+// The list of a node, of this length, in the list lent for it: at most 735 bytes. That it is no longer than the lent one
+// is tested, so that no contract of an entry is used.
+fn put_written(size: usize, list: &[u32], out: &mut [u8], at: usize) -> usize
     requires { (at + 735 ≤ length out.old) × (length list.now ≤ 64) }
     ensures { result ≤ at + 735 }
 {
-    match written {
-        Written::List(m) => {
-            if list.len() < m {
-                return circuits_lines::put_refused(out, at, Refusal::ListTooShort);
-            }
-            put_circuit(out, at, &list[..m])
-        }
-        Written::Refused(r) => circuits_lines::put_refused(out, at, r),
+    match list.get(..size) {
+        Some(circuit) => put_circuit(out, at, circuit),
+        None => circuits_lines::put_refused(out, at, Refusal::ListTooShort),
     }
 }
 
 // The node found: at most 50 bytes.
-fn put_found(found: FoundNode, out: &mut [u8], at: usize) -> usize
+fn put_found(found: Option<(usize, usize)>, out: &mut [u8], at: usize) -> usize
     requires { at + 50 ≤ length out.old }
     ensures { result ≤ at + 50 }
 {
-    match found {
-        FoundNode::Node(node, size) => {
-            let next = circuits_lines::put_number(out, at, node as u64, SPACE);
-            circuits_lines::put_number(out, next, size as u64, NEWLINE)
-        }
-        FoundNode::Nothing => circuits_text::put_bytes(out, at, b"none\n"),
-        FoundNode::Refused(r) => circuits_lines::put_refused(out, at, r),
-    }
+    let Some((node, size)) = found else {
+        return circuits_text::put_bytes(out, at, b"none\n");
+    };
+    let next = circuits_lines::put_number(out, at, node as u64, SPACE);
+    circuits_lines::put_number(out, next, size as u64, NEWLINE)
 }
 
 // A table's answer to a matrix of this fingerprint, with the list lent for it: at most 752 bytes.
 fn put_answer(
     fingerprint: u64,
-    answer: Synthesized,
+    answer: Option<usize>,
     list: &[u32],
     out: &mut [u8],
     at: usize,
@@ -199,37 +185,30 @@ fn put_answer(
     requires { (at + 752 ≤ length out.old) × (length list.now ≤ 64) }
     ensures { result ≤ at + 752 }
 {
+    let next = put_fingerprint(out, at, fingerprint);
     match answer {
-        Synthesized::Circuit(m) => {
-            let next = put_fingerprint(out, at, fingerprint);
-            put_written(Written::List(m), list, out, next)
-        }
-        Synthesized::Nothing => {
-            let next = put_fingerprint(out, at, fingerprint);
-            put_found(FoundNode::Nothing, out, next)
-        }
-        Synthesized::Refused(r) => circuits_lines::put_refused(out, at, r),
+        Some(size) => put_written(size, list, out, next),
+        None => circuits_text::put_bytes(out, next, b"none\n"),
     }
 }
 
-// What a table told, with the list lent to it: at most 752 bytes.
-fn put_told(told: Told, list: &[u32], out: &mut [u8], at: usize) -> usize
+// What a table told, with the list lent to it, or why it was refused: at most 752 bytes.
+fn put_told(told: Result<Told, Refusal>, list: &[u32], out: &mut [u8], at: usize) -> usize
     requires { (at + 752 ≤ length out.old) × (length list.now ≤ 64) }
     ensures { result ≤ at + 752 }
 {
     match told {
-        Told::Answer(fingerprint, answer) => put_answer(fingerprint, answer, list, out, at),
-        Told::Found(found) => put_found(found, out, at),
-        Told::List(written) => put_written(written, list, out, at),
-        Told::Broken => circuits_lines::put_refused(out, at, Refusal::BrokenLine),
+        Ok(Told::Answer(fingerprint, answer)) => put_answer(fingerprint, answer, list, out, at),
+        Ok(Told::Found(found)) => put_found(found, out, at),
+        Ok(Told::List(size)) => put_written(size, list, out, at),
+        Err(r) => circuits_lines::put_refused(out, at, r),
     }
 }
 
 // Whether a word looks up in an index of more places than there are.
 fn no_index(what: Asks, lookup: Lookup, widths: u32, places: usize) -> bool {
     match what {
-        Asks::Matrix => inspect_room::too_large(lookup, widths, places),
-        Asks::Find => inspect_room::too_large(lookup, widths, places),
+        Asks::Matrix | Asks::Find => inspect_room::too_large(lookup, widths, places),
         Asks::Write => false,
     }
 }
@@ -238,7 +217,7 @@ fn no_index(what: Asks, lookup: Lookup, widths: u32, places: usize) -> bool {
 pub fn put_asked(
     what: Asks,
     lookup: Lookup,
-    built: Building,
+    built: Result<Murm, Refusal>,
     fingerprints: &[u64],
     parents: &[u32],
     codes: &[u32],
@@ -250,7 +229,7 @@ pub fn put_asked(
     requires { at + 752 ≤ length out.old }
     ensures { result ≤ at + 752 }
 {
-    let Building::Table(table) = built else {
+    let Ok(table) = built else {
         return circuits_lines::put_refused(out, at, Refusal::BrokenLine);
     };
     if no_index(what, lookup, table.config.max_qubits, index.len()) {

@@ -5,10 +5,9 @@
 
 ghost use Rattle.std.specs.Prelude.{◌+◌, ◌≤◌, IfOk, length, OnErr, ◌≡◌};
 
-use circuits_text::{NEWLINE, SPACE, Word};
+use circuits_text::{NEWLINE, SPACE};
 use index::LookupBy;
 use inspect_room::Lookup;
-use murm::{Building, Filling};
 use murm_config::Murm;
 use refusal::Refusal;
 use std::io;
@@ -26,13 +25,10 @@ pub enum IndexWord {
 
 // What follows the word `index` and its space: M.
 pub fn index_word(rest: &[u8]) -> IndexWord {
-    let Word::Number(m) = circuits_text::number(rest) else {
-        return IndexWord::Broken;
-    };
-    if 18 < m {
-        return IndexWord::Broken;
+    match circuits_text::number(rest) {
+        Some(m) if m <= 18 => IndexWord::Index(m, 1 << m),
+        _ => IndexWord::Broken,
     }
-    IndexWord::Index(m, 1 << m)
 }
 
 // The look-up after a line.
@@ -58,7 +54,7 @@ fn fill_from(
     parents: &[u32],
     codes: &[u32],
     index: &mut [u32],
-) -> Filling {
+) -> Result<(), Refusal> {
     let end = inspect_room::index_end(table.config.max_qubits, size, index.len());
     murm::fill_index(table, fingerprints, parents, codes, &mut index[..end])
 }
@@ -66,21 +62,21 @@ fn fill_from(
 // The same of the last table, where an index is used.
 fn fill(
     lookup: Lookup,
-    built: Building,
+    built: Result<Murm, Refusal>,
     fingerprints: &[u64],
     parents: &[u32],
     codes: &[u32],
     index: &mut [u32],
-) -> Filling {
+) -> Result<(), Refusal> {
     let by = lookup.by;
     let LookupBy::Index = by else {
-        return Filling::Refused(Refusal::BrokenLine);
+        return Err(Refusal::BrokenLine);
     };
-    let Building::Table(table) = built else {
-        return Filling::Refused(Refusal::BrokenLine);
+    let Ok(table) = built else {
+        return Err(Refusal::BrokenLine);
     };
     if inspect_room::too_large(lookup, table.config.max_qubits, index.len()) {
-        return Filling::Refused(Refusal::BrokenLine);
+        return Err(Refusal::BrokenLine);
     }
     fill_from(table, lookup.size, fingerprints, parents, codes, index)
 }
@@ -89,19 +85,19 @@ fn fill(
 pub fn index_after(
     word: IndexWord,
     lookup: Lookup,
-    table: Building,
+    table: Result<Murm, Refusal>,
     fingerprints: &[u64],
     parents: &[u32],
     codes: &[u32],
     index: &mut [u32],
-) -> Filling {
+) -> Result<(), Refusal> {
     match word {
         IndexWord::Index(_, _) => {
             index::clear(index);
-            Filling::Filled
+            Ok(())
         }
         IndexWord::Fill => fill(lookup, table, fingerprints, parents, codes, index),
-        _ => Filling::Filled,
+        _ => Ok(()),
     }
 }
 
@@ -115,13 +111,13 @@ fn put_index(out: &mut [u8], at: usize, m: u32) -> usize
 }
 
 // What a fill came to: at most 50 bytes.
-fn put_filling(filling: Filling, out: &mut [u8], at: usize) -> usize
+fn put_filling(filling: Result<(), Refusal>, out: &mut [u8], at: usize) -> usize
     requires { at + 50 ≤ length out.old }
     ensures { result ≤ at + 50 }
 {
     match filling {
-        Filling::Filled => circuits_text::put_bytes(out, at, b"fill\n"),
-        Filling::Refused(r) => circuits_lines::put_refused(out, at, r),
+        Ok(()) => circuits_text::put_bytes(out, at, b"fill\n"),
+        Err(r) => circuits_lines::put_refused(out, at, r),
     }
 }
 
@@ -157,10 +153,8 @@ fn put_part(
     ensures { IfOk result (λ n. n ≤ 65536) }
 {
     let mut p = filled;
-    let mut i = start;
-    while i < end {
+    for i in start..end {
         p = put_place(rt, out, p, i - start, index[i])?;
-        i += 1;
     }
     Ok(p)
 }
@@ -198,10 +192,8 @@ fn put_parts(
     ensures { IfOk result (λ n. n ≤ 65536) }
 {
     let mut p = filled;
-    let mut w = 0;
-    while w < widths {
+    for w in 0..widths {
         p = put_width_part(rt, w + 1, size, index, out, p)?;
-        w += 1;
     }
     Ok(p)
 }
@@ -210,7 +202,7 @@ fn put_parts(
 fn put_places(
     rt: &impl Print,
     lookup: Lookup,
-    built: Building,
+    built: Result<Murm, Refusal>,
     index: &[u32],
     out: &mut [u8],
     at: usize,
@@ -222,7 +214,7 @@ fn put_places(
     let LookupBy::Index = by else {
         return Ok(circuits_lines::put_refused(out, at, Refusal::BrokenLine));
     };
-    let Building::Table(table) = built else {
+    let Ok(table) = built else {
         return Ok(circuits_lines::put_refused(out, at, Refusal::BrokenLine));
     };
     if inspect_room::too_large(lookup, table.config.max_qubits, index.len()) {
@@ -236,8 +228,8 @@ pub fn put_index_word(
     rt: &impl Print,
     word: IndexWord,
     lookup: Lookup,
-    table: Building,
-    filling: Filling,
+    table: Result<Murm, Refusal>,
+    filling: Result<(), Refusal>,
     index: &[u32],
     out: &mut [u8],
     at: usize,

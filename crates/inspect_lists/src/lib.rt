@@ -4,14 +4,8 @@
 
 ghost use Rattle.std.specs.Prelude.{◌+◌, ◌*◌, ◌≤◌, length};
 
-use circuits_input::Question;
 use circuits_text::{NEWLINE, SPACE};
 use cyclotomic::Coefficient;
-use murm::Listed;
-
-fn wide(x: Coefficient) -> i32 {
-    x as i32
-}
 
 // Each coefficient after a space: at most 12 bytes each.
 fn put_coefficients(coefficients: &[Coefficient], out: &mut [u8], at: usize) -> usize
@@ -19,11 +13,9 @@ fn put_coefficients(coefficients: &[Coefficient], out: &mut [u8], at: usize) -> 
     ensures { result ≤ at + 12 * length coefficients.now }
 {
     let mut p = at;
-    let mut i = 0;
-    while i < coefficients.len() {
+    for x in coefficients {
         let next = circuits_text::put_byte(out, p, SPACE);
-        p = circuits_text::put_signed(out, next, wide(coefficients[i]));
-        i += 1;
+        p = circuits_text::put_signed(out, next, i32::from(*x));
     }
     p
 }
@@ -55,8 +47,8 @@ fn put_list(width: u32, codes: &[u32], out: &mut [u8], at: usize) -> usize
     let mut space = inspect_room::coefficient_space();
     let n = circuits_answers::coefficient_count(width);
     match murm::library_circuit_matrix(width, codes, &mut space[..n]) {
-        Listed::Matrix(k) => put_matrix(width, k, &space[..n], out, at),
-        Listed::Refused(r) => circuits_lines::put_refused(out, at, r),
+        Ok(k) => put_matrix(width, k, &space[..n], out, at),
+        Err(r) => circuits_lines::put_refused(out, at, r),
     }
 }
 
@@ -67,7 +59,7 @@ pub fn put_list_line(rest: &[u8], out: &mut [u8], at: usize) -> usize
 {
     let mut numbers = [0u32; 258];
     match circuits_input::read_query(rest, &mut numbers) {
-        Question::List(width, end) => put_list(width, &numbers[2..end], out, at),
-        Question::Refused(r) => circuits_lines::put_refused(out, at, r),
+        Ok((width, end)) => put_list(width, &numbers[2..end], out, at),
+        Err(r) => circuits_lines::put_refused(out, at, r),
     }
 }

@@ -7,15 +7,11 @@ ghost use Rattle.std.specs.Prelude.{◌≡◌, ◌≤◌, IfOk, length};
 
 use cyclotomic::Coefficient;
 use index::LookupBy;
-use murm::Fingerprinted;
 use std::io;
 
 // The fingerprint of a matrix; 0 where it is refused.
 pub fn fingerprint_of(width: u32, exponent: u16, coefficients: &[Coefficient]) -> u64 {
-    match murm::library_fingerprint(width, exponent, coefficients) {
-        Fingerprinted::Fingerprint(f) => f,
-        Fingerprinted::Refused(_) => 0,
-    }
+    murm::library_fingerprint(width, exponent, coefficients).unwrap_or(0)
 }
 
 // Places for the largest matrix, and one more.
@@ -42,13 +38,10 @@ pub fn make_room(rt: &impl Print, out: &[u8], filled: usize) -> io::Result<usize
 pub fn part_end(start: usize, count: usize, places: usize) -> usize
     ensures { result ≤ places }
 {
-    if places < start {
-        return 0;
+    match start.checked_add(count) {
+        Some(end) if end <= places => end,
+        _ => 0,
     }
-    if places - start < count {
-        return 0;
-    }
-    start + count
 }
 
 // Of two numbers that may be any.
@@ -74,14 +67,7 @@ pub fn index_end(widths: u32, size: u32, places: usize) -> usize
 // table has: a build refuses those by its own checks.
 pub fn too_large(lookup: Lookup, widths: u32, places: usize) -> bool {
     let by = lookup.by;
-    let LookupBy::Index = by else {
-        return false;
-    };
-    if widths < 1 {
-        return false;
-    }
-    if 5 < widths {
-        return false;
-    }
-    places < product(widths, lookup.size)
+    matches!(by, LookupBy::Index)
+        && (1..=5).contains(&widths)
+        && places < product(widths, lookup.size)
 }

@@ -5,11 +5,9 @@
 
 ghost use Rattle.std.specs.Prelude.{◌+◌, ◌≤◌, IfOk, length, OnErr, ◌≡◌};
 
-use circuits_input::LineOne;
 use circuits_text::{NEWLINE, SPACE};
 use inspect_room::Lookup;
 use known::BuildMode;
-use murm::Building;
 use murm_config::{Murm, MurmConfig};
 use refusal::Refusal;
 use std::io;
@@ -41,29 +39,11 @@ fn put_nodes(
     ensures { IfOk result (λ n. n ≤ 65536) }
 {
     let mut p = filled;
-    let mut i = start;
-    while i < end {
+    for i in start..end {
         let next = inspect_room::make_room(rt, out, p)?;
         p = put_node(out, next, fingerprints[i], parents[i], codes[i]);
-        i += 1;
     }
     Ok(p)
-}
-
-// How many places the shortest of three arrays has.
-fn least(a: usize, b: usize, c: usize) -> usize
-    ensures { (result ≤ a) × (result ≤ b) × (result ≤ c) }
-{
-    if a <= b {
-        if a <= c {
-            return a;
-        }
-        return c;
-    }
-    if b <= c {
-        return b;
-    }
-    c
 }
 
 // A width's row and its nodes. That they are within the arrays is tested, so that no contract of the build is used.
@@ -82,7 +62,7 @@ fn put_width(
 {
     let row = murm_config::width_table(table, width);
     let start = inspect_room::product(width - 1, table.config.max_entries_per_qubit);
-    let places = least(fingerprints.len(), parents.len(), codes.len());
+    let places = fingerprints.len().min(parents.len()).min(codes.len());
     let end = inspect_room::part_end(start, row.count, places);
     let at = inspect_room::make_room(rt, out, filled)?;
     let next = circuits_lines::put_table_line(out, at, width, row);
@@ -105,10 +85,8 @@ fn put_widths(
     let t = table;
     let q = t.config.max_qubits;
     let mut p = filled;
-    let mut w = 0;
-    while w < q {
+    for w in 0..q {
         p = put_width(rt, t, w + 1, fingerprints, parents, codes, out, p)?;
-        w += 1;
     }
     Ok(p)
 }
@@ -117,7 +95,7 @@ fn put_widths(
 // bytes.
 pub fn put_table(
     rt: &impl Print,
-    built: Building,
+    built: Result<Murm, Refusal>,
     fingerprints: &[u64],
     parents: &[u32],
     codes: &[u32],
@@ -129,8 +107,8 @@ pub fn put_table(
     ensures failed { OnErr result (length out.new ≡ length out.old) }
 {
     match built {
-        Building::Table(table) => put_widths(rt, table, fingerprints, parents, codes, out, at),
-        Building::Refused(r) => Ok(circuits_lines::put_refused(out, at, r)),
+        Ok(table) => put_widths(rt, table, fingerprints, parents, codes, out, at),
+        Err(r) => Ok(circuits_lines::put_refused(out, at, r)),
     }
 }
 
@@ -143,9 +121,9 @@ fn build(
     parents: &mut [u32],
     codes: &mut [u32],
     index: &mut [u32],
-) -> Building {
+) -> Result<Murm, Refusal> {
     if inspect_room::too_large(lookup, config.max_qubits, index.len()) {
-        return Building::Refused(Refusal::BrokenLine);
+        return Err(Refusal::BrokenLine);
     }
     let by = lookup.by;
     let end = inspect_room::index_end(config.max_qubits, lookup.size, index.len());
@@ -169,9 +147,7 @@ pub fn build_line(
     parents: &mut [u32],
     codes: &mut [u32],
     index: &mut [u32],
-) -> Building {
-    match circuits_input::read_line_one(rest) {
-        LineOne::Limits(config) => build(mode, lookup, config, fingerprints, parents, codes, index),
-        LineOne::Refused(r) => Building::Refused(r),
-    }
+) -> Result<Murm, Refusal> {
+    let config = circuits_input::read_line_one(rest)?;
+    build(mode, lookup, config, fingerprints, parents, codes, index)
 }

@@ -21,42 +21,26 @@ pub enum First {
 
 // A word that is the whole line.
 fn lone_word(word: &[u8]) -> First {
-    if circuits_text::same_bytes(word, b"scan") {
-        return First::Index(IndexWord::Scan);
+    match word {
+        b"scan" => First::Index(IndexWord::Scan),
+        b"places" => First::Index(IndexWord::Places),
+        b"fill" => First::Index(IndexWord::Fill),
+        _ => First::Other,
     }
-    if circuits_text::same_bytes(word, b"places") {
-        return First::Index(IndexWord::Places);
-    }
-    if circuits_text::same_bytes(word, b"fill") {
-        return First::Index(IndexWord::Fill);
-    }
-    First::Other
 }
 
 // A word and what follows its space.
 fn first_word(word: &[u8], rest: &[u8]) -> First {
-    if circuits_text::same_bytes(word, b"list") {
-        return First::List;
+    match word {
+        b"list" => First::List,
+        b"table" => First::Table(BuildMode::ByPrint),
+        b"clashes" => First::Table(BuildMode::Keeping),
+        b"matrix" => First::Asks(Asks::Matrix),
+        b"find" => First::Asks(Asks::Find),
+        b"write" => First::Asks(Asks::Write),
+        b"index" => First::Index(inspect_index::index_word(rest)),
+        _ => First::Other,
     }
-    if circuits_text::same_bytes(word, b"table") {
-        return First::Table(BuildMode::ByPrint);
-    }
-    if circuits_text::same_bytes(word, b"clashes") {
-        return First::Table(BuildMode::Keeping);
-    }
-    if circuits_text::same_bytes(word, b"matrix") {
-        return First::Asks(Asks::Matrix);
-    }
-    if circuits_text::same_bytes(word, b"find") {
-        return First::Asks(Asks::Find);
-    }
-    if circuits_text::same_bytes(word, b"write") {
-        return First::Asks(Asks::Write);
-    }
-    if circuits_text::same_bytes(word, b"index") {
-        return First::Index(inspect_index::index_word(rest));
-    }
-    First::Other
 }
 
 // A line's first word, and where the rest begins.

@@ -7,7 +7,7 @@ use native.Mathlib.Omega.{arith}
 use borrow.Author.Tests.{eqb-true, eqb-false, eq-eqb, ne_eqb, not-true, le-ltb, leb-true}
 use native.Mathlib.Decide.{dec_lt}
 use Rattle.ints.specs.Lists.{all, range}
-use Rattle.ints.proofs.Bools.{all_range, or-false, both_true}
+use Rattle.ints.proofs.Bools.{clash, all_range, or-false, both_true}
 use lib.Dec.{eqb, ltb, leb, lit≤}
 use lib.ListN.{length, get_or, take, get_or-eq_default}
 use Rattle.kinds.specs.Kinds.{Kind, kinds, kind_at, number, arity, sorted, is_kind, of_tables}
@@ -18,39 +18,42 @@ pub kind_past : (k : ℕ) → 27 ≤ k → kind_at k ≡ Other
 unfolding kind_at
 kind_past k h = get_or-eq_default kinds Other h
 
--- a constant of the code that has f of each kind below 12, at one of them
-pub in_table : (f : Kind → ℕ) (k : ℕ) → k < 12 → get_or (map f (take 12 kinds)) k 0 ≡ f (kind_at k)
-unfolding kind_at
-in_table f k h = from kinds 12 k h (lit≤ tt)
-  where
-    from : (l : List Kind) (m i : ℕ) → i < m → m ≤ length l → get_or (map f (take m l)) i 0 ≡ f (get_or l i Other)
-    from [] m i p q = absurd (omega arith)
-    from (x ∷ l) zero i p q = absurd (omega arith)
-    from (x ∷ l) (suc m) zero p q = refl
-    from (x ∷ l) (suc m) (suc i) p q = from l m i (omega arith) (omega arith)
+-- what is none of the seventeen has no operand
+kindless : (k : Kind) → is_kind k ≡ false → k ≡ Other
+unfolding is_kind
+kindless H h = clash refl h
+kindless X h = clash refl h
+kindless Z h = clash refl h
+kindless S h = clash refl h
+kindless Sdg h = clash refl h
+kindless T h = clash refl h
+kindless Tdg h = clash refl h
+kindless Cx h = clash refl h
+kindless Cz h = clash refl h
+kindless Ccx h = clash refl h
+kindless Ccz h = clash refl h
+kindless Y h = clash refl h
+kindless Sx h = clash refl h
+kindless Swap h = clash refl h
+kindless Cy h = clash refl h
+kindless Ch h = clash refl h
+kindless Cswap h = clash refl h
+kindless Other h = refl
 
--- what the kinds from 12 on have in common, computed over their places
-pub from_twelve : (f : Kind → ℕ) (d : ℕ) → all (λ k. eqb (f (kind_at k)) d) (range 12 15) ≡ true → f Other ≡ d → (k : ℕ) → 12 ≤ k → f (kind_at k) ≡ d
-from_twelve f d h o k p = by (dec_lt k 27)
-  where
-    by : Dec (k < 27) → f (kind_at k) ≡ d
-    by (yes q) = eqb-true (f (kind_at k)) d (all_range (λ k. eqb (f (kind_at k)) d) 15 12 h k p (omega arith))
-    by (no q) = ap f (kind_past k (omega arith)) ∙ o
+-- a number is that of one of the seventeen, or it has no kind
+abbrev numbered : ℕ → Bool
+numbered k = eqb k 0 || (eqb k 1 || (eqb k 2 || (eqb k 3 || (eqb k 4 || (eqb k 5 || (eqb k 6 || (eqb k 8 || (eqb k 9 || (eqb k 10 || (eqb k 11 || (eqb k 15 || (eqb k 16 || (eqb k 19 || (eqb k 20 || (eqb k 25 || (eqb k 26 || not (is_kind (kind_at k))))))))))))))))))
 
--- a kind from 12 on that is none of the six has no operand
-abbrev operandless : ℕ → Bool
-operandless k = eqb (arity (kind_at k)) 0 || (eqb k 15 || (eqb k 16 || (eqb k 19 || (eqb k 20 || (eqb k 25 || eqb k 26)))))
-
-pub no_operands : (k : ℕ) → 12 ≤ k → (k ≡ 15 → ⊥) → (k ≡ 16 → ⊥) → (k ≡ 19 → ⊥) → (k ≡ 20 → ⊥) → (k ≡ 25 → ⊥) → (k ≡ 26 → ⊥) → arity (kind_at k) ≡ 0
-unfolding arity kind_at all range
-no_operands k p a b c d e f = by (dec_lt k 27)
+pub no_kind : (k : ℕ) → (k ≡ 0 → ⊥) → (k ≡ 1 → ⊥) → (k ≡ 2 → ⊥) → (k ≡ 3 → ⊥) → (k ≡ 4 → ⊥) → (k ≡ 5 → ⊥) → (k ≡ 6 → ⊥) → (k ≡ 8 → ⊥) → (k ≡ 9 → ⊥) → (k ≡ 10 → ⊥) → (k ≡ 11 → ⊥) → (k ≡ 15 → ⊥) → (k ≡ 16 → ⊥) → (k ≡ 19 → ⊥) → (k ≡ 20 → ⊥) → (k ≡ 25 → ⊥) → (k ≡ 26 → ⊥) → kind_at k ≡ Other
+unfolding kind_at is_kind all range
+no_kind k p0 p1 p2 p3 p4 p5 p6 p8 p9 p10 p11 p15 p16 p19 p20 p25 p26 = by (dec_lt k 27)
   where
-    by : Dec (k < 27) → arity (kind_at k) ≡ 0
+    by : Dec (k < 27) → kind_at k ≡ Other
     by (yes q) =
-        eqb-true (arity (kind_at k)) 0
-        (sym (or-false (eqb (arity (kind_at k)) 0))
-        ∙ rw (ne_eqb k 15 a, ne_eqb k 16 b, ne_eqb k 19 c, ne_eqb k 20 d, ne_eqb k 25 e, ne_eqb k 26 f) at (all_range operandless 15 12 refl k p (omega arith)))
-    by (no q) = ap arity (kind_past k (omega arith))
+        kindless (kind_at k)
+        (not-true (is_kind (kind_at k))
+        (rw (ne_eqb k 0 p0, ne_eqb k 1 p1, ne_eqb k 2 p2, ne_eqb k 3 p3, ne_eqb k 4 p4, ne_eqb k 5 p5, ne_eqb k 6 p6, ne_eqb k 8 p8, ne_eqb k 9 p9, ne_eqb k 10 p10, ne_eqb k 11 p11, ne_eqb k 15 p15, ne_eqb k 16 p16, ne_eqb k 19 p19, ne_eqb k 20 p20, ne_eqb k 25 p25, ne_eqb k 26 p26) at (all_range numbered 27 0 refl k (omega arith) (omega arith))))
+    by (no q) = kind_past k (omega arith)
 
 -- a kind's number is its place
 pub kind_number_lem : (k : Kind) → kind_at (number k) ≡ k
@@ -130,3 +133,37 @@ table_kind k = by (dec_lt k 27)
     by : Dec (k < 27) → of_tables (kind_at k) ≡ (ltb k 12 && is_kind (kind_at k))
     by (yes l) = alike _ _ (all_range (λ k. told_alike (of_tables (kind_at k)) (ltb k 12 && is_kind (kind_at k))) 27 0 computed k (omega arith) (omega arith))
     by (no l) = rw (kind_past k (omega arith), le-ltb k 12 (omega arith))
+
+-- a constant of the code that has f of each kind below 12, at one of them
+pub in_table : (f : Kind → ℕ) (k : ℕ) → k < 12 → get_or (map f (take 12 kinds)) k 0 ≡ f (kind_at k)
+unfolding kind_at
+in_table f k h = from kinds 12 k h (lit≤ tt)
+  where
+    from : (l : List Kind) (m i : ℕ) → i < m → m ≤ length l → get_or (map f (take m l)) i 0 ≡ f (get_or l i Other)
+    from [] m i p q = absurd (omega arith)
+    from (x ∷ l) zero i p q = absurd (omega arith)
+    from (x ∷ l) (suc m) zero p q = refl
+    from (x ∷ l) (suc m) (suc i) p q = from l m i (omega arith) (omega arith)
+
+-- what the kinds from 12 on have in common, computed over their places
+pub from_twelve : (f : Kind → ℕ) (d : ℕ) → all (λ k. eqb (f (kind_at k)) d) (range 12 15) ≡ true → f Other ≡ d → (k : ℕ) → 12 ≤ k → f (kind_at k) ≡ d
+from_twelve f d h o k p = by (dec_lt k 27)
+  where
+    by : Dec (k < 27) → f (kind_at k) ≡ d
+    by (yes q) = eqb-true (f (kind_at k)) d (all_range (λ k. eqb (f (kind_at k)) d) 15 12 h k p (omega arith))
+    by (no q) = ap f (kind_past k (omega arith)) ∙ o
+
+-- a kind from 12 on that is none of the six has no operand
+abbrev operandless : ℕ → Bool
+operandless k = eqb (arity (kind_at k)) 0 || (eqb k 15 || (eqb k 16 || (eqb k 19 || (eqb k 20 || (eqb k 25 || eqb k 26)))))
+
+pub no_operands : (k : ℕ) → 12 ≤ k → (k ≡ 15 → ⊥) → (k ≡ 16 → ⊥) → (k ≡ 19 → ⊥) → (k ≡ 20 → ⊥) → (k ≡ 25 → ⊥) → (k ≡ 26 → ⊥) → arity (kind_at k) ≡ 0
+unfolding arity kind_at all range
+no_operands k p a b c d e f = by (dec_lt k 27)
+  where
+    by : Dec (k < 27) → arity (kind_at k) ≡ 0
+    by (yes q) =
+        eqb-true (arity (kind_at k)) 0
+        (sym (or-false (eqb (arity (kind_at k)) 0))
+        ∙ rw (ne_eqb k 15 a, ne_eqb k 16 b, ne_eqb k 19 c, ne_eqb k 20 d, ne_eqb k 25 e, ne_eqb k 26 f) at (all_range operandless 15 12 refl k p (omega arith)))
+    by (no q) = ap arity (kind_past k (omega arith))

@@ -1,96 +1,134 @@
-// Gate kinds by number: a kind is its place in GateKind::ALL of the original (circuit.rs), and what a kind has stands
-// in one constant each: operands, how many of them rise, the kind that undoes it, T charge. The constants are computed
-// against the definition (specs/Kinds) here, below all code that reads gates, so that a wrong number in one is refused
-// in seconds.
+// Gate kinds: `GateKind` of the original (circuit.rs), of which these seventeen are taken, and what a kind has, each in
+// one function: number, operands, how many of them rise, the kind that undoes it, T charge. They are set against the
+// definition (specs/Kinds) here, below all code that reads gates, so that a wrong number in one is refused in seconds.
 #![tactic(auto)]
 
-ghost use Rattle.std.specs.Prelude.{◌≡◌, ◌≤◌};
-ghost use Rattle.kinds.specs.Kinds.{kind_at, number, arity, sorted, is_kind, of_tables, dual, kind_charge};
+ghost use Rattle.std.specs.Prelude.{◌≡◌};
+ghost use Rattle.kinds.specs.Kinds.{number, arity, sorted, of_tables, dual, kind_charge};
+ghost use Rattle.kinds.specs.Told.{told_kind, told_found, Tried};
 
-// The places of the constants below: H 0, X 1, Z 2, S 3, Sdg 4, T 5, Tdg 6, (Rz 7, not taken), Cx 8, Cz 9, Ccx 10, Ccz
-// 11. These eleven may be in a table. Lists take also Y 15, Sx 16, Swap 19, Cy 20, Ch 25, Cswap 26: of these only the
-// number of operands is needed, which `more_operands` has.
-const KINDS: u32 = 12;
+// The kinds by their numbers, which are their places in GateKind::ALL of the original; Rz, 7, and others are not taken.
+// The first eleven may be in a table.
+#[derive(Clone, Copy, PartialEq, Eq)]
+pub enum GateKind {
+    H = 0,
+    X = 1,
+    Z = 2,
+    S = 3,
+    Sdg = 4,
+    T = 5,
+    Tdg = 6,
+    Cx = 8,
+    Cz = 9,
+    Ccx = 10,
+    Ccz = 11,
+    Y = 15,
+    Sx = 16,
+    Swap = 19,
+    Cy = 20,
+    Ch = 25,
+    Cswap = 26,
+}
 
-// The number of operands of each kind.
-const ARITY: [u32; 12] = [1, 1, 1, 1, 1, 1, 1, 0, 2, 2, 3, 3];
+// A number that no kind has.
+#[derive(Clone, Copy, PartialEq, Eq)]
+pub struct UnknownKind(pub u32);
 
-// How many of the first operands of each kind are in rising order.
-const SORTED: [u32; 12] = [0, 0, 0, 0, 0, 0, 0, 0, 0, 2, 2, 3];
+impl TryFrom<u32> for GateKind {
+    type Error = UnknownKind;
 
-// The kind that undoes each kind.
-const DUAL: [u32; 12] = [0, 1, 2, 4, 3, 6, 5, 7, 8, 9, 10, 11];
+    ghost try_from_gives = { Tried };
 
-// The T charge of each kind (SPECIFICATION 2.9).
-const CHARGE: [usize; 12] = [0, 0, 0, 0, 0, 1, 1, 0, 0, 0, 7, 7];
-
-// How many operands a kind from 12 on has; 0 for what is no kind.
-fn more_operands(kind: u32) -> u32
-    requires { 12 ≤ kind }
-    ensures { result ≡ arity (kind_at kind) }
-{
-    match kind {
-        15 => 1,
-        16 => 1,
-        19 => 2,
-        20 => 2,
-        25 => 2,
-        26 => 3,
-        _ => 0,
+    #[tactic(auto, unfolding(crate::specs::Kinds::kind_at))]
+    fn try_from(number: u32) -> Result<Self, UnknownKind> {
+        match number {
+            0 => Ok(GateKind::H),
+            1 => Ok(GateKind::X),
+            2 => Ok(GateKind::Z),
+            3 => Ok(GateKind::S),
+            4 => Ok(GateKind::Sdg),
+            5 => Ok(GateKind::T),
+            6 => Ok(GateKind::Tdg),
+            8 => Ok(GateKind::Cx),
+            9 => Ok(GateKind::Cz),
+            10 => Ok(GateKind::Ccx),
+            11 => Ok(GateKind::Ccz),
+            15 => Ok(GateKind::Y),
+            16 => Ok(GateKind::Sx),
+            19 => Ok(GateKind::Swap),
+            20 => Ok(GateKind::Cy),
+            25 => Ok(GateKind::Ch),
+            26 => Ok(GateKind::Cswap),
+            _ => Err(UnknownKind(number)),
+        }
     }
 }
 
-// How many operands a kind has; 0 for what is no kind.
-pub fn operand_count(kind: u32) -> u32
-    ensures { result ≡ arity (kind_at kind) }
-{
-    if kind >= KINDS {
-        return more_operands(kind);
+impl GateKind {
+    #[tactic(auto, unfolding(crate::specs::Kinds::number))]
+    pub fn number(self) -> u32
+        ensures { result ≡ number (told_kind self) }
+    {
+        self as u32
     }
-    ARITY[kind as usize]
-}
 
-// How many of a kind's first operands are in rising order.
-pub fn sorted_count(kind: u32) -> u32
-    ensures { result ≡ sorted (kind_at kind) }
-{
-    if kind >= KINDS {
-        return 0;
+    // How many operands the kind has.
+    #[tactic(auto, unfolding(crate::specs::Kinds::arity))]
+    pub fn operands(self) -> u32
+        ensures { result ≡ arity (told_kind self) }
+    {
+        match self {
+            GateKind::Cx | GateKind::Cz | GateKind::Swap | GateKind::Cy | GateKind::Ch => 2,
+            GateKind::Ccx | GateKind::Ccz | GateKind::Cswap => 3,
+            _ => 1,
+        }
     }
-    SORTED[kind as usize]
-}
 
-fn is_kind(kind: u32) -> bool
-    ensures { result ≡ is_kind (kind_at kind) }
-{
-    operand_count(kind) != 0
-}
-
-// Whether a table may have the kind.
-pub fn is_table_kind(kind: u32) -> bool
-    ensures { result ≡ of_tables (kind_at kind) }
-{
-    if kind >= KINDS {
-        return false;
+    // How many of the kind's first operands are in rising order.
+    #[tactic(auto, unfolding(crate::specs::Kinds::sorted))]
+    pub fn sorted(self) -> u32
+        ensures { result ≡ sorted (told_kind self) }
+    {
+        match self {
+            GateKind::Cz | GateKind::Ccx => 2,
+            GateKind::Ccz => 3,
+            _ => 0,
+        }
     }
-    is_kind(kind)
-}
 
-// The kind that undoes a kind of tables; 7 for the others.
-pub fn dual_kind(kind: u32) -> u32
-    ensures { result ≡ number (dual (kind_at kind)) }
-{
-    if kind >= KINDS {
-        return 7;
+    // Whether a table may have the kind.
+    #[tactic(auto, unfolding(crate::specs::Kinds::of_tables, crate::specs::Kinds::dual))]
+    pub fn is_of_tables(self) -> bool
+        ensures { result ≡ of_tables (told_kind self) }
+    {
+        self.dual().is_some()
     }
-    DUAL[kind as usize]
-}
 
-pub fn charge_of(kind: u32) -> usize
-    ensures { result ≡ kind_charge (kind_at kind) }
-{
-    if kind >= KINDS {
-        return 0;
+    // The kind that undoes this one in a table; none where no table has this one.
+    #[tactic(auto, unfolding(crate::specs::Kinds::dual))]
+    pub fn dual(self) -> Option<GateKind>
+        ensures { told_found result ≡ dual (told_kind self) }
+    {
+        match self {
+            GateKind::H | GateKind::X | GateKind::Z => Some(self),
+            GateKind::S => Some(GateKind::Sdg),
+            GateKind::Sdg => Some(GateKind::S),
+            GateKind::T => Some(GateKind::Tdg),
+            GateKind::Tdg => Some(GateKind::T),
+            GateKind::Cx | GateKind::Cz | GateKind::Ccx | GateKind::Ccz => Some(self),
+            _ => None,
+        }
     }
-    CHARGE[kind as usize]
+
+    // The T charge (SPECIFICATION 2.9).
+    #[tactic(auto, unfolding(crate::specs::Kinds::kind_charge))]
+    pub fn charge(self) -> usize
+        ensures { result ≡ kind_charge (told_kind self) }
+    {
+        match self {
+            GateKind::T | GateKind::Tdg => 1,
+            GateKind::Ccx | GateKind::Ccz => 7,
+            _ => 0,
+        }
+    }
 }

@@ -8,12 +8,10 @@ ghost use Rattle.circuit.specs.Codes.{valid};
 ghost use Rattle.exact.specs.Rows.{act, gate_of};
 ghost use Rattle.exact.specs.Fits.{step_fits};
 ghost use Rattle.exact.specs.Places.{held};
-ghost use Rattle.places.specs.Places.{places};
 ghost use Rattle.places.specs.Held.{Ready};
 ghost use Rattle.walk.specs.Lookup.{found};
-ghost use Rattle.walk.specs.Index.{looked_up};
-ghost use Rattle.walk.specs.Finds.{part_with, looked_in, find_by, is_node};
-ghost use Rattle.index.specs.Told.{told_by};
+ghost use Rattle.walk.specs.Finds.{looked_in, find_by, is_node};
+ghost use Rattle.index.specs.Told.{told_part};
 ghost use Rattle.synthesis_arena.specs.Limits.{told_limits};
 ghost use Rattle.synthesis_arena.specs.Lookup.{told_found};
 ghost use Rattle.node_answer.specs.Answers.{AskedPlaces};
@@ -21,10 +19,8 @@ ghost use Rattle.known.specs.Known.{told_mode, is_known};
 ghost use Rattle.looked_ahead.specs.Ahead.{Hint};
 
 use cyclotomic::Coefficient;
-use index::LookupBy;
-use node_answer::Find;
-use steps::Applied;
-use synthesis_arena::{Found, WidthLimits};
+use index::Part;
+use synthesis_arena::WidthLimits;
 
 // What makes a candidate known while a table is built: a node with its fingerprint, or one that is equal up to phase
 // besides, so that clashing nodes are both kept.
@@ -46,82 +42,56 @@ pub struct Candidate {
 // Whether the search from the first node with the fingerprint on finds one for the matrix. The chains of a table that
 // is being built are good.
 fn has_equal(
-    by: LookupBy,
     limits: WidthLimits,
-    count: usize,
+    part: Part<'_>,
     node: usize,
     print: u64,
     exponent: u16,
-    fingerprints: &[u64],
-    parents: &[u32],
-    codes: &[u32],
-    index: &[u32],
     candidate: &[Coefficient],
     scratch: &mut [Coefficient; 4096],
 ) -> bool
     requires bounds { (limits.width ≤ 5) × (limits.gates ≤ 64) }
-    requires within { (count ≤ length fingerprints.now) × (count ≤ length parents.now) × (count ≤ length codes.now) }
-    requires first { looked_in (part_with (told_by by) fingerprints.now parents.now codes.now count index.now) 0 print ≡ found node }
+    requires within { (part.count ≤ length part.fingerprints.now) × (part.count ≤ length part.parents.now)
+        × (part.count ≤ length part.codes.now) }
+    requires first { looked_in (told_part part) 0 print ≡ found node }
     requires asked { AskedPlaces limits.width candidate.now }
-    requires long { length scratch.old ≡ places }
-    ensures found { result ≡ is_node (find_by (told_limits limits)
-        (part_with (told_by by) fingerprints.now parents.now codes.now count index.now) print
+    ensures found { result ≡ is_node (find_by (told_limits limits) (told_part part.entry) print
         (held limits.width exponent candidate.now)) }
-    ensures long { length scratch.new ≡ places }
 {
     identity::set_identity(scratch, limits.width as usize);
     let mut list: [u32; 64] = [0; 64];
     match width_answer::find_at(
-        by,
-        limits,
-        count,
-        node,
-        print,
-        exponent,
-        fingerprints,
-        parents,
-        codes,
-        index,
-        candidate,
-        &mut list,
-        scratch,
+        limits, part, node, print, exponent, candidate, &mut list, scratch,
     ) {
-        Find::Node(_, _) => true,
-        Find::Nothing => false,
-        Find::BadChain => false,
+        Ok(Some(_)) => true,
+        Ok(None) => false,
+        Err(_) => false,
     }
 }
 
 // The same for the candidate that the gate gives after the matrix m, which is formed in lent places. Its step fits, so
 // the other arm is not taken.
 fn has_candidate(
-    by: LookupBy,
     limits: WidthLimits,
-    count: usize,
+    part: Part<'_>,
     node: usize,
     candidate: Candidate,
     exponent: u16,
-    fingerprints: &[u64],
-    parents: &[u32],
-    codes: &[u32],
-    index: &[u32],
     m: &[Coefficient],
     formed: &mut [Coefficient; 4096],
     scratch: &mut [Coefficient; 4096],
 ) -> bool
     requires bounds { (limits.width ≤ 5) × (limits.gates ≤ 64) }
-    requires within { (count ≤ length fingerprints.now) × (count ≤ length parents.now) × (count ≤ length codes.now) }
-    requires first { looked_in (part_with (told_by by) fingerprints.now parents.now codes.now count index.now) 0 candidate.print ≡ found node }
+    requires within { (part.count ≤ length part.fingerprints.now) × (part.count ≤ length part.parents.now)
+        × (part.count ≤ length part.codes.now) }
+    requires first { looked_in (told_part part) 0 candidate.print ≡ found node }
     requires ready { Ready limits.width exponent m.now }
     requires gate { (valid limits.width candidate.gate ≡ true)
         × (step_fits limits.width (gate_of limits.width candidate.gate) (held limits.width exponent m.now) ≡ true) }
-    requires long { (length formed.old ≡ places) × (length scratch.old ≡ places) }
-    ensures found { result ≡ is_node (find_by (told_limits limits)
-        (part_with (told_by by) fingerprints.now parents.now codes.now count index.now) candidate.print
+    ensures found { result ≡ is_node (find_by (told_limits limits) (told_part part.entry) candidate.print
         (act limits.width (gate_of limits.width candidate.gate) (held limits.width exponent m.now))) }
-    ensures long { (length formed.new ≡ places) × (length scratch.new ≡ places) }
 {
-    let Applied::Done(k) = node_matrix::apply_to_copy(
+    let Some(k) = node_matrix::apply_to_copy(
         limits.width as usize,
         candidate.gate,
         exponent,
@@ -130,77 +100,38 @@ fn has_candidate(
     ) else {
         return false;
     };
-    has_equal(
-        by,
-        limits,
-        count,
-        node,
-        candidate.print,
-        k,
-        fingerprints,
-        parents,
-        codes,
-        index,
-        formed,
-        scratch,
-    )
+    has_equal(limits, part, node, candidate.print, k, formed, scratch)
 }
 
 // Whether the candidate that the gate gives after the matrix m is known in the mode. Two matrices may be formed in lent
 // places; what they hold afterwards is not told.
 pub fn is_known(
     mode: BuildMode,
-    by: LookupBy,
     limits: WidthLimits,
-    count: usize,
+    part: Part<'_>,
     candidate: Candidate,
     exponent: u16,
-    fingerprints: &[u64],
-    parents: &[u32],
-    codes: &[u32],
-    index: &[u32],
     m: &[Coefficient],
     formed: &mut [Coefficient; 4096],
     scratch: &mut [Coefficient; 4096],
 ) -> bool
     requires bounds { (limits.width ≤ 5) × (limits.gates ≤ 64) }
-    requires within { (count ≤ length fingerprints.now) × (count ≤ length parents.now) × (count ≤ length codes.now) }
-    requires ahead { Hint (looked_up (told_by by) index.now fingerprints.now count 0 candidate.print) candidate.ahead }
+    requires within { (part.count ≤ length part.fingerprints.now) × (part.count ≤ length part.parents.now)
+        × (part.count ≤ length part.codes.now) }
+    requires ahead { Hint (looked_in (told_part part) 0 candidate.print) candidate.ahead }
     requires ready { Ready limits.width exponent m.now }
     requires gate { (valid limits.width candidate.gate ≡ true)
         × (step_fits limits.width (gate_of limits.width candidate.gate) (held limits.width exponent m.now) ≡ true) }
-    requires long { (length formed.old ≡ places) × (length scratch.old ≡ places) }
-    ensures known { result ≡ is_known (told_mode mode) (told_limits limits)
-        (part_with (told_by by) fingerprints.now parents.now codes.now count index.now) candidate.print
+    ensures known { result ≡ is_known (told_mode mode) (told_limits limits) (told_part part.entry) candidate.print
         (act limits.width (gate_of limits.width candidate.gate) (held limits.width exponent m.now)) }
-    ensures long { (length formed.new ≡ places) × (length scratch.new ≡ places) }
 {
-    let Found::At(node) = looked_ahead::first_node(
-        by,
-        count,
-        candidate.print,
-        candidate.ahead,
-        fingerprints,
-        index,
-    ) else {
+    let Some(node) = looked_ahead::first_node(part, candidate.print, candidate.ahead) else {
         return false;
     };
     match mode {
         BuildMode::ByPrint => true,
         BuildMode::Keeping => has_candidate(
-            by,
-            limits,
-            count,
-            node,
-            candidate,
-            exponent,
-            fingerprints,
-            parents,
-            codes,
-            index,
-            m,
-            formed,
-            scratch,
+            limits, part, node, candidate, exponent, m, formed, scratch,
         ),
     }
 }

@@ -7,6 +7,7 @@ use native.Mathlib.Omega.{arith}
 use lib.IntN.{ℤ}
 use lib.ListN.{length, get_or, take, drop, drop_of_length-le}
 use lib.Seq.{drop-cons, take-suc, take_all}
+use Rattle.std.specs.Prelude.{Some, None, Result, Ok, Err}
 use Rattle.ints.specs.Lists.{pick}
 use Rattle.exact.specs.Matrix.{Exact, identity}
 use Rattle.exact.proofs.Words.{Equal}
@@ -21,15 +22,12 @@ use Rattle.exact.proofs.Keeps.{step_equal, act_equal', made_equal}
 use Rattle.exact.specs.Places.{held}
 use Rattle.places.specs.Held.{Holds, Ready}
 use Rattle.steps.specs.Step.{Stepped}
-use Rattle.steps.specs.declared.Applied.TheVariants.{Done, DoesNotFit}
 use Rattle.steps.proofs.Steps.{ready_next}
 use Rattle.lists.specs.Walk.{HoldsProduct, Ended}
-use Rattle.lists.specs.declared.Walked.{Walked}
-use Rattle.lists.specs.declared.Walked.TheVariants.{Fits, UnfitAt}
 
 -- the answer is known by an equation
-pub ended_at : {n : ℕ} {codes : List ℕ} {l : List ℤ} {r s : Walked} → r ≡ s → Ended n codes l r → Ended n codes l s
-ended_at {n} {codes} {l} e w = subst (λ (x : Walked). Ended n codes l x) e w
+pub ended_at : {n : ℕ} {codes : List ℕ} {l : List ℤ} {r s : Result ℕ ℕ} → r ≡ s → Ended n codes l r → Ended n codes l s
+ended_at {n} {codes} {l} e w = subst (λ (x : Result ℕ ℕ). Ended n codes l x) e w
 
 -- i steps later
 abbrev later : ℕ → Steps → Steps
@@ -52,7 +50,6 @@ module _ (n : ℕ) where
 
 -- the first i gates of a list were applied, and the places hold their product over √2 to the k
 pub record Walking (n : ℕ) (codes : List ℕ) (i k : ℕ) (l : List ℤ) : Type 0 where
-  pub within : i ≤ length codes
   pub ready : Ready n k l
   pub ahead : steps n codes ≡ later i (steps_from n (held n k l) (drop i codes))
   pub so_far : Equal n (held n k l) (product n (take i codes))
@@ -64,7 +61,6 @@ module _ (n : ℕ) (codes : List ℕ) where
   pub walking_first : (l : List ℤ) → Holds n 0 l identity → Walking n codes 0 0 l
   unfolding steps product
   walking_first l w = record {
-    within = omega arith;
     ready = record { long = w.long; small = w.small; lowest = record { lowest = λ h. absurd (omega arith) } };
     ahead = steps_equal n codes (equal_sym n w.equal);
     so_far = w.equal;
@@ -77,21 +73,20 @@ module _ (n : ℕ) (codes : List ℕ) where
     ahead_here : steps n codes ≡ later i (steps_from n (held n k l) (code ∷ drop (suc i) codes))
     ahead_here = w.ahead ∙ ap (λ (z : List ℕ). later i (steps_from n (held n k l) z)) (drop-cons codes i 0 h)
 
-    pub walking_more : {j : ℕ} (l' : List ℤ) → Stepped n k (gate_of n code) l l' (Done j) → Walking n codes (i + 1) j l'
+    pub walking_more : {j : ℕ} (l' : List ℤ) → Stepped n k (gate_of n code) l l' (Some j) → Walking n codes (i + 1) j l'
     walking_more {j} l' s =
         let fit = step_given n (gate_of n code) (held n k l) s.answer in
         let held' = s.left in
         let one : suc i ≡ i + 1 = omega arith in
         subst (λ (z : ℕ). Walking n codes z j l') one
         (record {
-          within = h;
           ready = ready_next s;
           ahead = ahead_here ∙ ap (λ b. later i (pick b (next (steps_from n (act n (gate_of n code) (held n k l)) (drop (suc i) codes))) (unfit_at 0))) fit
               ∙ ap (λ (z : Steps). later i (next z)) (steps_equal n (drop (suc i) codes) (equal_sym n held'.equal));
           so_far = rw (take-suc codes i 0 h, product_snoc n) (equal_trans n held'.equal (act_equal' n (gate_of n code) w.so_far (proper n code)));
         })
 
-    pub walking_unfit : (l' : List ℤ) → Stepped n k (gate_of n code) l l' DoesNotFit → Ended n codes l' (UnfitAt i)
+    pub walking_unfit : (l' : List ℤ) → Stepped n k (gate_of n code) l l' None → Ended n codes l' (Err i)
     walking_unfit l' s = record {
       answer =
           refused_list n codes
@@ -105,7 +100,7 @@ module _ (n : ℕ) (codes : List ℕ) where
       };
     }
 
-  pub walking_end : {i k : ℕ} {l : List ℤ} → Walking n codes i k l → length codes ≤ i → Ended n codes l (Fits k)
+  pub walking_end : {i k : ℕ} {l : List ℤ} → Walking n codes i k l → length codes ≤ i → Ended n codes l (Ok k)
   walking_end {i} {k} {l} w h =
       let all = take_all i codes h in
       record {

@@ -13,18 +13,10 @@ ghost use Rattle.lists.specs.Walk.{Ended};
 
 use circuit::LibraryGate;
 use cyclotomic::Coefficient;
-use steps::Applied;
 
-// How a list ended: all its steps fit, and the exponent; or the position of the first that does not fit (SPECIFICATION
-// 3.6).
-#[derive(Clone, Copy)]
-pub enum Walked {
-    Fits(u16),
-    UnfitAt(usize),
-}
-
-// The gates of a list, oldest first, from the identity in the places on.
-pub fn apply_gates(m: &mut [Coefficient; 4096], n: usize, codes: &[u32]) -> Walked
+// The gates of a list, oldest first, from the identity in the places on: the exponent where all its steps fit, otherwise
+// the position of the first that does not fit (SPECIFICATION 3.6).
+pub fn apply_gates(m: &mut [Coefficient; 4096], n: usize, codes: &[u32]) -> Result<u16, usize>
     requires n_bound { n ≤ 5 }
     requires codes_value { all (valid n) codes.now ≡ true }
     requires holds { Holds n 0 m.old identity }
@@ -32,13 +24,11 @@ pub fn apply_gates(m: &mut [Coefficient; 4096], n: usize, codes: &[u32]) -> Walk
     ensures kept { Kept n m.old m.new }
 {
     let mut k: u16 = 0;
-    let mut i = 0;
-    while i < codes.len() {
-        match matrix::apply_gate_left(m, n, LibraryGate(codes[i]), k) {
-            Applied::Done(j) => k = j,
-            Applied::DoesNotFit => return Walked::UnfitAt(i),
+    for (i, code) in codes.iter().enumerate() {
+        match matrix::apply_gate_left(m, n, LibraryGate(*code), k) {
+            Some(j) => k = j,
+            None => return Err(i),
         }
-        i += 1;
     }
-    Walked::Fits(k)
+    Ok(k)
 }

@@ -20,48 +20,38 @@ pub fn all_divisible(m: &[Coefficient], n: usize) -> bool
     ensures { result ≡ all_divisible n (read n m.now) }
 {
     let size = places::area(n);
-    let mut e = 0;
-    while e < size {
+    for e in 0..size {
         if !places::get(m, e).divisible_by_sqrt_2() {
             return false;
         }
-        e += 1;
     }
     true
 }
 
 // All entries are divided by sqrt(2).
 pub fn divide_all(m: &mut [Coefficient; 4096], n: usize)
-    requires m_len { length m.old ≡ places }
     requires n_bound { n ≤ 5 }
     requires all_small { AllSmall n (read n m.old) }
-    ensures sized { length m.new ≡ places }
     ensures divided { Same n (read n m.new) (divided_all (read n m.old)) }
     ensures kept { Kept n m.old m.new }
 {
     let size = places::area(n);
-    let mut e = 0;
-    while e < size {
+    for e in 0..size {
         let z = places::get(m, e);
         places::put_at(m, e, z.divide_by_sqrt_2());
-        e += 1;
     }
 }
 
 // Lowering (SPECIFICATION 1.9): while k > 0 and every entry is divisible by sqrt(2), all are divided and k falls by
 // one. Returns k.
 pub fn normalize_denominator(m: &mut [Coefficient; 4096], n: usize, k: u16) -> u16
-    requires m_len { length m.old ≡ places }
     requires n_bound { n ≤ 5 }
     requires all_small { AllSmall n (read n m.old) }
     ensures lowered { Holds n result m.new (lower n (held n k m.old)) }
     ensures kept { Kept n m.old m.new }
 {
     let mut j = k;
-    while j > 0 {
-        if !all_divisible(m, n) {
-            return j;
-        }
+    while j > 0 && all_divisible(m, n) {
         divide_all(m, n);
         j -= 1;
     }

@@ -1,4 +1,5 @@
--- The choice by kind: which kind the last arm of a match has, and the gate of a valid code. Assumes nothing.
+-- The choice by kind: the gate of a kind that is known, which kind the last number has, and the gate of a valid code.
+-- Assumes nothing.
 use mathlib.Core.Path.{◌≡◌, refl, sym, ap, subst}
 use mathlib.Core.Bool.{Bool, true, not, ◌||◌}
 use mathlib.Core.List.{List}
@@ -8,21 +9,31 @@ use native.Mathlib.Decide.{dec_lt}
 use borrow.Author.Tests.{eqb-true, ne_eqb}
 use lib.Dec.{eqb}
 use lib.IntN.{ℤ}
+use Rattle.std.specs.Prelude.{Option, Some, None, IsSome}
+use borrow.Author.Rules.{rules}
 use Rattle.ints.specs.Lists.{all, range}
 use Rattle.ints.proofs.Bools.{clash, all_range}
-use Rattle.circuit.specs.Codes.{kind_number, first, second, third, valid}
+use Rattle.circuit.specs.Codes.{kind_of, first, second, third, valid}
+use Rattle.kinds.specs.declared.GateKind.{GateKind}
 use Rattle.kinds.specs.Kinds.{kind_at, is_kind}
 use Rattle.kinds.proofs.ByNumber.{kind_past}
+use Rattle.kinds.specs.Told.{told_kind, told_found}
 use Rattle.exact.specs.Rows.{gate, gate_of}
 use Rattle.exact.proofs.Words.{Proper}
 use Rattle.exact.proofs.Coded.{proper}
 use Rattle.steps.specs.Step.{Stepped}
-use Rattle.steps.specs.declared.Applied.{Applied}
 
-module _ {n k : ℕ} {l l' : List ℤ} {r : Applied} where
+module _ {n k : ℕ} {l l' : List ℤ} {r : Option ℕ} where
   -- the kind is known by an equation
+  pub kind_told : (a b c : ℕ) {x y : GateKind} → x ≡ y → Stepped n k (gate n (told_kind y) a b c) l l' r → Stepped n k (gate n (told_kind x) a b c) l l' r
+  kind_told a b c e w = subst (λ (x : GateKind). Stepped n k (gate n (told_kind x) a b c) l l' r) (sym e) w
+
+  -- the same of a kind by its number
   pub kind_at_lem : (a b c : ℕ) {x y : ℕ} → x ≡ y → Stepped n k (gate n (kind_at y) a b c) l l' r → Stepped n k (gate n (kind_at x) a b c) l l' r
   kind_at_lem a b c e w = subst (λ (x : ℕ). Stepped n k (gate n (kind_at x) a b c) l l' r) (sym e) w
+
+pub proper_told : (n a b c : ℕ) {x y : GateKind} → x ≡ y → Proper n (gate n (told_kind x) a b c) → Proper n (gate n (told_kind y) a b c)
+proper_told n a b c e w = subst (λ (x : GateKind). Proper n (gate n (told_kind x) a b c)) e w
 
 pub proper_at : (n a b c : ℕ) {x y : ℕ} → x ≡ y → Proper n (gate n (kind_at x) a b c) → Proper n (gate n (kind_at y) a b c)
 proper_at n a b c e w = subst (λ (x : ℕ). Proper n (gate n (kind_at x) a b c)) e w
@@ -49,12 +60,18 @@ last_of_six k h p a b c d e = by (dec_lt k 27)
         (rw (h, ne_eqb k 15 a, ne_eqb k 16 b, ne_eqb k 19 c, ne_eqb k 20 d, ne_eqb k 25 e) at (all_range one_of_six 15 12 refl k p (omega arith)))
     by (no q) = clash h (ap is_kind (kind_past k (omega arith)))
 
+-- a kind that is one was found
+pub is_found : (o : Option GateKind) → is_kind (told_found o) ≡ true → IsSome o
+unfolding is_kind
+is_found (Some k) h = search rules
+is_found None h = clash h refl
+
 -- ---- the gate of a valid code
 
 module _ (n g : ℕ) (h : valid n g ≡ true) where
-  pub coded : gate_of n g ≡ gate n (kind_at (kind_number g)) (first g) (second g) (third g)
+  pub coded : gate_of n g ≡ gate n (kind_of g) (first g) (second g) (third g)
   unfolding gate_of
   coded = rw h
 
-  pub coded_proper : Proper n (gate n (kind_at (kind_number g)) (first g) (second g) (third g))
+  pub coded_proper : Proper n (gate n (kind_of g) (first g) (second g) (third g))
   coded_proper = subst (Proper n) coded (proper n g)

@@ -8,8 +8,9 @@ use lib.ListN.{length, take, drop}
 use Rattle.walk.specs.Chains.{chain_of}
 use Rattle.walk.specs.Finds as finds
 use Rattle.walk.specs.Answers.{refused, outcome, written, write_of}
+use Rattle.std.specs.Prelude.{Result}
 use Rattle.synthesis_arena.specs.Chains.{told_circuit}
-use Rattle.synthesis_arena.specs.declared.NodeCircuit.{NodeCircuit}
+use Rattle.synthesis_arena.specs.declared.BadChain.{BadChain}
 use Rattle.refusal.specs.Told.{Reason, number_of, position_of}
 use Rattle.refusal.specs.declared.Refusal.{Refusal}
 use Rattle.refusal.proofs.Numbers.{Refuses}
@@ -50,13 +51,13 @@ module _ (t : Table) (a : Arrays) (w k : ℕ) (out : List ℕ) where
   refused_write x = ap (λ (z : Reason). outcome (refused z.number z.position) out) x.told ∙ sym (write_refused t a w k out _ x.some refl)
 
 -- a chain that was read, as the part of the width has it
-module _ (n basis limit start entries k : ℕ) (parents codes out : List ℕ) {new : List ℕ} {r : NodeCircuit} where
-  pub told_as : {s : NodeCircuit} → r ≡ s
+module _ (n basis limit start entries k : ℕ) (parents codes out : List ℕ) {new : List ℕ} {r : Result ℕ BadChain} where
+  pub told_as : {s : Result ℕ BadChain} → r ≡ s
       → outcome (told_circuit r) new ≡ written out (chain_of n basis (take (start + entries - start) (drop start parents)) (take (start + entries - start) (drop start codes)) limit k)
       → outcome (told_circuit s) new ≡ written out (chain_of n basis (take entries (drop start parents)) (take entries (drop start codes)) limit k)
   told_as e h =
       let size : start + entries - start ≡ entries = omega arith in
-      ap (λ (x : NodeCircuit). outcome (told_circuit x) new) (sym e) ∙ h
+      ap (λ (x : Result ℕ BadChain). outcome (told_circuit x) new) (sym e) ∙ h
       ∙ ap (λ (j : ℕ). written out (chain_of n basis (take j (drop start parents)) (take j (drop start codes)) limit k)) size
 
 -- ---- an answer

@@ -2,21 +2,22 @@
 // lists, builds and the search stand in crates of their own, named here, so that an edit of one is proved without the
 // others; here are the entries that find, write and answer, and those by the scan. The entries that end in `_by` take
 // how nodes are looked up, and an index for it; those without are by the scan. `build_by` takes a mode too; `build` is
-// by the fingerprint.
+// by the fingerprint. An entry takes lent slices and numbers, one by one; the functions below it take them as `Lent`,
+// what is lent of a table, and `Query`, a matrix that is asked.
 #![tactic(auto)]
 
 ghost use Rattle.std.specs.Prelude.{◌≡◌, false, length};
-ghost use Rattle.exact.proofs.Words.{AllSmall};
-ghost use Rattle.exact.specs.Places.{read};
-ghost use Rattle.node_answer.specs.Answers.{told_find};
 ghost use Rattle.walk.specs.Answers.{outcome as replied};
 ghost use Rattle.walk.specs.Modes.{by_print};
-ghost use Rattle.tables.specs.Checks.{first_row, query_rows, arrays, arrays_by, room_row};
+ghost use Rattle.tables.specs.Checks.{arrays, arrays_by, room_row};
 ghost use Rattle.tables.specs.Tables.{left, build_of, query, record_row, found_in, written_in, synthesized};
 ghost use Rattle.tables.proofs.Asked.{part_found};
 ghost use Rattle.index.specs.Told.{told_by};
 ghost use Rattle.murm_config.specs.Told.{told_config, told_murm};
+ghost use Rattle.murm_query.specs.Entries.{told_query};
+ghost use Rattle.murm_query.specs.Work.{Askable};
 ghost use Rattle.murm_build.specs.Entries.{told_building};
+ghost use Rattle.murm_part.specs.Told.{told_lent};
 ghost use Rattle.murm_find.specs.Entries.{told_synthesized};
 ghost use Rattle.murm.specs.Entries.{told_found_node, told_written};
 ghost use Rattle.murm.specs.Work.{Writable, node_written};
@@ -24,14 +25,13 @@ ghost use Rattle.murm.specs.Work.{Writable, node_written};
 use cyclotomic::Coefficient;
 use index::LookupBy;
 use known::BuildMode;
-pub use murm_build::{Building, Filling, build_by, fill_index};
+pub use murm_build::{build_by, fill_index};
 use murm_config::{Murm, MurmConfig};
-pub use murm_find::Synthesized;
-pub use murm_lists::{Listed, library_circuit_matrix};
-pub use murm_query::{Fingerprinted, library_fingerprint};
-use node_answer::Find;
-use refusal::{Check, Refusal};
-use synthesis_arena::NodeCircuit;
+pub use murm_lists::library_circuit_matrix;
+use murm_part::Lent;
+use murm_query::Query;
+pub use murm_query::library_fingerprint;
+use refusal::Refusal;
 
 // The same where a fingerprint alone makes known, by the scan.
 pub fn build(
@@ -39,7 +39,7 @@ pub fn build(
     fingerprints: &mut [u64],
     parents: &mut [u32],
     codes: &mut [u32],
-) -> Building
+) -> Result<Murm, Refusal>
     ensures { left (told_building result) (arrays fingerprints.new parents.new codes.new)
         ≡ build_of by_print (told_config config) (arrays fingerprints.old parents.old codes.old) }
 {
@@ -55,60 +55,21 @@ pub fn build(
     )
 }
 
-// What is found for a matrix: a node, and how many gates its list has; none; or why it was refused.
-#[derive(Clone, Copy)]
-pub enum FoundNode {
-    Node(usize, usize),
-    Nothing,
-    Refused(Refusal),
-}
-
-// The same, of what a width's part told.
-fn found_node(found: Find) -> FoundNode
-    ensures { told_found_node result ≡ told_find found }
-{
-    match found {
-        Find::Node(node, size) => FoundNode::Node(node, size),
-        Find::Nothing => FoundNode::Nothing,
-        Find::BadChain => FoundNode::Refused(Refusal::BadTable),
-    }
-}
-
-// A find that no row refuses. Its list is not kept.
+// A find that no row refuses: a node, and how many gates its list has, or none. The list is not kept.
 fn find_passed(
-    by: LookupBy,
     table: Murm,
-    fingerprints: &[u64],
-    parents: &[u32],
-    codes: &[u32],
-    index: &[u32],
-    width: u32,
-    exponent: u16,
-    matrix: &[Coefficient],
-) -> FoundNode
+    lent: Lent<'_>,
+    query: Query<'_>,
+) -> Result<Option<(usize, usize)>, Refusal>
     requires table_value { (record_row (told_murm table)).holds ≡ false }
-    requires codes_value { (room_row (told_config table.config) (arrays fingerprints.now parents.now codes.now)).holds ≡ false }
-    requires matrix_value { (first_row (query_rows width exponent matrix.now) ≡ 0) × AllSmall width (read width matrix.now) }
-    ensures { told_found_node result ≡ part_found (told_murm table)
-        (arrays_by (told_by by) fingerprints.now parents.now codes.now index.now)
-        (query width exponent matrix.now) }
+    requires codes_value { (room_row (told_config table.config) (told_lent lent)).holds ≡ false }
+    requires matrix_value { Askable (told_query query) }
+    ensures { told_found_node result ≡ part_found (told_murm table) (told_lent lent.entry) (told_query query.entry) }
 {
     let config = table.config;
-    let count = murm_config::count_at(table, width);
+    let count = murm_config::count_at(table, query.width);
     let mut list: [u32; 64] = [0; 64];
-    found_node(murm_find::find_any(
-        by,
-        config,
-        fingerprints,
-        parents,
-        codes,
-        index,
-        width,
-        count,
-        exponent,
-        matrix,
-        &mut list,
-    ))
+    Ok(murm_find::find_any(config, lent, query, count, &mut list)?)
 }
 
 // The node that answers a matrix is found (SPECIFICATION 7.10): 13 of the record, then 5, 17, 6, 9, 10, 11, then 13 of
@@ -123,35 +84,25 @@ pub fn find_by(
     width: u32,
     exponent: u16,
     matrix: &[Coefficient],
-) -> FoundNode
+) -> Result<Option<(usize, usize)>, Refusal>
     ensures { told_found_node result ≡ found_in (told_murm table)
         (arrays_by (told_by by) fingerprints.now parents.now codes.now index.now)
         (query width exponent matrix.now) }
 {
-    match murm_find::check_find(
+    let lent = Lent {
         by,
-        table,
-        fingerprints.len(),
-        parents.len(),
-        codes.len(),
-        index.len(),
+        fingerprints,
+        parents,
+        codes,
+        index,
+    };
+    let query = Query {
         width,
         exponent,
         matrix,
-    ) {
-        Check::Passed => find_passed(
-            by,
-            table,
-            fingerprints,
-            parents,
-            codes,
-            index,
-            width,
-            exponent,
-            matrix,
-        ),
-        Check::Refused(r) => FoundNode::Refused(r),
-    }
+    };
+    murm_find::check_find(table, lent, query)?;
+    find_passed(table, lent, query)
 }
 
 // The same by the scan.
@@ -163,7 +114,7 @@ pub fn find(
     width: u32,
     exponent: u16,
     matrix: &[Coefficient],
-) -> FoundNode
+) -> Result<Option<(usize, usize)>, Refusal>
     ensures { told_found_node result ≡ found_in (told_murm table)
         (arrays fingerprints.now parents.now codes.now) (query width exponent matrix.now) }
 {
@@ -181,14 +132,7 @@ pub fn find(
     )
 }
 
-// What a node's list came to: how many gates it has, or why it was refused.
-#[derive(Clone, Copy)]
-pub enum Written {
-    List(usize),
-    Refused(Refusal),
-}
-
-// The list of a node that the width has.
+// The list of a node that the width has: how many gates it has.
 fn write_part(
     table: Murm,
     parents: &[u32],
@@ -196,14 +140,14 @@ fn write_part(
     width: u32,
     node: usize,
     out: &mut [u32],
-) -> Written
+) -> Result<usize, Refusal>
     requires { Writable (told_murm table) width node (length parents.now) (length codes.now) (length out.old) }
     ensures { replied (told_written result) out.new ≡ node_written (told_murm table) parents.now codes.now width node out.old }
 {
     let e = table.config.max_entries_per_qubit as usize;
     let start = (width as usize - 1) * e;
     let end = start + e;
-    match synthesis_arena::circuit(
+    Ok(synthesis_arena::circuit(
         &parents[start..end],
         &codes[start..end],
         width,
@@ -211,10 +155,7 @@ fn write_part(
         table.config.max_gates as usize,
         node,
         out,
-    ) {
-        NodeCircuit::Length(size) => Written::List(size),
-        NodeCircuit::Bad => Written::Refused(Refusal::BadTable),
-    }
+    )?)
 }
 
 // The list of a node is written (SPECIFICATION 7.11): 13 of the record, then 5, 16, 12, then 13 of the node's chain.
@@ -228,11 +169,11 @@ pub fn write(
     width: u32,
     node: usize,
     out: &mut [u32],
-) -> Written
+) -> Result<usize, Refusal>
     ensures { replied (told_written result) out.new ≡ written_in (told_murm table)
         (arrays fingerprints.now parents.now codes.now) width node out.old }
 {
-    match murm_config::check_write(
+    murm_config::check_write(
         table,
         fingerprints.len(),
         parents.len(),
@@ -240,10 +181,8 @@ pub fn write(
         width,
         node,
         out.len(),
-    ) {
-        Check::Passed => write_part(table, parents, codes, width, node, out),
-        Check::Refused(r) => Written::Refused(r),
-    }
+    )?;
+    write_part(table, parents, codes, width, node, out)
 }
 
 // A matrix is answered (SPECIFICATION, chapter 7): 13 of the record, then 5, 17, 6, 9, 10, 11, 12; then it is the find,
@@ -260,36 +199,25 @@ pub fn synthesize_by(
     exponent: u16,
     matrix: &[Coefficient],
     out: &mut [u32],
-) -> Synthesized
+) -> Result<Option<usize>, Refusal>
     ensures { replied (told_synthesized result) out.new ≡ synthesized (told_murm table)
         (arrays_by (told_by by) fingerprints.now parents.now codes.now index.now)
         (query width exponent matrix.now) out.old }
 {
-    match murm_find::check_find(
+    let lent = Lent {
         by,
-        table,
-        fingerprints.len(),
-        parents.len(),
-        codes.len(),
-        index.len(),
+        fingerprints,
+        parents,
+        codes,
+        index,
+    };
+    let query = Query {
         width,
         exponent,
         matrix,
-    ) {
-        Check::Passed => murm_find::ask(
-            by,
-            table,
-            fingerprints,
-            parents,
-            codes,
-            index,
-            width,
-            exponent,
-            matrix,
-            out,
-        ),
-        Check::Refused(r) => Synthesized::Refused(r),
-    }
+    };
+    murm_find::check_find(table, lent, query)?;
+    murm_find::ask(table, lent, query, out)
 }
 
 // The same by the scan.
@@ -302,7 +230,7 @@ pub fn synthesize(
     exponent: u16,
     matrix: &[Coefficient],
     out: &mut [u32],
-) -> Synthesized
+) -> Result<Option<usize>, Refusal>
     ensures { replied (told_synthesized result) out.new
         ≡ synthesized (told_murm table) (arrays fingerprints.now parents.now codes.now) (query width exponent matrix.now) out.old }
 {

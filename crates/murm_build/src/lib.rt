@@ -14,14 +14,7 @@ ghost use Rattle.murm_build.specs.Entries.{told_building, told_filling};
 use index::LookupBy;
 use known::BuildMode;
 use murm_config::{Murm, MurmConfig};
-use refusal::{Check, Refusal};
-
-// What a build comes to: the table's record, or why it was refused.
-#[derive(Clone, Copy)]
-pub enum Building {
-    Table(Murm),
-    Refused(Refusal),
-}
+use refusal::Refusal;
 
 // A table is built in a mode (SPECIFICATION, chapter 6): rows 1, 2, 3, 4, 5, 17. A refusal leaves the three arrays and
 // the index as they were; else widths 1 to Q are filled, and all other places keep what they held. By the index, each
@@ -34,41 +27,22 @@ pub fn build_by(
     parents: &mut [u32],
     codes: &mut [u32],
     index: &mut [u32],
-) -> Building
+) -> Result<Murm, Refusal>
     ensures { left (told_building result)
         (arrays_by (told_by by) fingerprints.new parents.new codes.new index.new)
         ≡ build_of (told_mode mode) (told_config config)
         (arrays_by (told_by by) fingerprints.old parents.old codes.old index.old) }
 {
-    match murm_config::check_build(
+    murm_config::check_build(
         by,
         config,
         fingerprints.len(),
         parents.len(),
         codes.len(),
         index.len(),
-    ) {
-        Check::Passed => {
-            let table = murm_widths::build_widths(
-                mode,
-                by,
-                config,
-                fingerprints,
-                parents,
-                codes,
-                index,
-            );
-            Building::Table(table)
-        }
-        Check::Refused(r) => Building::Refused(r),
-    }
-}
-
-// What a fill of the index comes to: filled, or why it was refused.
-#[derive(Clone, Copy)]
-pub enum Filling {
-    Filled,
-    Refused(Refusal),
+    )?;
+    let table = murm_widths::build_widths(mode, by, config, fingerprints, parents, codes, index);
+    Ok(table)
 }
 
 // The index is cleared and filled from a table, nodes rising (SPECIFICATION 7.17): 13 of the record, then 5, 17. A
@@ -79,22 +53,18 @@ pub fn fill_index(
     parents: &[u32],
     codes: &[u32],
     index: &mut [u32],
-) -> Filling
+) -> Result<(), Refusal>
     ensures { fill_left (told_filling result) index.new ≡ fill_of (told_murm table)
         (arrays_by indexed fingerprints.now parents.now codes.now index.old) }
 {
-    match murm_config::check_look(
+    murm_config::check_look(
         LookupBy::Index,
         table,
         fingerprints.len(),
         parents.len(),
         codes.len(),
         index.len(),
-    ) {
-        Check::Passed => {
-            murm_widths::fill_widths(table, fingerprints, index);
-            Filling::Filled
-        }
-        Check::Refused(r) => Filling::Refused(r),
-    }
+    )?;
+    murm_widths::fill_widths(table, fingerprints, index);
+    Ok(())
 }

@@ -13,21 +13,18 @@ use Rattle.refusal.specs.Told.{number_of, position_of}
 use Rattle.refusal.specs.declared.Refusal.{Refusal}
 use Rattle.murm_lists.specs.Entries.{told_listed}
 use Rattle.murm_find.specs.Entries.{told_synthesized}
-use Rattle.murm_lists.specs.declared.Listed.{Listed}
-use Rattle.murm_lists.specs.declared.Listed.TheVariants as l
-use Rattle.murm_find.specs.declared.Synthesized.{Synthesized}
-use Rattle.murm_find.specs.declared.Synthesized.TheVariants as s
+use Rattle.std.specs.Prelude.{Option, Result, Err}
 use Rattle.murm_c.specs.Numbers.{capped, refusal_number, list_number, reply_number, counted, counts_table}
 
 pub refusal_is : {n p x r i : ℕ} → n ≡ r → p ≡ i → x ≡ capped p → n * 4294967296 + x ≡ refusal_number r i
 refusal_is h e w = λ k. h k * 4294967296 + (w ∙ ap capped e) k
 
-pub list_refused : (r : Refusal) {t : Listed} {n : ℕ} → t ≡ l.Refused r → n ≡ refusal_number (number_of r) (position_of r) → n ≡ list_number (told_listed t)
-list_refused r e h = h ∙ ap (λ (x : Listed). list_number (told_listed x)) (sym e)
+pub list_refused : (r : Refusal) {t : Result ℕ Refusal} {n : ℕ} → t ≡ Err r → n ≡ refusal_number (number_of r) (position_of r) → n ≡ list_number (told_listed t)
+list_refused r e h = h ∙ ap (λ (x : Result ℕ Refusal). list_number (told_listed x)) (sym e)
 
-pub reply_refused : (r : Refusal) {t : Synthesized} {n : ℕ} → t ≡ s.Refused r → n ≡ refusal_number (number_of r) (position_of r)
+pub reply_refused : (r : Refusal) {t : Result (Option ℕ) Refusal} {n : ℕ} → t ≡ Err r → n ≡ refusal_number (number_of r) (position_of r)
     → n ≡ reply_number (told_synthesized t)
-reply_refused r e h = h ∙ ap (λ (x : Synthesized). reply_number (told_synthesized x)) (sym e)
+reply_refused r e h = h ∙ ap (λ (x : Result (Option ℕ) Refusal). reply_number (told_synthesized x)) (sym e)
 
 pub list_told : {o : ListOutcome} {t : Answer} {numbers : List ℤ} {n : ℕ} → outcome t numbers ≡ o → n ≡ list_number t → (n ≡ list_number o.answer) × (numbers ≡ o.numbers)
 list_told w h = (h ∙ ap (λ (o : ListOutcome). list_number o.answer) w, ap (λ (o : ListOutcome). o.numbers) w)

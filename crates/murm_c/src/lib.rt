@@ -14,7 +14,6 @@ ghost use Rattle.murm_c.specs.Numbers.{capped, refusal_number, list_number, repl
 
 use circuit::GateSet;
 use cyclotomic::Coefficient;
-use murm::{Listed, Synthesized};
 use murm_config::{Murm, MurmConfig};
 use refusal::Refusal;
 use width_record::WidthTable;
@@ -27,10 +26,7 @@ fn cap(position: u64) -> u64
     ensures is { result ≡ capped position }
     ensures most { result ≤ 4294967295 }
 {
-    if position > 4294967295 {
-        return 4294967295;
-    }
-    position
+    position.min(4294967295)
 }
 
 // Refusal × 2^32 + position.
@@ -42,23 +38,23 @@ pub fn refusal_number(why: Refusal) -> u64
 }
 
 // What a list became: the exponent, or why it was refused.
-fn list_number(told: Listed) -> u64
+fn list_number(told: Result<u16, Refusal>) -> u64
     ensures { result ≡ list_number (told_listed told) }
 {
     match told {
-        Listed::Matrix(k) => k as u64,
-        Listed::Refused(r) => refusal_number(r),
+        Ok(k) => k as u64,
+        Err(why) => refusal_number(why),
     }
 }
 
 // What a table answers: the gate count, 4294967295 for none, or why it was refused.
-pub fn reply_number(told: Synthesized) -> u64
+pub fn reply_number(told: Result<Option<usize>, Refusal>) -> u64
     ensures { result ≡ reply_number (told_synthesized told) }
 {
     match told {
-        Synthesized::Circuit(m) => m as u64,
-        Synthesized::Nothing => 4294967295,
-        Synthesized::Refused(r) => refusal_number(r),
+        Ok(Some(m)) => m as u64,
+        Ok(None) => 4294967295,
+        Err(why) => refusal_number(why),
     }
 }
 

@@ -13,7 +13,7 @@ ghost use Rattle.murm_config.specs.Told.{told_config, told_width, told_murm, wit
 
 use index::LookupBy;
 pub use murm_limits::{MurmConfig, check_build};
-use refusal::{Check, Refusal};
+use refusal::Refusal;
 use width_record::WidthTable;
 
 // What a build returns, the record: its limits, and for each width how many nodes, the completed depth, whether it is
@@ -52,42 +52,31 @@ fn bad_counts(table: Murm) -> bool
 {
     let q = table.config.max_qubits;
     let e = table.config.max_entries_per_qubit;
-    if murm_limits::bad_count(1, q, e, table.width1.count) {
-        return true;
-    }
-    if murm_limits::bad_count(2, q, e, table.width2.count) {
-        return true;
-    }
-    if murm_limits::bad_count(3, q, e, table.width3.count) {
-        return true;
-    }
-    if murm_limits::bad_count(4, q, e, table.width4.count) {
-        return true;
-    }
-    murm_limits::bad_count(5, q, e, table.width5.count)
+    murm_limits::bad_count(1, q, e, table.width1.count)
+        || murm_limits::bad_count(2, q, e, table.width2.count)
+        || murm_limits::bad_count(3, q, e, table.width3.count)
+        || murm_limits::bad_count(4, q, e, table.width4.count)
+        || murm_limits::bad_count(5, q, e, table.width5.count)
 }
 
 // Row 13 of the record: whether one of the rows 1 to 4 refuses its limits, or a count is bad (SPECIFICATION 9.3).
 pub fn bad_record(table: Murm) -> bool
     ensures { result ≡ (record_row (told_murm table)).holds }
 {
-    match murm_limits::limits(table.config) {
-        Check::Passed => bad_counts(table),
-        Check::Refused(_) => true,
-    }
+    murm_limits::limits(table.config).is_err() || bad_counts(table)
 }
 
 // Whether a table with arrays of these lengths may be asked; else 13 of the record or 5 (SPECIFICATION 9.2).
-pub fn check_table(table: Murm, prints: usize, parents: usize, codes: usize) -> Check
+pub fn check_table(table: Murm, prints: usize, parents: usize, codes: usize) -> Result<(), Refusal>
     ensures { told_check result ≡ by_row (first_row (table_rows (told_murm table) prints parents codes)) }
 {
     if bad_record(table) {
-        return Check::Refused(Refusal::BadTable);
+        return Err(Refusal::BadTable);
     }
     if murm_limits::too_short(table.config, prints, parents, codes) {
-        return Check::Refused(Refusal::ArrayTooShort);
+        return Err(Refusal::ArrayTooShort);
     }
-    Check::Passed
+    Ok(())
 }
 
 // Whether nodes of a table with arrays and an index of these lengths may be looked up; else 13 of the record, 5 or 17
@@ -99,19 +88,15 @@ pub fn check_look(
     parents: usize,
     codes: usize,
     places: usize,
-) -> Check
+) -> Result<(), Refusal>
     requires { places < 2305843009213693952 }
     ensures { told_check result ≡ by_row (first_row (look_rows (told_murm table) (told_by by) prints parents codes places)) }
 {
-    match check_table(table, prints, parents, codes) {
-        Check::Passed => {
-            if murm_limits::bad_index(by, table.config, places) {
-                return Check::Refused(Refusal::BadIndex);
-            }
-            Check::Passed
-        }
-        Check::Refused(r) => Check::Refused(r),
+    check_table(table, prints, parents, codes)?;
+    if murm_limits::bad_index(by, table.config, places) {
+        return Err(Refusal::BadIndex);
     }
+    Ok(())
 }
 
 // How many entries a width has: none where the table does not have the width, whatever the record says (SPECIFICATION
@@ -126,16 +111,16 @@ pub fn count_at(table: Murm, width: u32) -> usize
 }
 
 // Whether a width has the node, and a list of so many places room for the longest; else 16 or 12.
-fn check_node(table: Murm, width: u32, node: usize, room: usize) -> Check
+fn check_node(table: Murm, width: u32, node: usize, room: usize) -> Result<(), Refusal>
     ensures { told_check result ≡ by_row (first_row (node_rows (told_murm table) width node room)) }
 {
     if node >= count_at(table, width) {
-        return Check::Refused(Refusal::NoSuchNode);
+        return Err(Refusal::NoSuchNode);
     }
     if room < table.config.max_gates as usize {
-        return Check::Refused(Refusal::ListTooShort);
+        return Err(Refusal::ListTooShort);
     }
-    Check::Passed
+    Ok(())
 }
 
 // Whether the list of a node may be written; else which row of a write is the first to refuse (SPECIFICATION 9.2).
@@ -147,13 +132,11 @@ pub fn check_write(
     width: u32,
     node: usize,
     room: usize,
-) -> Check
+) -> Result<(), Refusal>
     ensures { told_check result ≡ by_row (first_row (table_rows (told_murm table) prints parents codes ++ node_rows (told_murm table) width node room)) }
 {
-    match check_table(table, prints, parents, codes) {
-        Check::Passed => check_node(table, width, node, room),
-        Check::Refused(r) => Check::Refused(r),
-    }
+    check_table(table, prints, parents, codes)?;
+    check_node(table, width, node, room)
 }
 
 // The record before any width is built.

@@ -3,10 +3,10 @@ use mathlib.Core.Path.{◌≡◌, refl, sym, ap, ◌∙◌}
 use mathlib.Core.Bool.{true, false}
 use mathlib.Core.List.{List, [], ◌∷◌, ◌++◌}
 use Prim.Native.Nat.{ℕ}
+use Rattle.std.specs.Prelude.{Result, Ok, Err}
+use Rattle.std.specs.Result.{IsErrAnd}
 use Rattle.refusal.specs.Told.{Reason, by_row, told_refusal, told_check}
 use Rattle.refusal.specs.declared.Refusal.{Refusal}
-use Rattle.refusal.specs.declared.Check.{Check}
-use Rattle.refusal.specs.declared.Check.TheVariants as check
 use Rattle.refusal.proofs.Numbers as n
 use Rattle.walk.specs.Index.{By}
 use Rattle.tables.specs.Checks.{Row, first_row, Limits, too_short, short_row, index_row}
@@ -14,12 +14,15 @@ use Rattle.tables.proofs.Rows.{Numbered, index_number, first_here, first_past, f
 
 -- ---- rows after others, which a check has tried
 
-module _ (rs ss : List Row) (numbered : Numbered rs) {x : Check} (e : told_check x ≡ by_row (first_row rs)) where
-  pub later_rows : x ≡ check.Passed → {r : Reason} → r ≡ by_row (first_row ss) → r ≡ by_row (first_row (rs ++ ss))
-  later_rows h g = g ∙ ap by_row (sym (first_row_append rs ss numbered (n.passed e h)))
+module _ (rs ss : List Row) (numbered : Numbered rs) where
+  pub later_rows : by_row 0 ≡ by_row (first_row rs) → {r : Reason} → r ≡ by_row (first_row ss) → r ≡ by_row (first_row (rs ++ ss))
+  later_rows e g = g ∙ ap by_row (sym (first_row_append rs ss numbered (n.passed e)))
 
-  pub first_refuses : {r : Refusal} → x ≡ check.Refused r → told_refusal r ≡ by_row (first_row (rs ++ ss))
-  first_refuses h = let w = n.refused e h in w.told ∙ ap by_row (sym (first_some rs ss _ w.some refl))
+  -- what a `?` returns: the refusal that the check gave
+  pub first_refuses : (x : Result (Unit {0}) Refusal) (r : Refusal) → IsErrAnd x (λ (e : Refusal). e ≡ r) → told_refusal r ≡ by_row (first_row rs)
+      → told_check x ≡ by_row (first_row (rs ++ ss))
+  first_refuses (Ok v) r h e = absurd h
+  first_refuses (Err q) r h e = ap told_refusal h ∙ e ∙ ap by_row (sym (first_some rs ss _ (n.refused {r = r} e).some refl))
 
 -- ---- row 17, the last of its rows
 

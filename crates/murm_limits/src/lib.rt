@@ -12,7 +12,7 @@ ghost use Rattle.murm_limits.specs.Told.{told_config};
 
 use circuit::GateSet;
 use index::LookupBy;
-use refusal::{Check, Refusal};
+use refusal::Refusal;
 
 // The width limit Q, the gate limit G, the entry limit E and the basis B (SPECIFICATION 6.1).
 #[derive(Clone, Copy)]
@@ -24,32 +24,23 @@ pub struct MurmConfig {
 }
 
 // Whether the limits may be built with; else which of the rows 1 to 4 is the first to refuse them (SPECIFICATION 9.1).
-pub fn limits(config: MurmConfig) -> Check
+pub fn limits(config: MurmConfig) -> Result<(), Refusal>
     ensures { told_check result ≡ by_row (first_row (limit_rows (told_config config))) }
 {
-    if config.max_qubits == 0 {
-        return Check::Refused(Refusal::WidthLimit);
-    }
-    if config.max_qubits > 5 {
-        return Check::Refused(Refusal::WidthLimit);
+    if config.max_qubits == 0 || config.max_qubits > 5 {
+        return Err(Refusal::WidthLimit);
     }
     if config.max_entries_per_qubit == 0 {
-        return Check::Refused(Refusal::NoEntries);
+        return Err(Refusal::NoEntries);
     }
     let basis = config.basis;
-    if basis.is_empty() {
-        return Check::Refused(Refusal::Basis);
+    if basis.is_empty() || !basis.is_supported() {
+        return Err(Refusal::Basis);
     }
-    if !basis.is_supported() {
-        return Check::Refused(Refusal::Basis);
+    if config.max_gates > 64 || config.max_entries_per_qubit > 1000000 {
+        return Err(Refusal::TooLarge);
     }
-    if config.max_gates > 64 {
-        return Check::Refused(Refusal::TooLarge);
-    }
-    if config.max_entries_per_qubit > 1000000 {
-        return Check::Refused(Refusal::TooLarge);
-    }
-    Check::Passed
+    Ok(())
 }
 
 // Row 5: whether one of three arrays of these lengths has fewer than Q × E places (SPECIFICATION 9.1).
@@ -58,18 +49,11 @@ pub fn too_short(config: MurmConfig, prints: usize, parents: usize, codes: usize
     ensures { result ≡ too_short (told_config config) prints parents codes }
 {
     let size = config.max_qubits as usize * config.max_entries_per_qubit as usize;
-    if prints < size {
-        return true;
-    }
-    if parents < size {
-        return true;
-    }
-    codes < size
+    prints < size || parents < size || codes < size
 }
 
 // Whether an index of so many places is one part for each width up to Q, all of one size, a power of two and at least
-// twice E (SPECIFICATION 7.16). A power of two has no bit in common with the number before it, and any other number
-// above 0 has one. The bound is that of any slice of 32-bit places.
+// twice E (SPECIFICATION 7.16). The bound is that of any slice of 32-bit places.
 fn in_parts(config: MurmConfig, places: usize) -> bool
     requires { (0 < config.max_qubits) × (config.max_qubits ≤ 5) × (config.max_entries_per_qubit ≤ 1000000) × (places < 2305843009213693952) }
     ensures { result ≡ in_parts (told_config config) places }
@@ -77,17 +61,7 @@ fn in_parts(config: MurmConfig, places: usize) -> bool
     let q = config.max_qubits as usize;
     let e = config.max_entries_per_qubit as usize;
     let size = places / q;
-    if q * size != places {
-        return false;
-    }
-    if size == 0 {
-        return false;
-    }
-    let last = size as u64 - 1;
-    if size as u64 & last != 0 {
-        return false;
-    }
-    size >= 2 * e
+    q * size == places && size.is_power_of_two() && size >= 2 * e
 }
 
 // Row 17: whether the look-up is by an index of so many places that is not such parts; the scan asks for none
@@ -111,34 +85,24 @@ pub fn check_build(
     parents: usize,
     codes: usize,
     places: usize,
-) -> Check
+) -> Result<(), Refusal>
     requires { places < 2305843009213693952 }
     ensures { told_check result ≡ by_row (first_row (limit_rows (told_config config)
         ++ (short_row (told_config config) prints parents codes ∷ index_row (told_config config) (told_by by) places ∷ []))) }
 {
-    match limits(config) {
-        Check::Passed => {
-            if too_short(config, prints, parents, codes) {
-                return Check::Refused(Refusal::ArrayTooShort);
-            }
-            if bad_index(by, config, places) {
-                return Check::Refused(Refusal::BadIndex);
-            }
-            Check::Passed
-        }
-        Check::Refused(r) => Check::Refused(r),
+    limits(config)?;
+    if too_short(config, prints, parents, codes) {
+        return Err(Refusal::ArrayTooShort);
     }
+    if bad_index(by, config, places) {
+        return Err(Refusal::BadIndex);
+    }
+    Ok(())
 }
 
 // Whether a width up to Q has a count that is 0 or above E (SPECIFICATION 9.3).
 pub fn bad_count(width: u32, qubits: u32, entries: u32, count: usize) -> bool
     ensures { result ≡ bad_count_of qubits entries width count }
 {
-    if width > qubits {
-        return false;
-    }
-    if count == 0 {
-        return true;
-    }
-    count > entries as usize
+    width <= qubits && (count == 0 || count > entries as usize)
 }

@@ -11,7 +11,6 @@ use lib.ListN.{length, take, drop, length-drop}
 use lib.Seq.{length-take-le, take_all}
 use Rattle.width_answer.specs.Answers.{ListFound}
 use Rattle.exact.specs.Places.{held}
-use Rattle.walk.specs.Index.{By}
 use Rattle.walk.specs.Finds.{WidthLimits, Finding}
 use Rattle.tables.specs.Checks.{Limits, Arrays, places_of}
 use Rattle.tables.specs.Tables.{Table, Query, width_at, record_row, count_at}
@@ -73,14 +72,15 @@ module _ (t : Table) (w : ℕ) (r : (record_row t).holds ≡ false) where
 pub whole : (xs : List ℤ) → take (length xs - 0) (drop 0 xs) ≡ xs
 whole xs = take_all (length xs - 0) xs (omega arith)
 
-module _ (limits : WidthLimits) (n k : ℕ) (numbers : List ℤ) (by : By) (start entries place size : ℕ) (f u c i : List ℕ) {g : Finding} {list : List ℕ} where
-  pub same_slices : {m j count : ℕ} → m ≡ entries → j ≡ size
-      → ListFound limits (part_from by start m count place j f u c i) (held n k (take (length numbers - 0) (drop 0 numbers))) g list
-      → ListFound limits (part_from by start entries count place size f u c i) (held n k numbers) g list
-  same_slices {m} {j} {count} e h w =
-      subst (λ (l : List ℤ). ListFound limits (part_from by start entries count place size f u c i) (held n k l) g list) (whole numbers)
-      (subst (λ (z : ℕ). ListFound limits (part_from by start entries count place z f u c i) (held n k (take (length numbers - 0) (drop 0 numbers))) g list) h
-      (subst (λ (z : ℕ). ListFound limits (part_from by start z count place j f u c i) (held n k (take (length numbers - 0) (drop 0 numbers))) g list) e w))
+module _ (limits : WidthLimits) (n k : ℕ) (numbers : List ℤ) (a : Arrays) (start entries place size : ℕ) {g : Finding} {list : List ℕ} where
+  pub same_slices : {w m j count : ℕ} → w ≡ n → m ≡ entries → j ≡ size
+      → ListFound limits (part_from a start m count place j) (held w k (take (length numbers - 0) (drop 0 numbers))) g list
+      → ListFound limits (part_from a start entries count place size) (held n k numbers) g list
+  same_slices {w} {m} {j} {count} d e h x =
+      subst (λ (l : List ℤ). ListFound limits (part_from a start entries count place size) (held n k l) g list) (whole numbers)
+      (subst (λ (z : ℕ). ListFound limits (part_from a start entries count place z) (held n k (take (length numbers - 0) (drop 0 numbers))) g list) h
+      (subst (λ (z : ℕ). ListFound limits (part_from a start z count place j) (held n k (take (length numbers - 0) (drop 0 numbers))) g list) e
+      (subst (λ (z : ℕ). ListFound limits (part_from a start m count place j) (held z k (take (length numbers - 0) (drop 0 numbers))) g list) d x)))
 
 -- with the count that the table has
 pub same_count : (l : Limits) (a : Arrays) (q : Query) {g : Finding} {list : List ℕ} {count m : ℕ} → count ≡ m → FoundFor l count a q g list → FoundFor l m a q g list

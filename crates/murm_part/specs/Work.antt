@@ -1,6 +1,5 @@
 -- Limits with the count of a width, the part of the width, and the list of what is found in it. Assumes nothing.
 use Rattle.std.specs.Prelude.{List, ℕ, ◌≤◌, ◌<◌, take, drop}
-use Rattle.walk.specs.Index.{By}
 use Rattle.walk.specs.Finds.{Part, part_with, Finding}
 use Rattle.width_answer.specs.Answers.{ListFound}
 use Rattle.tables.specs.Checks.{Limits, Arrays}
@@ -20,6 +19,7 @@ FoundFor l count a q g list = ListFound (limits_at l q.width) (part_by l count a
 
 -- the places from a start on, as many as a width has, of each array, and `size` places of the index from a place on
 -- (SPECIFICATION 6.2, 7.16)
-abbrev pub part_from : By → ℕ → ℕ → ℕ → ℕ → ℕ → List ℕ → List ℕ → List ℕ → List ℕ → Part
-part_from by start entries count place size f u c i =
-    part_with by (take entries (drop start f)) (take entries (drop start u)) (take entries (drop start c)) count (take size (drop place i))
+abbrev pub part_from : Arrays → ℕ → ℕ → ℕ → ℕ → ℕ → Part
+part_from a start entries count place size =
+    part_with a.by (take entries (drop start a.prints)) (take entries (drop start a.parents)) (take entries (drop start a.codes))
+    count (take size (drop place a.index))

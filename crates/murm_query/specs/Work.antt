@@ -6,6 +6,7 @@ use Rattle.exact.proofs.Words.{AllSmall}
 use Rattle.exact.specs.Places.{read}
 use Rattle.refusal.specs.Told.{Reason, by_row}
 use Rattle.tables.specs.Checks.{any_below, first_row, query_rows}
+use Rattle.tables.specs.Tables.{Query}
 
 -- whether no coefficient is -32768; then all are within the limit
 pub record InRange (l : List ℤ) (r : Bool) : Type 0 where
@@ -13,6 +14,10 @@ pub record InRange (l : List ℤ) (r : Bool) : Type 0 where
   pub small : r ≡ true → (i : ℕ) → i < length l → nat_abs (get_or l i (pos 0)) ≤ limit
 
 -- the checks of a query, by the row that refuses; a query that none refuses is within the limit
-pub record Checked (n k : ℕ) (l : List ℤ) (r : Reason) : Type 0 where
-  pub told : r ≡ by_row (first_row (query_rows n k l))
-  pub small : r.number ≡ 0 → AllSmall n (read n l)
+pub record Checked (q : Query) (r : Reason) : Type 0 where
+  pub told : r ≡ by_row (first_row (query_rows q.width q.exponent q.numbers))
+  pub small : r.number ≡ 0 → AllSmall q.width (read q.width q.numbers)
+
+-- a query that may be asked: none of its rows refuses it, and it is within the limit
+abbrev pub Askable : Query → Type 0
+Askable q = (first_row (query_rows q.width q.exponent q.numbers) ≡ 0) × AllSmall q.width (read q.width q.numbers)

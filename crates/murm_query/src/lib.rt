@@ -9,11 +9,19 @@ ghost use Rattle.exact.specs.Matrix.{all_divisible};
 ghost use Rattle.exact.specs.Places.{read};
 ghost use Rattle.refusal.specs.Told.{told_check};
 ghost use Rattle.murm_query.specs.Fingerprints.{fingerprinted};
-ghost use Rattle.murm_query.specs.Entries.{told_fingerprinted};
+ghost use Rattle.murm_query.specs.Entries.{told_query, told_fingerprinted};
 ghost use Rattle.murm_query.specs.Work.{InRange, Checked};
 
 use cyclotomic::{Coefficient, LIMIT, Wide};
-use refusal::{Check, Refusal};
+use refusal::Refusal;
+
+// A matrix that is asked: its width, its exponent, and its coefficients in the order of the places (SPECIFICATION 7.1).
+#[derive(Clone, Copy)]
+pub struct Query<'a> {
+    pub width: u32,
+    pub exponent: u16,
+    pub matrix: &'a [Coefficient],
+}
 
 // Whether a coefficient is -32768.
 fn past_limit(x: Coefficient) -> bool
@@ -28,13 +36,10 @@ fn in_range(entries: &[Coefficient]) -> bool
     ensures { InRange entries.now result }
 {
     let mut least: Coefficient = 0;
-    let mut i = 0;
-    while i < entries.len() {
-        let x = entries[i];
+    for &x in entries {
         if x < least {
             least = x;
         }
-        i += 1;
     }
     !past_limit(least)
 }
@@ -45,50 +50,44 @@ fn is_divisible(entries: &[Coefficient], n: usize, k: u16) -> bool
     requires n_in_bounds { 4 * (2 ^ n * 2 ^ n) ≤ length entries.now }
     ensures { result ≡ (ltb 0 k && all_divisible n (read n entries.now)) }
 {
-    if k == 0 {
-        return false;
-    }
-    lowering::all_divisible(entries, n)
+    k > 0 && lowering::all_divisible(entries, n)
 }
 
 // Whether a matrix may be asked; else which of the rows 6, 9, 10, 11 is the first to refuse it (SPECIFICATION 9.1).
-pub fn check_query(width: u32, exponent: u16, entries: &[Coefficient]) -> Check
-    ensures { Checked width exponent entries.now (told_check result) }
+pub fn check_query(query: Query<'_>) -> Result<(), Refusal>
+    ensures { Checked (told_query query.entry) (told_check result) }
 {
-    if width > 5 {
-        return Check::Refused(Refusal::WidthTooLarge);
+    if query.width > 5 {
+        return Err(Refusal::WidthTooLarge);
     }
-    let n = width as usize;
+    let entries = query.matrix;
+    let n = query.width as usize;
     let count = 4 * places::area(n);
     if entries.len() != count {
-        return Check::Refused(Refusal::LengthNotExact);
+        return Err(Refusal::LengthNotExact);
     }
     if !in_range(entries) {
-        return Check::Refused(Refusal::OutOfRange);
+        return Err(Refusal::OutOfRange);
     }
-    if is_divisible(entries, n, exponent) {
-        return Check::Refused(Refusal::NotLowest);
+    if is_divisible(entries, n, query.exponent) {
+        return Err(Refusal::NotLowest);
     }
-    Check::Passed
+    Ok(())
 }
 
-// The fingerprint of a matrix, or why it was refused.
-#[derive(Clone, Copy)]
-pub enum Fingerprinted {
-    Fingerprint(u64),
-    Refused(Refusal),
-}
-
-// The fingerprint of a matrix that is given by its coefficients, with the checks of a query (SPECIFICATION 5.5).
-pub fn library_fingerprint(width: u32, exponent: u16, entries: &[Coefficient]) -> Fingerprinted
+// The fingerprint of a matrix that is given by its coefficients, with the checks of a query (SPECIFICATION 5.5). The
+// entries take lent slices and numbers, one by one.
+pub fn library_fingerprint(
+    width: u32,
+    exponent: u16,
+    entries: &[Coefficient],
+) -> Result<u64, Refusal>
     ensures { told_fingerprinted result ≡ fingerprinted width exponent entries.now }
 {
-    match check_query(width, exponent, entries) {
-        Check::Passed => Fingerprinted::Fingerprint(prints::unitary_fingerprint(
-            entries,
-            width as usize,
-            exponent,
-        )),
-        Check::Refused(r) => Fingerprinted::Refused(r),
-    }
+    check_query(Query {
+        width,
+        exponent,
+        matrix: entries,
+    })?;
+    Ok(prints::unitary_fingerprint(entries, width as usize, exponent))
 }

@@ -39,18 +39,14 @@ pub fn build_widths(
         config.max_qubits codes.old }
     ensures index { index.new ≡ index_to (told_mode mode) (told_config config) (told_by by) config.max_qubits index.old }
 {
-    let how = mode;
-    let lookup = by;
-    let limits = config;
     let q = config.max_qubits;
     let size = index.len() / q as usize;
     let mut table = murm_config::empty(config);
-    let mut v = 0;
-    while v < q {
+    for v in 0..q {
         let row = width_part::build_part(
-            how,
-            lookup,
-            limits,
+            mode,
+            by,
+            config,
             v,
             size,
             fingerprints,
@@ -59,7 +55,6 @@ pub fn build_widths(
             index,
         );
         table = murm_config::with_width(table, v + 1, row);
-        v += 1;
     }
     table
 }
@@ -93,14 +88,11 @@ pub fn fill_widths(table: Murm, fingerprints: &[u64], index: &mut [u32])
     requires room { places_of (told_config table.config) ≤ length fingerprints.now }
     ensures index { index.new ≡ filled_index (told_murm table) (arrays_by indexed fingerprints.now [] [] index.old) }
 {
-    let t = table;
     let q = table.config.max_qubits;
     let e = table.config.max_entries_per_qubit as usize;
     let size = index.len() / q as usize;
-    let mut v = 0;
-    while v < q {
-        let count = murm_config::count_at(t, v + 1);
+    for v in 0..q {
+        let count = murm_config::count_at(table, v + 1);
         fill_part(v as usize, e, count, size, fingerprints, index);
-        v += 1;
     }
 }

@@ -18,7 +18,7 @@ ghost use Rattle.width_arrays.specs.Arrays.{Room};
 ghost use Rattle.next_node.specs.Append.{Appended};
 
 use cyclotomic::Coefficient;
-use index::LookupBy;
+use index::{LookupBy, Part};
 use known::{BuildMode, Candidate};
 use synthesis_arena::WidthLimits;
 use width_arrays::Tried;
@@ -53,21 +53,15 @@ pub fn append(
         fingerprints.new parents.new codes.new index.new result }
     ensures long { (length left.new ≡ places) × (length right.new ≡ places) }
 {
-    if known::is_known(
-        mode,
+    let part = Part {
         by,
-        limits,
         count,
-        candidate,
-        exponent,
         fingerprints,
         parents,
         codes,
         index,
-        m,
-        left,
-        right,
-    ) {
+    };
+    if known::is_known(mode, limits, part, candidate, exponent, m, left, right) {
         return Tried {
             count,
             saturated: false, // also at count E

@@ -1,6 +1,6 @@
 -- The cases of what is found as the definitions have them (SPECIFICATION 12.8), what one node is to a matrix, and what
 -- the functions ask of the places of a query. What is found and answered is in walk/specs. Assumes nothing.
-use Rattle.std.specs.Prelude.{◌≡◌, List, ◌++◌, ℕ, ◌*◌, ◌^◌, ◌≤◌, ℤ, length, take, drop}
+use Rattle.std.specs.Prelude.{◌≡◌, List, ◌++◌, ℕ, ◌*◌, ◌^◌, ◌≤◌, ℤ, length, take, drop, Option, Some, None, Result, Ok, Err}
 use Rattle.exact.specs.Matrix.{Exact}
 use Rattle.exact.specs.Places.{read}
 use Rattle.exact.proofs.Words.{AllSmall}
@@ -8,14 +8,13 @@ use Rattle.walk.specs.Chains.{Chain}
 use Rattle.walk.specs.Finds.{Finding, by_chain}
 use Rattle.walk.specs.Finds as f
 use Rattle.walk.specs.Answers.{given, none, refused, Outcome, outcome, written, then_write}
-use Rattle.node_answer.specs.declared.Find.{Find}
-use Rattle.node_answer.specs.declared.Find.TheVariants as d
+use Rattle.synthesis_arena.specs.declared.BadChain.{BadChain}
 
 -- a bad chain is 13 (SPECIFICATION 9.3)
-abbrev pub told_find : Find → Finding
-told_find (d.Node k m) = f.node k m
-told_find d.Nothing = f.none
-told_find d.BadChain = f.refused 13 0
+abbrev pub told_find : Result (Option (ℕ × ℕ)) BadChain → Finding
+told_find (Ok (Some (k, m))) = f.node k m
+told_find (Ok None) = f.none
+told_find (Err _) = f.refused 13 0
 
 -- what is found, with its list in the first places of one list, copied over the first places of another
 abbrev pub copied : Finding → List ℕ → List ℕ → Outcome

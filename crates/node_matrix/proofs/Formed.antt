@@ -2,8 +2,8 @@
 use mathlib.Core.Path.{◌≡◌, refl, sym, ap, ◌∙◌, subst}
 use mathlib.Core.Bool.{Bool, true, false}
 use mathlib.Core.List.{List, []}
-use Prim.Native.Nat.{ℕ, ◌-◌}
-use native.Mathlib.Omega.{arith}
+use Rattle.std.specs.Prelude.{Ok, Err}
+use Prim.Native.Nat.{ℕ}
 use lib.ListN.{take}
 use lib.IntN.{ℤ}
 use Rattle.ints.specs.Lists.{all}
@@ -16,7 +16,6 @@ use Rattle.exact.specs.Answers.{given, by_steps, list_answer}
 use Rattle.exact.proofs.Answered.{is_given, number, list_refused}
 use Rattle.places.specs.Held.{Holds}
 use Rattle.lists.specs.Walk.{Ended}
-use Rattle.lists.specs.declared.Walked.TheVariants.{Fits, UnfitAt}
 use Rattle.walk.specs.Chains.{Chain, good, bad, chain_of}
 use Rattle.synthesis_arena.specs.declared.WidthLimits.{WidthLimits}
 use Rattle.synthesis_arena.proofs.Told.{ChainRead}
@@ -48,21 +47,18 @@ module _ {lim : WidthLimits} {u c : List ℕ} {node : ℕ} (h : Readable lim u c
   chain_not_bad e = clash (ap is_good h.chain) (ap is_good e)
 
   module _ {old new : List ℕ} {m : ℕ} (r : ChainRead lim.width lim.basis u c 64 node old new m) where
-    part : take (m - 0) new ≡ r.list
-    part = let z : m - 0 ≡ m = omega arith in ap (λ (i : ℕ). take i new) z ∙ r.first
+    pub read_is : take m new ≡ h.list
+    read_is = r.first ∙ ap list_of (sym r.is ∙ h.chain)
 
-    pub read_is : take (m - 0) new ≡ h.list
-    read_is = part ∙ ap list_of (sym r.is ∙ h.chain)
+    pub read_valid : all (valid lim.width) (take m new) ≡ true
+    read_valid = subst (λ (z : List ℕ). all (valid lim.width) z ≡ true) (sym r.first) (basis_valid lim.width lim.basis r.list r.gates.valid)
 
-    pub read_valid : all (valid lim.width) (take (m - 0) new) ≡ true
-    read_valid = subst (λ (z : List ℕ). all (valid lim.width) z ≡ true) (sym part) (basis_valid lim.width lim.basis r.list r.gates.valid)
-
-    pub read_fits : {l : List ℤ} {k : ℕ} → Ended lim.width (take (m - 0) new) l (Fits k) → Holds lim.width k l (product lim.width h.list)
+    pub read_fits : {l : List ℤ} {k : ℕ} → Ended lim.width (take m new) l (Ok k) → Holds lim.width k l (product lim.width h.list)
     read_fits {l} {k} w =
-        let e = subst (λ (z : List ℕ). Ended lim.width z l (Fits k)) read_is w in
+        let e = subst (λ (z : List ℕ). Ended lim.width z l (Ok k)) read_is w in
         subst (λ (z : ℕ). Holds lim.width z l (product lim.width h.list)) (sym (exponent_is lim.width h.list e.answer)) e.end
 
-    pub read_not_unfit : {l : List ℤ} {i : ℕ} → Ended lim.width (take (m - 0) new) l (UnfitAt i) → ⊥
+    pub read_not_unfit : {l : List ℤ} {i : ℕ} → Ended lim.width (take m new) l (Err i) → ⊥
     read_not_unfit {l} {i} w =
-        let e = subst (λ (z : List ℕ). Ended lim.width z l (UnfitAt i)) read_is w in
+        let e = subst (λ (z : List ℕ). Ended lim.width z l (Err i)) read_is w in
         clash (ap ok h.all_fit_lem) (ap ok (list_refused lim.width h.list (sym e.answer)))

@@ -2,6 +2,7 @@
 use mathlib.Core.Path.{◌≡◌, refl, sym, ap, ◌∙◌, subst}
 use mathlib.Core.Bool.{Bool, true, false}
 use mathlib.Core.List.{List}
+use Rattle.std.specs.Prelude.{Option, Some, None}
 use Prim.Native.Nat.{ℕ}
 use lib.IntN.{ℤ}
 use Rattle.ints.specs.Lists.{pick}
@@ -19,10 +20,6 @@ use Rattle.exact.proofs.Keeps.{step_equal, act_equal'}
 use Rattle.exact.proofs.Prints.{fingerprint_equal}
 use Rattle.exact.specs.Places.{held}
 use Rattle.places.specs.Held.{Holds}
-use Rattle.steps.specs.declared.Applied.{Applied}
-use Rattle.steps.specs.declared.Applied.TheVariants as a
-use Rattle.steps.specs.declared.Applied.TheVariants.{Done}
-use Rattle.node_matrix.specs.declared.Candidate.TheVariants.{Print, DoesNotFit}
 use Rattle.node_matrix.specs.Matrices.{print_after, OnCopy, FormedAs}
 
 module _ (n g : ℕ) (x : Exact) where
@@ -60,11 +57,14 @@ module _ (n g : ℕ) {x y : Exact} (e : Equal n x y) where
 
 -- what a candidate comes to, by the step on the copy
 module _ (n g : ℕ) (x : Exact) (l : List ℤ) where
-  pub copy_done : {r : Applied} {k : ℕ} → r ≡ Done k → OnCopy n g x l r → (step_fits n (gate_of n g) x ≡ true) × Holds n k l (act n (gate_of n g) x)
+  pub copy_done : {r : Option ℕ} {k : ℕ} → r ≡ Some k → OnCopy n g x l r → (step_fits n (gate_of n g) x ≡ true) × Holds n k l (act n (gate_of n g) x)
   copy_done e w = subst (OnCopy n g x l) e w
 
-  pub copy_unfit : {r : Applied} → r ≡ a.DoesNotFit → OnCopy n g x l r → FormedAs n g x l DoesNotFit
+  pub copy_unfit : {r : Option ℕ} → r ≡ None → OnCopy n g x l r → FormedAs n g x l None
   copy_unfit e w = record { print = refused_print n g x (subst (OnCopy n g x l) e w); left = tt }
 
-  pub formed_print : {k f : ℕ} → (step_fits n (gate_of n g) x ≡ true) × Holds n k l (act n (gate_of n g) x) → f ≡ fingerprint n (held n k l) → FormedAs n g x l (Print f k)
+  pub copy_none : {r : Option (ℕ × ℕ)} → r ≡ None → OnCopy n g x l None → FormedAs n g x l r
+  copy_none e w = subst (FormedAs n g x l) (sym e) (copy_unfit {r = None} refl w)
+
+  pub formed_print : {k f : ℕ} → (step_fits n (gate_of n g) x ≡ true) × Holds n k l (act n (gate_of n g) x) → f ≡ fingerprint n (held n k l) → FormedAs n g x l (Some (f, k))
   formed_print w e = record { print = given_print n g x w.0 (e ∙ fingerprint_equal n w.1.equal); left = w.1 }

@@ -1,5 +1,5 @@
 -- The matrix of a node, read from the arrays, and the fingerprint of the matrix after one gate more. Assumes nothing.
-use Rattle.std.specs.Prelude.{◌≡◌, true, false, List, ℕ, ◌<◌, ℤ, pos, length, get_or}
+use Rattle.std.specs.Prelude.{◌≡◌, true, false, List, ℕ, ◌<◌, ℤ, pos, length, get_or, Option, Some, None}
 use Rattle.ints.specs.Lists.{pick}
 use Rattle.cyclotomic.specs.Told.{does_not_fit}
 use Rattle.exact.specs.Matrix.{Exact}
@@ -9,13 +9,8 @@ use Rattle.exact.specs.Fits.{step_fits, all_fit, steps}
 use Rattle.exact.specs.Fingerprint.{fingerprint}
 use Rattle.exact.specs.Answers.{Answer, given, refused}
 use Rattle.places.specs.Held.{Holds}
-use Rattle.steps.specs.declared.Applied.{Applied}
-use Rattle.steps.specs.declared.Applied.TheVariants as d
-use Rattle.steps.specs.declared.Applied.TheVariants.{Done}
 use Rattle.walk.specs.Chains.{good, chain_of}
 use Rattle.synthesis_arena.specs.declared.WidthLimits.{WidthLimits}
-use Rattle.node_matrix.specs.declared.Candidate.{Candidate}
-use Rattle.node_matrix.specs.declared.Candidate.TheVariants.{Print, DoesNotFit}
 
 -- ---- a node's matrix
 
@@ -43,25 +38,25 @@ pub record CopiedOn (from old new : List ℤ) (start end : ℕ) : Type 0 where
   pub by : (l : List ℤ) → Copied from l old start → Copied from l new end
 
 -- what the gate g leaves in the places that held a copy of the matrix x
-abbrev pub OnCopy : ℕ → ℕ → Exact → List ℤ → Applied → Type 0
-OnCopy n g x l (Done k) = (step_fits n (gate_of n g) x ≡ true) × Holds n k l (act n (gate_of n g) x)
-OnCopy n g x l d.DoesNotFit = step_fits n (gate_of n g) x ≡ false
+abbrev pub OnCopy : ℕ → ℕ → Exact → List ℤ → Option ℕ → Type 0
+OnCopy n g x l (Some k) = (step_fits n (gate_of n g) x ≡ true) × Holds n k l (act n (gate_of n g) x)
+OnCopy n g x l None = step_fits n (gate_of n g) x ≡ false
 
 -- the fingerprint of the matrix x after the gate g, or that it does not fit
 unfoldable pub print_after : ℕ → ℕ → Exact → Answer
 print_after n g x = pick (step_fits n (gate_of n g) x) (given (fingerprint n (act n (gate_of n g) x))) (refused does_not_fit 0)
 
-abbrev pub told_candidate : Candidate → Answer
-told_candidate (Print f k) = given f
-told_candidate DoesNotFit = refused does_not_fit 0
+abbrev pub told_candidate : Option (ℕ × ℕ) → Answer
+told_candidate (Some (f, k)) = given f
+told_candidate None = refused does_not_fit 0
 
 -- the places hold the matrix x after the gate g, with the exponent told; nothing is said where it does not fit
-abbrev pub LeftIn : ℕ → ℕ → Exact → List ℤ → Candidate → Type 0
-LeftIn n g x l (Print f k) = Holds n k l (act n (gate_of n g) x)
-LeftIn n g x l DoesNotFit = Unit {0}
+abbrev pub LeftIn : ℕ → ℕ → Exact → List ℤ → Option (ℕ × ℕ) → Type 0
+LeftIn n g x l (Some (f, k)) = Holds n k l (act n (gate_of n g) x)
+LeftIn n g x l None = Unit {0}
 
 -- what the gate g after a node with the matrix x comes to before any look-up: the fingerprint, or that it does not fit;
 -- and the candidate's matrix is in the places
-pub record FormedAs (n g : ℕ) (x : Exact) (l : List ℤ) (r : Candidate) : Type 0 where
+pub record FormedAs (n g : ℕ) (x : Exact) (l : List ℤ) (r : Option (ℕ × ℕ)) : Type 0 where
   pub print : told_candidate r ≡ print_after n g x
   pub left : LeftIn n g x l r

@@ -14,22 +14,13 @@ ghost use Rattle.node_matrix.specs.Matrices.{Readable, Formed, Copied, CopiedOn,
 
 use circuit::{GateSet, LibraryGate};
 use cyclotomic::Coefficient;
-use lists::Walked;
-use steps::Applied;
-use synthesis_arena::{NodeCircuit, WidthLimits};
+use synthesis_arena::WidthLimits;
 
-// The fingerprint of a candidate and the exponent of its matrix, or that it does not fit.
-#[derive(Clone, Copy)]
-pub enum Candidate {
-    Print(u64, u16),
-    DoesNotFit,
-}
-
-// Two candidates of a node.
+// Two candidates of a node: of each its fingerprint and the exponent of its matrix, or None where it does not fit.
 #[derive(Clone, Copy)]
 pub struct TwoCandidates {
-    pub first: Candidate,
-    pub second: Candidate,
+    pub first: Option<(u64, u16)>,
+    pub second: Option<(u64, u16)>,
 }
 
 // The matrix of a node, formed from its list in `m`, from a copy of the identity on. Returns the exponent. The two
@@ -50,7 +41,7 @@ pub fn form_node(
 {
     copy_matrix(limits.width as usize, one, m);
     let mut list: [u32; 64] = [0; 64];
-    let NodeCircuit::Length(size) = synthesis_arena::circuit(
+    let Ok(size) = synthesis_arena::circuit(
         parents,
         codes,
         limits.width,
@@ -61,9 +52,9 @@ pub fn form_node(
     ) else {
         return 0;
     };
-    match lists::apply_gates(m, limits.width as usize, &list[0..size]) {
-        Walked::Fits(k) => k,
-        Walked::UnfitAt(_) => 0,
+    match lists::apply_gates(m, limits.width as usize, &list[..size]) {
+        Ok(k) => k,
+        Err(_) => 0,
     }
 }
 
@@ -73,11 +64,7 @@ fn copy_block(from: &[Coefficient], to: &mut [Coefficient], start: usize, end: u
     requires room { (end ≤ length from.now) × (end ≤ length to.old) }
     ensures copied { CopiedOn from.now to.old to.new start end }
 {
-    let mut i = start;
-    while i < end {
-        to[i] = from[i];
-        i += 1;
-    }
+    to[start..end].copy_from_slice(&from[start..end]);
 }
 
 // Where the block from a place on ends. A block has at most 1,024 places: longer copies take many times as long where
@@ -101,6 +88,7 @@ fn copy_matrix(n: usize, from: &[Coefficient], to: &mut [Coefficient])
 {
     let size = 4 * places::area(n);
     let mut i = 0;
+    // A `while`, since `block_end` tells where a block ends: by `step_by` the end of the last would be told apart.
     while i < size {
         let end = block_end(i, size);
         copy_block(from, to, i, end);
@@ -108,15 +96,15 @@ fn copy_matrix(n: usize, from: &[Coefficient], to: &mut [Coefficient])
     }
 }
 
-// A gate applied to a copy of a matrix: the exponent of the result, which is then in `copy`, or that the step does not
-// fit.
+// A gate applied to a copy of a matrix: the exponent of the result, which is then in `copy`, or None where the step does
+// not fit.
 pub fn apply_to_copy(
     n: usize,
     gate: u32,
     exponent: u16,
     m: &[Coefficient],
     copy: &mut [Coefficient; 4096],
-) -> Applied
+) -> Option<u16>
     requires narrow { n ≤ 5 }
     requires valid { valid n gate ≡ true }
     requires ready { Ready n exponent m.now }
@@ -128,15 +116,15 @@ pub fn apply_to_copy(
     matrix::apply_gate_left(copy, n, LibraryGate(gate), exponent)
 }
 
-// One candidate: the fingerprint of a matrix after a gate, or that the step does not fit. The gate is applied to a copy
-// in `scratch`, which then holds the candidate's matrix.
+// One candidate: the fingerprint of a matrix after a gate and the exponent, or None where the step does not fit. The gate
+// is applied to a copy in `scratch`, which then holds the candidate's matrix.
 fn candidate_print(
     n: usize,
     gate: u32,
     exponent: u16,
     m: &[Coefficient],
     scratch: &mut [Coefficient; 4096],
-) -> Candidate
+) -> Option<(u64, u16)>
     requires narrow { n ≤ 5 }
     requires valid { valid n gate ≡ true }
     requires ready { Ready n exponent m.now }
@@ -144,10 +132,8 @@ fn candidate_print(
     ensures formed { FormedAs n gate (held n exponent m.now) scratch.new result }
     ensures long { length scratch.new ≡ places }
 {
-    let Applied::Done(k) = apply_to_copy(n, gate, exponent, m, scratch) else {
-        return Candidate::DoesNotFit;
-    };
-    Candidate::Print(prints::unitary_fingerprint(scratch, n, k), k)
+    let k = apply_to_copy(n, gate, exponent, m, scratch)?;
+    Some((prints::unitary_fingerprint(scratch, n, k), k))
 }
 
 // Two candidates of a node, each with a copy of its own. Where both fit, their fingerprints are worked together.
@@ -168,21 +154,21 @@ pub fn two_prints(
     ensures second { FormedAs n h (held n exponent m.now) right.new result.second }
     ensures long { (length left.new ≡ places) × (length right.new ≡ places) }
 {
-    let Applied::Done(j) = apply_to_copy(n, g, exponent, m, left) else {
+    let Some(j) = apply_to_copy(n, g, exponent, m, left) else {
         return TwoCandidates {
-            first: Candidate::DoesNotFit,
+            first: None,
             second: candidate_print(n, h, exponent, m, right),
         };
     };
-    let Applied::Done(k) = apply_to_copy(n, h, exponent, m, right) else {
+    let Some(k) = apply_to_copy(n, h, exponent, m, right) else {
         return TwoCandidates {
-            first: Candidate::Print(prints::unitary_fingerprint(left, n, j), j),
-            second: Candidate::DoesNotFit,
+            first: Some((prints::unitary_fingerprint(left, n, j), j)),
+            second: None,
         };
     };
     let both = pair_prints::pair_fingerprints(left, right, n, j, k);
     TwoCandidates {
-        first: Candidate::Print(both.left, j),
-        second: Candidate::Print(both.right, k),
+        first: Some((both.left, j)),
+        second: Some((both.right, k)),
     }
 }

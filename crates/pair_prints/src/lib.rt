@@ -40,14 +40,12 @@ pub fn pair_fingerprints(
     let v = place_turns::turn_places(q);
     let mut s = prints::head(n, j);
     let mut t = prints::head(n, k);
-    let mut e = 0;
-    while e < size {
+    for e in 0..size {
         let x = places::get(left, e).eight();
         let y = places::get(right, e).eight();
         let both = pair_words::mix_eights(s, t, &x, &y, u, v);
         s = both.left;
         t = both.right;
-        e += 1;
     }
     Pair {
         left: s.fold(),

@@ -8,23 +8,21 @@ ghost use Rattle.cyclotomic.specs.Zomega.{phase, Small};
 ghost use Rattle.exact.specs.Places.{read, held};
 ghost use Rattle.exact.proofs.Words.{AllSmall};
 ghost use Rattle.exact.specs.Phase.{pivot};
-ghost use Rattle.phases.specs.First.{FirstNonzero};
+ghost use Rattle.phases.specs.First.{FoundNonzero};
 
 use cyclotomic::{Coefficient, Cyclotomic};
 
-// The place of the first of the entries that is not zero; their number if all are.
-fn first_nonzero(m: &[Coefficient], size: usize) -> usize
+// The place of the first of the entries that is not zero, if one is not.
+fn first_nonzero(m: &[Coefficient], size: usize) -> Option<usize>
     requires { 4 * size ≤ length m.now }
-    ensures { FirstNonzero m.now size result }
+    ensures { FoundNonzero m.now size result }
 {
-    let mut e = 0;
-    while e < size {
+    for e in 0..size {
         if !places::get(m, e).is_zero() {
-            return e;
+            return Some(e);
         }
-        e += 1;
     }
-    size
+    None
 }
 
 // The power 0 to 7 whose turn of an entry is least, in the order of SPECIFICATION 1.11. Each turn is made of the one
@@ -36,14 +34,12 @@ pub fn least_power(z: Cyclotomic) -> u8
     let mut least: u8 = 0;
     let mut best = z;
     let mut turned = z;
-    let mut power: u8 = 1;
-    while power < 8 {
+    for power in 1..8 {
         turned = turned.turned();
         if turned.less_than(best) {
             least = power;
             best = turned;
         }
-        power += 1;
     }
     least
 }
@@ -58,9 +54,8 @@ pub fn pivot(m: &[Coefficient], n: usize) -> Cyclotomic
     ensures small { Small result }
 {
     let size = places::area(n);
-    let e = first_nonzero(m, size);
-    if e == size {
-        return Cyclotomic::zero();
+    match first_nonzero(m, size) {
+        Some(e) => places::get(m, e),
+        None => Cyclotomic::zero(),
     }
-    places::get(m, e)
 }

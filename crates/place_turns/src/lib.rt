@@ -57,10 +57,8 @@ pub fn turn_places(power: u8) -> TurnPlaces
         c: 2,
         d: 3,
     };
-    let mut made: u8 = 0;
-    while made < power {
+    for _ in 0..power {
         t = t.turned();
-        made += 1;
     }
     t
 }

@@ -58,10 +58,8 @@ fn mix_entries(m: &[Coefficient], size: usize, power: u8, s: Streams) -> Streams
     ensures { streams result ≡ mix_all (streams s) (words_of size (λ i. turn power (entry m.now i))) }
 {
     let mut t = s;
-    let mut e = 0;
-    while e < size {
+    for e in 0..size {
         t = t.mix_entry(places::get(m, e).times_omega(power));
-        e += 1;
     }
     t
 }

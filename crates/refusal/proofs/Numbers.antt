@@ -1,13 +1,11 @@
 -- The numbers of the refusals, and what a check's answer says of the first row that holds. Assumes nothing.
-use mathlib.Core.Path.{◌≡◌, sym, ap, ◌∙◌}
+use mathlib.Core.Path.{◌≡◌, sym, ap}
 use mathlib.Core.Bool.{false}
 use Prim.Native.Nat.{ℕ, ◌<◌}
 use native.Mathlib.Omega.{arith}
 use borrow.Author.Tests.{ne_eqb}
 use lib.Dec.{eqb}
-use Rattle.refusal.specs.Told.{Reason, by_row, told_refusal, told_check, number_of}
-use Rattle.refusal.specs.declared.Check.{Check}
-use Rattle.refusal.specs.declared.Check.TheVariants as c
+use Rattle.refusal.specs.Told.{Reason, by_row, told_refusal, number_of}
 use Rattle.refusal.specs.declared.Refusal.{Refusal}
 use Rattle.refusal.specs.declared.Refusal.TheVariants as r
 
@@ -33,18 +31,17 @@ some r.BadIndex = omega arith
 
 -- ---- a check, by the first row that holds
 
+-- a check that passes: no row holds
+pub passed : {row : ℕ} → by_row 0 ≡ by_row row → row ≡ 0
+passed e = ap (λ (t : Reason). t.number) (sym e)
+
 -- r is why: its number is the row's, and it has no position
 pub record Refuses (r : Refusal) (row : ℕ) : Type 0 where
   pub told : told_refusal r ≡ by_row row
   pub some : 0 < row
   pub test : eqb row 0 ≡ false
 
-module _ {x : Check} {row : ℕ} (e : told_check x ≡ by_row row) where
-  pub passed : x ≡ c.Passed → row ≡ 0
-  passed h = ap (λ (t : Reason). t.number) (sym e ∙ ap told_check h)
-
-  pub refused : {r : Refusal} → x ≡ c.Refused r → Refuses r row
-  refused {r} h =
-      let told : told_refusal r ≡ by_row row = sym (ap told_check h) ∙ e in
-      let p : 0 < row = omega (arith, some r, ap (λ (t : Reason). t.number) told) in
-      record { told = told; some = p; test = ne_eqb row 0 (λ z. absurd (omega (arith, p, z))) }
+pub refused : {r : Refusal} {row : ℕ} → told_refusal r ≡ by_row row → Refuses r row
+refused {r} {row} e =
+    let p : 0 < row = omega (arith, some r, ap (λ (t : Reason). t.number) e) in
+    record { told = e; some = p; test = ne_eqb row 0 (λ z. absurd (omega (arith, p, z))) }

@@ -1,9 +1,7 @@
 -- Each refusal by its number and its position, 0 where there is none (SPECIFICATION 9.1). Assumes nothing.
-use Rattle.std.specs.Prelude.{ℕ}
+use Rattle.std.specs.Prelude.{ℕ, Result, Ok, Err}
 use Rattle.refusal.specs.declared.Refusal.{Refusal}
 use Rattle.refusal.specs.declared.Refusal.TheVariants as r
-use Rattle.refusal.specs.declared.Check.{Check}
-use Rattle.refusal.specs.declared.Check.TheVariants as c
 
 -- a number and a position
 pub record Reason : Type 0 where
@@ -36,9 +34,10 @@ told_refusal r.BadIndex = reason 17 0
 abbrev pub by_row : ℕ → Reason
 by_row number = reason number 0
 
-abbrev pub told_check : Check → Reason
-told_check c.Passed = by_row 0
-told_check (c.Refused r) = told_refusal r
+-- what a check comes to: it passes, or it refuses
+abbrev pub told_check : Result (Unit {0}) Refusal → Reason
+told_check (Ok v) = by_row 0
+told_check (Err r) = told_refusal r
 
 abbrev pub number_of : Refusal → ℕ
 number_of r = (told_refusal r).number

@@ -27,13 +27,6 @@ pub enum Refusal {
     BadIndex,
 }
 
-// What a check comes to.
-#[derive(Clone, Copy)]
-pub enum Check {
-    Passed,
-    Refused(Refusal),
-}
-
 // A refusal's number and its position, which is 0 where there is none.
 #[derive(Clone, Copy)]
 pub struct Numbered(pub u64, pub u64);

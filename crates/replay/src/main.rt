@@ -8,7 +8,7 @@ ghost use Rattle.std.specs.Prelude.{◌≤◌, ◌<◌};
 
 use circuit::{GateSet, LibraryGate};
 use generators::MOST;
-use std::io;
+use std::{fmt, io};
 
 fn spaced(rt: &impl Print, n: u32) -> io::Result<()> {
     print!(rt; " {n}")
@@ -31,29 +31,25 @@ fn line_end(rt: &impl Print) -> io::Result<()> {
 fn codes_line(rt: &impl Print, width: u32) -> io::Result<()> {
     print!(rt; "codes")?;
     spaced(rt, width)?;
-    let mut code: u32 = 0;
-    while code < 114688 {
+    for code in 0..114688 {
         if LibraryGate(code).is_valid(width) {
             spaced(rt, code)?;
         }
-        code += 1;
     }
     line_end(rt)
 }
 
 // `valid N K` and the validity of every code of the kind whose unused operands are 0, one step apart.
-fn valid_line(rt: &impl Print, width: u32, kind: u32, step: u32) -> io::Result<()>
+fn valid_line(rt: &impl Print, width: u32, kind: u32, step: usize) -> io::Result<()>
     requires { (kind < 27) × (0 < step) × (step ≤ 256) }
 {
     print!(rt; "valid")?;
     spaced(rt, width)?;
     spaced(rt, kind)?;
     print!(rt; " ")?;
-    let end = kind * 4096 + 4096;
-    let mut code: u32 = kind * 4096;
-    while code < end {
+    let start = kind * 4096;
+    for code in (start..start + 4096).step_by(step) {
         flag(rt, LibraryGate(code).is_valid(width))?;
-        code += step;
     }
     line_end(rt)
 }
@@ -71,87 +67,70 @@ fn valid_kind(rt: &impl Print, width: u32, kind: u32) -> io::Result<()>
 }
 
 fn valid_lines(rt: &impl Print, width: u32) -> io::Result<()> {
-    let mut kind: u32 = 0;
-    while kind < 27 {
+    for kind in 0..27 {
         valid_kind(rt, width, kind)?;
-        kind += 1;
     }
     Ok(())
 }
 
-fn qubits_lines(rt: &impl Print, gates: &[u32; MOST], count: usize) -> io::Result<()>
-    requires { count ≤ 105 }
-{
-    let mut i: usize = 0;
-    while i < count {
+fn qubits_lines(rt: &impl Print, gates: &[u32]) -> io::Result<()> {
+    for gate in gates {
         print!(rt; "qubits")?;
-        spaced(rt, gates[i])?;
-        spaced(rt, LibraryGate(gates[i]).qubit_mask())?;
+        spaced(rt, *gate)?;
+        spaced(rt, LibraryGate(*gate).qubit_mask())?;
         line_end(rt)?;
-        i += 1;
     }
     Ok(())
 }
 
-// 0: g is the inverse of h; 1: they share no qubit; 2: g has the lower code.
-fn related(mode: u32, g: u32, h: u32) -> bool {
-    if mode == 0 {
-        return LibraryGate(g).is_inverse_of(LibraryGate(h));
-    }
-    if mode == 1 {
-        return LibraryGate(g).is_disjoint(LibraryGate(h));
-    }
-    g < h
+// What is printed of each pair of codes: g is the inverse of h, they share no qubit, g has the lower code.
+#[derive(Clone, Copy)]
+enum Relation {
+    Inverse,
+    Disjoint,
+    Lower,
 }
 
-fn mode_name(rt: &impl Print, mode: u32) -> io::Result<()> {
-    if mode == 0 {
-        return print!(rt; "inverse");
+impl Relation {
+    fn holds(self, g: u32, h: u32) -> bool {
+        match self {
+            Relation::Inverse => LibraryGate(g).is_inverse_of(LibraryGate(h)),
+            Relation::Disjoint => LibraryGate(g).is_disjoint(LibraryGate(h)),
+            Relation::Lower => g < h,
+        }
     }
-    if mode == 1 {
-        return print!(rt; "disjoint");
-    }
-    print!(rt; "lower")
 }
 
-fn pair_line(
-    rt: &impl Print,
-    mode: u32,
-    g: u32,
-    gates: &[u32; MOST],
-    count: usize,
-) -> io::Result<()>
-    requires { count ≤ 105 }
-{
-    mode_name(rt, mode)?;
+impl fmt::Display for Relation {
+    fn fmt<W: fmt::Write>(&self, f: &mut fmt::Formatter<W>) -> fmt::Result {
+        f.write_str(match self {
+            Relation::Inverse => "inverse",
+            Relation::Disjoint => "disjoint",
+            Relation::Lower => "lower",
+        })
+    }
+}
+
+fn pair_line(rt: &impl Print, relation: Relation, g: u32, gates: &[u32]) -> io::Result<()> {
+    print!(rt; "{relation}")?;
     spaced(rt, g)?;
     print!(rt; " ")?;
-    let mut i: usize = 0;
-    while i < count {
-        flag(rt, related(mode, g, gates[i]))?;
-        i += 1;
+    for h in gates {
+        flag(rt, relation.holds(g, *h))?;
     }
     line_end(rt)
 }
 
-fn pair_lines(rt: &impl Print, mode: u32, gates: &[u32; MOST], count: usize) -> io::Result<()>
-    requires { count ≤ 105 }
-{
-    let mut i: usize = 0;
-    while i < count {
-        pair_line(rt, mode, gates[i], gates, count)?;
-        i += 1;
+fn pair_lines(rt: &impl Print, relation: Relation, gates: &[u32]) -> io::Result<()> {
+    for g in gates {
+        pair_line(rt, relation, *g, gates)?;
     }
     Ok(())
 }
 
-fn listed(rt: &impl Print, gates: &[u32; MOST], count: usize) -> io::Result<()>
-    requires { count ≤ 105 }
-{
-    let mut i: usize = 0;
-    while i < count {
-        spaced(rt, gates[i])?;
-        i += 1;
+fn listed(rt: &impl Print, gates: &[u32]) -> io::Result<()> {
+    for gate in gates {
+        spaced(rt, *gate)?;
     }
     Ok(())
 }
@@ -167,17 +146,15 @@ fn generators_line(rt: &impl Print, width: u32, basis: u32) -> io::Result<()>
     spaced(rt, basis)?;
     let mut gates = [0u32; MOST];
     let count = generators::library_gates(width, GateSet(basis), &mut gates);
-    listed(rt, &gates, count)?;
+    listed(rt, &gates[..count])?;
     line_end(rt)
 }
 
 fn generators_lines(rt: &impl Print, width: u32) -> io::Result<()>
     requires { width ≤ 5 }
 {
-    let mut basis: u32 = 1;
-    while basis <= 3967 {
+    for basis in 1..=GateSet::SUPPORTED.bits() {
         generators_line(rt, width, basis)?;
-        basis += 1;
     }
     Ok(())
 }
@@ -201,14 +178,9 @@ fn width_lines(rt: &impl Print, what: Lines, width: u32) -> io::Result<()>
 }
 
 // The lines of each width from the first one on, up to 5.
-fn each_width(rt: &impl Print, what: Lines, first: u32) -> io::Result<()>
-    requires { first ≤ 6 }
-{
-    let lines = what;
-    let mut width = first;
-    while width <= 5 {
-        width_lines(rt, lines, width)?;
-        width += 1;
+fn each_width(rt: &impl Print, what: Lines, first: u32) -> io::Result<()> {
+    for width in first..=5 {
+        width_lines(rt, what, width)?;
     }
     Ok(())
 }
@@ -219,9 +191,9 @@ fn main(rt: HostRuntime) -> io::Result<()> {
     each_width(&rt, Lines::Valid, 0)?;
     let mut gates = [0u32; MOST];
     let count = generators::library_gates(5, GateSet::SUPPORTED, &mut gates);
-    qubits_lines(&rt, &gates, count)?;
-    pair_lines(&rt, 0, &gates, count)?;
-    pair_lines(&rt, 1, &gates, count)?;
-    pair_lines(&rt, 2, &gates, count)?;
+    qubits_lines(&rt, &gates[..count])?;
+    pair_lines(&rt, Relation::Inverse, &gates[..count])?;
+    pair_lines(&rt, Relation::Disjoint, &gates[..count])?;
+    pair_lines(&rt, Relation::Lower, &gates[..count])?;
     each_width(&rt, Lines::Generators, 1)
 }

@@ -6,8 +6,7 @@
 
 ghost use Rattle.std.specs.Prelude.{◌≤◌, length};
 
-use circuits_output::Printed;
-use circuits_text::{NEWLINE, Word};
+use circuits_text::NEWLINE;
 use std::io;
 
 // The longest standard input, one byte more than which is read.
@@ -46,24 +45,14 @@ fn replay(
     out: &mut [u8],
 ) -> io::Result<()> {
     match circuits_output::circuits(input, fingerprints, parents, codes, out) {
-        Printed::Text(n) => print_output(rt, out, n),
-        Printed::NoRoom => broken(rt),
+        Some(n) => print_output(rt, out, n),
+        None => broken(rt),
     }
 }
 
 // The number of a line `run LENGTH`.
-fn run_length(line: &[u8]) -> Word {
-    if line.len() < 4 {
-        return Word::Other;
-    }
-    if !circuits_text::same_bytes(&line[..4], b"run ") {
-        return Word::Other;
-    }
-    circuits_text::number(&line[4..])
-}
-
-fn long(n: u32) -> usize {
-    n as usize
+fn run_length(line: &[u8]) -> Option<u32> {
+    circuits_text::number(line.strip_prefix(b"run ")?)
 }
 
 // The run that begins at a place, and the place after it: the same place where the run has another form.
@@ -82,11 +71,11 @@ fn replay_at(
     if runs.len() <= e {
         return Ok(at);
     }
-    let Word::Number(n) = run_length(&runs[at..e]) else {
+    let Some(n) = run_length(&runs[at..e]) else {
         return Ok(at);
     };
     let start = e + 1;
-    let size = long(n);
+    let size = n as usize;
     if runs.len() - start <= size {
         return Ok(at);
     }

@@ -15,23 +15,19 @@ use cyclotomic::Coefficient;
 
 // The places p.. and q.., len of each, are exchanged.
 fn exchange_places(m: &mut [Coefficient; 4096], p: usize, q: usize, len: usize)
-    requires m_len { length m.old ≡ places }
     requires len_bound { (p + len ≤ q) × (q + len ≤ places) }
     ensures { Exchanged m.old m.new p q len }
 {
-    let mut i = 0;
-    while i < len {
+    for i in 0..len {
         let x = m[p + i];
         let y = m[q + i];
         m[p + i] = y;
         m[q + i] = x;
-        i += 1;
     }
 }
 
 // The pair of rows that differ in bit t is exchanged where r is its lower row and has all bits of control.
 fn exchange_row(m: &mut [Coefficient; 4096], n: usize, r: usize, control: usize, t: usize)
-    requires m_len { length m.old ≡ places }
     requires n_bound { (n ≤ 5) × (t < n) }
     requires t_value { bit_and control (2 ^ t) ≡ 0 }
     requires r_bound { r < 2 ^ n }
@@ -50,61 +46,51 @@ fn exchange_row(m: &mut [Coefficient; 4096], n: usize, r: usize, control: usize,
 
 // The rows that differ in the bit are exchanged where they have all bits of control.
 pub fn apply_controlled_x_left(m: &mut [Coefficient; 4096], n: usize, control: usize, t: usize)
-    requires m_len { length m.old ≡ places }
     requires n_bound { (n ≤ 5) × (t < n) }
     requires t_value { bit_and control (2 ^ t) ≡ 0 }
-    ensures sized { length m.new ≡ places }
     ensures exchanged { Same n (read n m.new) (exchange_rows control (2 ^ t) (read n m.old)) }
     ensures kept { Kept n m.old m.new }
 {
     let d = places::dim(n);
-    let mut r = 0;
-    while r < d {
+    for r in 0..d {
         exchange_row(m, n, r, control, t);
-        r += 1;
     }
 }
 
-// c entries from e on are turned by omega^power.
+// c entries from e on are turned by omega^power. Compiled in place, as `phase_rows` is, so that the power is a constant in
+// each of the loops of `apply_phase_left`.
+#[inline(always)]
 fn turn_row(m: &mut [Coefficient; 4096], e: usize, c: usize, power: u8)
-    requires m_len { length m.old ≡ places }
     requires c_bound { e + c ≤ 1024 }
     requires small_from { SmallFrom m.old e c }
     ensures { Turned power m.old m.new e c }
 {
-    let mut i = 0;
-    while i < c {
+    for i in 0..c {
         let z = places::get(m, e + i);
         places::put_at(m, e + i, z.times_omega(power));
-        i += 1;
     }
 }
 
 // The rows that have all bits of the mask are turned by omega^power.
+#[inline(always)]
 fn phase_rows(m: &mut [Coefficient; 4096], n: usize, mask: usize, power: u8)
-    requires m_len { length m.old ≡ places }
     requires n_bound { n ≤ 5 }
     requires all_small { AllSmall n (read n m.old) }
-    ensures sized { length m.new ≡ places }
     ensures turned { Same n (read n m.new) (phase_rows mask power (read n m.old)) }
     ensures kept { Kept n m.old m.new }
 {
     let d = places::dim(n);
-    let mut r = 0;
-    while r < d {
+    for r in 0..d {
         if r & mask == mask {
             turn_row(m, r * d, d, power);
         }
-        r += 1;
     }
 }
 
 // The same, with a loop of its own for each power that a gate has.
 pub fn apply_phase_left(m: &mut [Coefficient; 4096], n: usize, mask: usize, power: u8)
-    requires m_len { length m.old ≡ places }
     requires n_bound { n ≤ 5 }
     requires all_small { AllSmall n (read n m.old) }
-    ensures sized { length m.new ≡ places }
     ensures turned { Same n (read n m.new) (phase_rows mask power (read n m.old)) }
     ensures kept { Kept n m.old m.new }
 {

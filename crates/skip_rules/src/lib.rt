@@ -35,14 +35,11 @@ pub fn unpruned(node: usize, gates: &[u32], codes: &[u32], kept: &mut [u32; 105]
     ensures unpruned { Unpruned node gates.now codes.now kept.new result }
 {
     let mut size = 0;
-    let mut i = 0;
-    while i < gates.len() {
-        let gate = gates[i];
+    for &gate in gates {
         kept[size] = gate;
         if !is_pruned(node, gate, codes) {
             size += 1;
         }
-        i += 1;
     }
     size
 }

@@ -5,6 +5,7 @@ use mathlib.Core.List.{List, [], ◌∷◌}
 use Prim.Native.Nat.{ℕ, ◌^◌, ◌<◌}
 use borrow.Author.Tests.{eqb-true, ne_eqb}
 use lib.Bits.{bit_and, bit_or, or_zero_r}
+use Rattle.std.specs.Prelude.{Option}
 use Rattle.ints.specs.Lists.{all, elem}
 use Rattle.ints.proofs.Bools.{and_both}
 use Rattle.circuit.specs.Pairs.{mask_of}
@@ -13,7 +14,6 @@ use Rattle.exact.specs.Rows.{Gate, phase, exchange, had, then, exchanges3}
 use Rattle.exact.proofs.Words.{Lacks, Proper}
 use lib.IntN.{ℤ}
 use Rattle.steps.specs.Step.{Stepped, Controlled}
-use Rattle.steps.specs.declared.Applied.{Applied}
 
 pub mask_none : 0 ≡ mask_of []
 unfolding mask_of
@@ -64,7 +64,7 @@ pub exchange_needs : {n : ℕ} (ks : List ℕ) {t control j : ℕ} → t ≡ j �
     → (t < n) × (bit_and control (2 ^ t) ≡ 0)
 exchange_needs ks {j = j} e m p = rw (e, m) (p.0, target_apart j ks p.2)
 
-module _ {n k : ℕ} {l l' : List ℤ} {r : Applied} where
+module _ {n k : ℕ} {l l' : List ℤ} {r : Option ℕ} where
   pub controlled_at : (g : ℕ → List ℕ → Gate) (ks : List ℕ) {control t j : ℕ} → t ≡ j → control ≡ mask_of ks → Proper n (g j ks) → Controlled n k control (g t) l l' r
       → Stepped n k (g j ks) l l' r
   controlled_at g ks {control} e m p w = (subst (λ (x : ℕ). Controlled n k control (g x) l l' r) e w).by ks m p

@@ -7,6 +7,7 @@ use Prim.Native.Nat.{ℕ, ◌+◌, ◌^◌, ◌≤◌, ◌<◌}
 use native.Mathlib.Omega.{arith}
 use lib.IntN.{ℤ}
 use lib.ListN.{length}
+use Rattle.std.specs.Prelude.{Option, Some, None}
 use Rattle.cyclotomic.specs.Zomega.{Zω, Small, fits}
 use Rattle.cyclotomic.proofs.Answers.{small_fits, fits_small}
 use Rattle.circuit.specs.Pairs.{mask_of}
@@ -27,8 +28,6 @@ use Rattle.rows.proofs.ByMask.{phase_rows_lem, exchange_rows_lem, h_rows_lem}
 use Rattle.h_rows.specs.Work.{HDone}
 use Rattle.places.specs.Held.{Holds, Ready}
 use Rattle.steps.specs.Step.{Stepped}
-use Rattle.steps.specs.declared.Applied.{Applied}
-use Rattle.steps.specs.declared.Applied.TheVariants.{Done, DoesNotFit}
 
 module _ (n k : ℕ) (l l' : List ℤ) (w : Ready n k l) where
   -- the places hold the raw operation's result, and nothing is to lower
@@ -42,7 +41,7 @@ module _ (n k : ℕ) (l l' : List ℤ) (w : Ready n k l) where
   }
 
   pub phase_stepped : (mask p : ℕ) → k ≤ most_k → length l' ≡ places → Same n (read n l') (phase_rows mask p (read n l)) → Kept n l l'
-      → (ks : List ℕ) → mask ≡ mask_of ks → Stepped n k (phase ks p) l l' (Done k)
+      → (ks : List ℕ) → mask ≡ mask_of ks → Stepped n k (phase ks p) l l' (Some k)
   phase_stepped mask p b h s q ks e =
       let done = raw_held (phase ks p) h refl
       (λ r c i j. s.at r c i j ∙ ap (λ (x : ℕ). phase_rows x p (read n l) r c) e ∙ phase_rows_lem ks p (read n l) r c)
@@ -50,7 +49,7 @@ module _ (n k : ℕ) (l l' : List ℤ) (w : Ready n k l) where
       record { answer = given_step n (phase ks p) (held n k l) (phase_step_fits n ks p (held n k l) w.small b) done.equal.exponent; left = done; kept = q }
 
   pub exchange_stepped : (control t : ℕ) → k ≤ most_k → length l' ≡ places → Same n (read n l') (exchange_rows control (2 ^ t) (read n l)) → Kept n l l'
-      → (ks : List ℕ) → control ≡ mask_of ks → Proper n (exchange ks t) → Stepped n k (exchange ks t) l l' (Done k)
+      → (ks : List ℕ) → control ≡ mask_of ks → Proper n (exchange ks t) → Stepped n k (exchange ks t) l l' (Some k)
   exchange_stepped control t b h s q ks e pr =
       let done = raw_held (exchange ks t) h refl
       (λ r c i j. s.at r c i j ∙ ap (λ (x : ℕ). exchange_rows x (2 ^ t) (read n l) r c) e ∙ exchange_rows_lem ks t (read n l) r c)
@@ -81,10 +80,10 @@ module _ (n k : ℕ) (ks : List ℕ) (t : ℕ) (l : List ℤ) where
   stays : Ready n k l → Holds n k l (held n k l)
   stays w = record { long = w.long; equal = record { exponent = refl; entries = λ r c i j. refl }; small = w.small }
 
-  pub h_refused_k : most_k ≤ k → Ready n k l → Stepped n k (had ks t) l l DoesNotFit
+  pub h_refused_k : most_k ≤ k → Ready n k l → Stepped n k (had ks t) l l None
   h_refused_k h w = record { answer = refused_step n (had ks t) (held n k l) (had_step_k n ks t (held n k l) h); left = stays w; kept = kept_refl n l }
 
-  pub h_refused : {l' : List ℤ} {ok : Bool} → Ready n k l → k < most_k → HDone n (h_rows (mask_of ks) (2 ^ t) (read n l)) l l' ok → ok ≡ false → Stepped n k (had ks t) l l' DoesNotFit
+  pub h_refused : {l' : List ℤ} {ok : Bool} → Ready n k l → k < most_k → HDone n (h_rows (mask_of ks) (2 ^ t) (read n l)) l l' ok → ok ≡ false → Stepped n k (had ks t) l l' None
   h_refused w h d e = record {
     answer = refused_step n (had ks t) (held n k l) (had_step n ks t (held n k l) h ∙ tested_false (d.refused e).1);
     left = rw (d.refused e).0 (stays w);
@@ -92,7 +91,7 @@ module _ (n k : ℕ) (ks : List ℕ) (t : ℕ) (l : List ℤ) where
   }
 
   pub h_stepped : {j : ℕ} (l' : List ℤ) {l'' : List ℤ} {ok : Bool} → k < most_k → HDone n (h_rows (mask_of ks) (2 ^ t) (read n l)) l l' ok → ok ≡ true
-      → Holds n j l'' (lower n (held n (k + 1) l')) × Kept n l' l'' → Stepped n k (had ks t) l l'' (Done j)
+      → Holds n j l'' (lower n (held n (k + 1) l')) × Kept n l' l'' → Stepped n k (had ks t) l l'' (Some j)
   h_stepped {j} l' {l''} h d e w =
       record {
         answer = given_step n (had ks t) (held n k l) (had_step n ks t (held n k l) h ∙ tested_true (d.done e).1) same.exponent;
@@ -113,7 +112,7 @@ module _ (n : ℕ) {x : ℕ → ℕ → Zω} {l : List ℤ} where
 
 -- ---- the places after a step are ready for the next
 
-pub ready_next : {n k j : ℕ} {g : Gate} {l l' : List ℤ} → Stepped n k g l l' (Done j) → Ready n j l'
+pub ready_next : {n k j : ℕ} {g : Gate} {l l' : List ℤ} → Stepped n k g l l' (Some j) → Ready n j l'
 ready_next {n} {k} {j} {g} {l} s =
     record { long = s.left.long; small = s.left.small; lowest = equal_lowest n (equal_sym n s.left.equal) (act_lowest n g (held n k l)) }
 
@@ -121,9 +120,9 @@ ready_next {n} {k} {j} {g} {l} s =
 
 module _ (n k : ℕ) (g h : Gate) (l : List ℤ) (pr : Proper n h) where
   -- the second is applied to what the first left
-  pub stepped_then : {j : ℕ} {l1 l2 : List ℤ} (r : Applied) → Stepped n k g l l1 (Done j) → Stepped n j h l1 l2 r → Stepped n k (then g h) l l2 r
+  pub stepped_then : {j : ℕ} {l1 l2 : List ℤ} (r : Option ℕ) → Stepped n k g l l1 (Some j) → Stepped n j h l1 l2 r → Stepped n k (then g h) l l2 r
   unfolding step_fits
-  stepped_then {j} {l1} {l2} (Done i) s w = record {
+  stepped_then {j} {l1} {l2} (Some i) s w = record {
     answer =
         given_step n (then g h) (held n k l)
         (and_both (step_fits n g (held n k l)) (step_fits n h (act n g (held n k l))) (step_given n g (held n k l) s.answer) (sym (alike s) ∙ step_given n h (held n j l1) w.answer))
@@ -132,12 +131,12 @@ module _ (n k : ℕ) (g h : Gate) (l : List ℤ) (pr : Proper n h) where
     kept = kept_trans n s.kept w.kept;
   }
     where
-      alike : Stepped n k g l l1 (Done j) → step_fits n h (held n j l1) ≡ step_fits n h (act n g (held n k l))
+      alike : Stepped n k g l l1 (Some j) → step_fits n h (held n j l1) ≡ step_fits n h (act n g (held n k l))
       alike s = step_equal n h s.left.equal pr
 
-      same : Stepped n k g l l1 (Done j) → Equal n (act n h (held n j l1)) (act n (then g h) (held n k l))
+      same : Stepped n k g l l1 (Some j) → Equal n (act n h (held n j l1)) (act n (then g h) (held n k l))
       same s = equal_trans n (act_equal' n h s.left.equal pr) (act_then n g h (held n k l) pr)
-  stepped_then {j} {l1} {l2} DoesNotFit s w = record {
+  stepped_then {j} {l1} {l2} None s w = record {
     answer =
         refused_step n (then g h) (held n k l)
         (ap (λ (b : Bool). step_fits n g (held n k l) && b) (sym (step_equal n h s.left.equal pr) ∙ step_refused n h (held n j l1) w.answer) ∙ and-false (step_fits n g (held n k l)));
@@ -152,7 +151,7 @@ module _ (n k : ℕ) (g h : Gate) (l : List ℤ) (pr : Proper n h) where
   }
 
   -- the first does not fit
-  pub stepped_unfit : {l1 : List ℤ} → Stepped n k g l l1 DoesNotFit → Stepped n k (then g h) l l1 DoesNotFit
+  pub stepped_unfit : {l1 : List ℤ} → Stepped n k g l l1 None → Stepped n k (then g h) l l1 None
   unfolding step_fits
   stepped_unfit s = record {
     answer = refused_step n (then g h) (held n k l) (ap (λ (b : Bool). b && step_fits n h (act n g (held n k l))) (step_refused n g (held n k l) s.answer));
@@ -161,5 +160,5 @@ module _ (n k : ℕ) (g h : Gate) (l : List ℤ) (pr : Proper n h) where
   }
 
 -- the answer is known by an equation
-pub at_answer : {n k : ℕ} {g : Gate} {l l' : List ℤ} {r s : Applied} → r ≡ s → Stepped n k g l l' r → Stepped n k g l l' s
-at_answer {n} {k} {g} {l} {l'} e w = subst (λ (x : Applied). Stepped n k g l l' x) e w
+pub at_answer : {n k : ℕ} {g : Gate} {l l' : List ℤ} {r s : Option ℕ} → r ≡ s → Stepped n k g l l' r → Stepped n k g l l' s
+at_answer {n} {k} {g} {l} {l'} e w = subst (λ (x : Option ℕ). Stepped n k g l l' x) e w

@@ -2,21 +2,22 @@
 use mathlib.Core.Path.{◌≡◌, refl, sym, ap, ◌∙◌}
 use mathlib.Core.Bool.{true, false}
 use mathlib.Core.List.{List, [], ◌∷◌}
+use Rattle.std.specs.Prelude.{Result, Ok, Err, IsErr}
 use Prim.Native.Nat.{ℕ, ◌+◌, ◌-◌, ◌≤◌, ◌<◌}
 use native.Mathlib.Omega.{arith}
 use lib.ListN.{length, get_or, length-append}
 use Rattle.circuit.specs.Codes.{valid_for}
-use Rattle.exact.specs.Answers.{Answer, given, refused}
+use Rattle.exact.specs.Answers.{given, refused}
 use Rattle.synthesis_arena.specs.Chains.{depth_of, one_more_of, told_depth, Depths}
 use Rattle.walk.specs.Chains.{marked, Chain, good, bad, then, chain_of}
 use Rattle.walk.specs.Meaning.{Fault, not_below, not_valid, too_many}
 use Rattle.walk.proofs.Chaining.{walk_within, unmarked, says_root, bad_by, good_by, gates_of, chain_more, link, longer, parent_good}
-use Rattle.synthesis_arena.specs.declared.NodeDepth.{NodeDepth}
-use Rattle.synthesis_arena.specs.declared.NodeDepth.TheVariants.{At, Bad}
+use Rattle.synthesis_arena.specs.declared.BadChain.{BadChain}
 
--- an answer that is known by an equation
-told_at : {r s : NodeDepth} {a : Answer} → r ≡ s → told_depth r ≡ a → told_depth s ≡ a
-told_at e h = sym (ap told_depth e) ∙ h
+-- an error is the one refusal
+pub told_err : (r : Result ℕ BadChain) → IsErr r → refused 13 0 ≡ told_depth r
+told_err (Ok m) h = cc
+told_err (Err b) h = refl
 
 module _ (n basis : ℕ) (parents codes : List ℕ) where
   abbrev chain : ℕ → ℕ → Chain
@@ -60,15 +61,15 @@ module _ (n basis : ℕ) (parents codes : List ℕ) where
       depth_not_valid t = refused_by (not_valid 0 node refl p t)
 
       module _ (q : 0 < limit) (below : get_or parents node 0 < node) (ok : valid_for n basis (get_or codes node 0) ≡ true) where
-        pub depth_more : {r : NodeDepth} {m : ℕ} → r ≡ At m → told_depth r ≡ depth_of (chain_of n basis parents codes (limit - 1) (get_or parents node 0)) → given (m + 1) ≡ depth_of (chain_of n basis parents codes limit node)
-        depth_more {m = m} e h = by (chain (limit - 1) (get_or parents node 0)) (told_at e h) ∙ sym (ap depth_of (chain_more n basis parents codes limit node q p below ok))
+        pub depth_more : {m : ℕ} → given m ≡ depth_of (chain_of n basis parents codes (limit - 1) (get_or parents node 0)) → given (m + 1) ≡ depth_of (chain_of n basis parents codes limit node)
+        depth_more {m = m} h = by (chain (limit - 1) (get_or parents node 0)) h ∙ sym (ap depth_of (chain_more n basis parents codes limit node q p below ok))
           where
             by : (k : Chain) → given m ≡ depth_of k → given (m + 1) ≡ depth_of (then k (get_or codes node 0))
             by (good l) f = let z : m ≡ length l = cc in ap given (omega (arith, z, length-append l (get_or codes node 0 ∷ [])))
             by bad f = let z : ◌≡◌ {A = ℕ} 0 1 = cc in absurd (omega arith)
 
-        pub depth_bad : {r : NodeDepth} → r ≡ Bad → told_depth r ≡ depth_of (chain_of n basis parents codes (limit - 1) (get_or parents node 0)) → refused 13 0 ≡ depth_of (chain_of n basis parents codes limit node)
-        depth_bad e h = by (chain (limit - 1) (get_or parents node 0)) (told_at e h) ∙ sym (ap depth_of (chain_more n basis parents codes limit node q p below ok))
+        pub depth_bad : refused 13 0 ≡ depth_of (chain_of n basis parents codes (limit - 1) (get_or parents node 0)) → refused 13 0 ≡ depth_of (chain_of n basis parents codes limit node)
+        depth_bad h = by (chain (limit - 1) (get_or parents node 0)) h ∙ sym (ap depth_of (chain_more n basis parents codes limit node q p below ok))
           where
             by : (k : Chain) → refused 13 0 ≡ depth_of k → refused 13 0 ≡ depth_of (then k (get_or codes node 0))
             by (good l) f = let z : ◌≡◌ {A = ℕ} 0 1 = cc in absurd (omega arith)
@@ -87,11 +88,11 @@ module _ (n basis : ℕ) (parents codes : List ℕ) where
         record { list = l; is = e; size = z; within = omega (arith, (gates_of n basis parents codes limit node e).short) }
     deep_given bad e f = let z : ◌≡◌ {A = ℕ} 0 1 = cc in absurd (omega arith)
 
-    pub deep : {r : NodeDepth} {m : ℕ} → r ≡ At m → told_depth r ≡ depth_of (chain_of n basis parents codes limit node) → Deep m
-    deep e h = deep_given (chain limit node) refl (told_at e h)
+    pub deep : {m : ℕ} → given m ≡ depth_of (chain_of n basis parents codes limit node) → Deep m
+    deep h = deep_given (chain limit node) refl h
 
-    pub not_deep : {r : NodeDepth} → r ≡ Bad → told_depth r ≡ depth_of (chain_of n basis parents codes limit node) → chain_of n basis parents codes limit node ≡ bad
-    not_deep e h = by (chain limit node) refl (told_at e h)
+    pub not_deep : refused 13 0 ≡ depth_of (chain_of n basis parents codes limit node) → chain_of n basis parents codes limit node ≡ bad
+    not_deep h = by (chain limit node) refl h
       where
         by : (k : Chain) → chain limit node ≡ k → refused 13 0 ≡ depth_of k → k ≡ bad
         by (good l) f g = let z : ◌≡◌ {A = ℕ} 0 1 = cc in absurd (omega arith)

@@ -1,6 +1,7 @@
 -- What a caller learns from an answer. Assumes nothing.
 use mathlib.Core.Path.{◌≡◌, refl, sym, ap, ◌∙◌}
 use mathlib.Core.List.{List, ◌++◌}
+use Rattle.std.specs.Prelude.{Option, Some, None, Result, Ok, Err}
 use Prim.Native.Nat.{ℕ}
 use native.Mathlib.Omega.{arith}
 use lib.ListN.{length, take, drop}
@@ -11,20 +12,17 @@ use Rattle.walk.specs.Meaning.{LowestNode, Nowhere, Gates}
 use Rattle.synthesis_arena.specs.Chains.{told_circuit}
 use Rattle.walk.specs.Answers.{given, refused, Outcome, outcome, written}
 use Rattle.walk.specs.Chains.{Chain, good, bad, chain_of}
-use Rattle.synthesis_arena.specs.declared.Found.{Found}
-use Rattle.synthesis_arena.specs.declared.Found.TheVariants.{At, NotFound}
-use Rattle.synthesis_arena.specs.declared.NodeCircuit.{NodeCircuit}
-use Rattle.synthesis_arena.specs.declared.NodeCircuit.TheVariants.{Length, Bad}
+use Rattle.synthesis_arena.specs.declared.BadChain.{BadChain}
 use Rattle.walk.proofs.Lookups.{looks_up}
 use Rattle.walk.proofs.Chaining.{gates_of}
 
 -- ---- of `node_for`
 
-module _ (fps : List ℕ) (count from f : ℕ) {r : Found} (told : told_found r ≡ lowest_from fps count from f) where
-  pub found_lowest : {node : ℕ} → r ≡ At node → LowestNode fps count from f node
+module _ (fps : List ℕ) (count from f : ℕ) {r : Option ℕ} (told : told_found r ≡ lowest_from fps count from f) where
+  pub found_lowest : {node : ℕ} → r ≡ Some node → LowestNode fps count from f node
   found_lowest {node} e = ((looks_up fps count from f).is_found node).0 (sym told ∙ ap told_found e)
 
-  pub found_nowhere : r ≡ NotFound → Nowhere fps count from f
+  pub found_nowhere : r ≡ None → Nowhere fps count from f
   found_nowhere e = (looks_up fps count from f).is_none.0 (sym told ∙ ap told_found e)
 
 -- ---- of `circuit`
@@ -44,9 +42,9 @@ module _ (n basis : ℕ) (parents codes : List ℕ) (limit node : ℕ) (old new 
     pub is_bad_lem : chain_of n basis parents codes limit node ≡ bad
     pub same : new ≡ old
 
-  module _ {r : NodeCircuit} (told : outcome (told_circuit r) new ≡ written old (chain_of n basis parents codes limit node)) where
-    pub circuit_read : {m : ℕ} → r ≡ Length m → ChainRead m
-    circuit_read {m} e = by (chain_of n basis parents codes limit node) refl (sym (ap (λ (x : NodeCircuit). outcome (told_circuit x) new) e) ∙ told)
+  module _ {r : Result ℕ BadChain} (told : outcome (told_circuit r) new ≡ written old (chain_of n basis parents codes limit node)) where
+    pub circuit_read : {m : ℕ} → r ≡ Ok m → ChainRead m
+    circuit_read {m} e = by (chain_of n basis parents codes limit node) refl (sym (ap (λ (x : Result ℕ BadChain). outcome (told_circuit x) new) e) ∙ told)
       where
         by : (k : Chain) → chain_of n basis parents codes limit node ≡ k → outcome (given m) new ≡ written old k → ChainRead m
         by (good l) f h =
@@ -63,8 +61,8 @@ module _ (n basis : ℕ) (parents codes : List ℕ) (limit node : ℕ) (old new 
             }
         by bad f h = let a = ap (λ (o : Outcome). o.reply) h in let z : ◌≡◌ {A = ℕ} 0 1 = cc in absurd (omega arith)
 
-    pub circuit_refused : r ≡ Bad → Refused
-    circuit_refused e = by (chain_of n basis parents codes limit node) refl (sym (ap (λ (x : NodeCircuit). outcome (told_circuit x) new) e) ∙ told)
+    pub circuit_refused : {b : BadChain} → r ≡ Err b → Refused
+    circuit_refused e = by (chain_of n basis parents codes limit node) refl (sym (ap (λ (x : Result ℕ BadChain). outcome (told_circuit x) new) e) ∙ told)
       where
         by : (k : Chain) → chain_of n basis parents codes limit node ≡ k → outcome (refused 13 0) new ≡ written old k → Refused
         by (good l) f h = let a = ap (λ (o : Outcome). o.reply) h in let z : ◌≡◌ {A = ℕ} 0 1 = cc in absurd (omega arith)

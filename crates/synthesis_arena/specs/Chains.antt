@@ -1,13 +1,10 @@
 -- The depth of a node by its chain, and the values of each case. Assumes nothing.
-use Rattle.std.specs.Prelude.{◌≡◌, List, ℕ, suc, ◌<◌, length, get_or}
+use Rattle.std.specs.Prelude.{◌≡◌, List, ℕ, suc, ◌<◌, length, get_or, Result, Ok, Err}
 use Rattle.exact.specs.Answers.{Answer, given, refused}
 use Rattle.walk.specs.Chains.{Chain, good, bad, chain_of}
 use Rattle.walk.specs.Answers.{Reply}
 use Rattle.walk.specs.Answers as a
-use Rattle.synthesis_arena.specs.declared.NodeDepth.{NodeDepth}
-use Rattle.synthesis_arena.specs.declared.NodeDepth.TheVariants as d
-use Rattle.synthesis_arena.specs.declared.NodeCircuit.{NodeCircuit}
-use Rattle.synthesis_arena.specs.declared.NodeCircuit.TheVariants as c
+use Rattle.synthesis_arena.specs.declared.BadChain.{BadChain}
 
 -- the depth of a node: how many gates its list has; a bad chain is refused by 13 (SPECIFICATION 7.5)
 abbrev pub depth_of : Chain → Answer
@@ -15,13 +12,13 @@ depth_of (good l) = given (length l)
 depth_of bad = refused 13 0
 
 -- the number and the values of each case
-abbrev pub told_depth : NodeDepth → Answer
-told_depth (d.At m) = given m
-told_depth d.Bad = refused 13 0
+abbrev pub told_depth : Result ℕ BadChain → Answer
+told_depth (Ok m) = given m
+told_depth (Err _) = refused 13 0
 
-abbrev pub told_circuit : NodeCircuit → Reply
-told_circuit (c.Length m) = a.given m
-told_circuit c.Bad = a.refused 13 0
+abbrev pub told_circuit : Result ℕ BadChain → Reply
+told_circuit (Ok m) = a.given m
+told_circuit (Err _) = a.refused 13 0
 
 -- the depth of a node by its parent's: one more, and refused where that is
 abbrev pub one_more_of : Answer → Answer

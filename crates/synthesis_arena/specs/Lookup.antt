@@ -1,8 +1,7 @@
 -- The values of each case of a look-up's answer. Assumes nothing.
+use Rattle.std.specs.Prelude.{ℕ, Option, Some, None}
 use Rattle.walk.specs.Lookup.{Lookup, found, none}
-use Rattle.synthesis_arena.specs.declared.Found.{Found}
-use Rattle.synthesis_arena.specs.declared.Found.TheVariants.{At, NotFound}
 
-abbrev pub told_found : Found → Lookup
-told_found (At node) = found node
-told_found NotFound = none
+abbrev pub told_found : Option ℕ → Lookup
+told_found (Some node) = found node
+told_found None = none

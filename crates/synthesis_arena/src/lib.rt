@@ -10,8 +10,10 @@ ghost use Rattle.walk.specs.Lookup.{lowest_from};
 ghost use Rattle.synthesis_arena.specs.Chains.{depth_of, told_depth, told_circuit};
 ghost use Rattle.walk.specs.Answers.{outcome, written};
 ghost use Rattle.walk.specs.Chains.{marked, chain_of};
+ghost use Rattle.refusal.specs.declared.Refusal.TheVariants.{BadTable};
 
 use circuit::{GateSet, LibraryGate};
+use refusal::Refusal;
 
 // The mark: node 0 has it in the place of a parent and of a code (SPECIFICATION 2.10).
 pub const MARK: u32 = 4294967295;
@@ -25,25 +27,16 @@ pub struct WidthLimits {
     pub entries: usize,
 }
 
-// A node with a fingerprint, or that there is none.
+// A node's chain is bad: it does not lead to node 0, or a gate on the way is not valid, not of the basis, or one too many.
 #[derive(Clone, Copy)]
-pub enum Found {
-    At(usize),
-    NotFound,
-}
+pub struct BadChain;
 
-// The depth of a node, or that its chain is bad.
-#[derive(Clone, Copy)]
-pub enum NodeDepth {
-    At(usize),
-    Bad,
-}
+impl From<BadChain> for Refusal {
+    ghost from_gives = { λ _ refusal. refusal ≡ BadTable };
 
-// How many gates a node's list has, or that its chain is bad.
-#[derive(Clone, Copy)]
-pub enum NodeCircuit {
-    Length(usize),
-    Bad,
+    fn from(_chain: BadChain) -> Refusal {
+        Refusal::BadTable
+    }
 }
 
 // The lower 32 bits of a fingerprint.
@@ -62,10 +55,8 @@ fn may_have(fingerprints: &[u64], from: usize, end: usize, fingerprint: u64) -> 
 {
     let half = low(fingerprint);
     let mut found = false;
-    let mut i = from;
-    while i < end {
-        found = found | (low(fingerprints[i]) == half);
-        i += 1;
+    for i in from..end {
+        found |= low(fingerprints[i]) == half;
     }
     found
 }
@@ -77,6 +68,7 @@ fn skip_blocks(fingerprints: &[u64], count: usize, from: usize, fingerprint: u64
     ensures none_before { lowest_from fingerprints.now count result fingerprint ≡ lowest_from fingerprints.now count from fingerprint }
 {
     let mut i = from;
+    // A `while`, since it goes over whole blocks alone: `step_by` would go to the last, shorter one as well.
     while 64 <= count - i {
         let end = i + 64;
         if may_have(fingerprints, i, end, fingerprint) {
@@ -88,21 +80,20 @@ fn skip_blocks(fingerprints: &[u64], count: usize, from: usize, fingerprint: u64
 }
 
 // The lowest node that has the fingerprint, of those from a place on and below the count (SPECIFICATION 7.4).
-pub fn node_for(fingerprints: &[u64], count: usize, from: usize, fingerprint: u64) -> Found
+pub fn node_for(fingerprints: &[u64], count: usize, from: usize, fingerprint: u64) -> Option<usize>
     requires within { count ≤ length fingerprints.now }
     ensures lowest { told_found result ≡ lowest_from fingerprints.now count from fingerprint }
 {
     if count <= from {
-        return Found::NotFound;
+        return None;
     }
-    let mut i = skip_blocks(fingerprints, count, from, fingerprint);
-    while i < count {
+    let start = skip_blocks(fingerprints, count, from, fingerprint);
+    for i in start..count {
         if fingerprints[i] == fingerprint {
-            return Found::At(i);
+            return Some(i);
         }
-        i += 1;
     }
-    Found::NotFound
+    None
 }
 
 // Whether node 0 has its marks.
@@ -110,10 +101,7 @@ fn is_marked(parents: &[u32], codes: &[u32]) -> bool
     requires some { (0 < length parents.now) × (0 < length codes.now) }
     ensures marked { result ≡ marked parents.now codes.now }
 {
-    if parents[0] != MARK {
-        return false;
-    }
-    codes[0] == MARK
+    parents[0] == MARK && codes[0] == MARK
 }
 
 // The depth of a node: 0 for node 0, and for another one more than its parent's (SPECIFICATION 7.5). The recursion is
@@ -126,30 +114,27 @@ pub fn depth(
     basis: GateSet,
     limit: usize,
     node: usize,
-) -> NodeDepth
+) -> Result<usize, BadChain>
     requires there { (node < length parents.now) × (node < length codes.now) }
     ensures depth { told_depth result ≡ depth_of (chain_of width basis.0 parents.now codes.now limit node) }
 {
     if node == 0 {
         if !is_marked(parents, codes) {
-            return NodeDepth::Bad; // node 0 without its marks
+            return Err(BadChain); // node 0 without its marks
         }
-        return NodeDepth::At(0);
+        return Ok(0);
     }
     if limit == 0 {
-        return NodeDepth::Bad; // more than G gates
+        return Err(BadChain); // more than G gates
     }
     let parent = parents[node] as usize;
     if parent >= node {
-        return NodeDepth::Bad; // a parent not below its node
+        return Err(BadChain); // a parent not below its node
     }
     if !LibraryGate(codes[node]).is_valid_for(width, basis) {
-        return NodeDepth::Bad; // a code not valid or not of B
+        return Err(BadChain); // a code not valid or not of B
     }
-    match depth(parents, codes, width, basis, limit - 1, parent) {
-        NodeDepth::At(d) => NodeDepth::At(d + 1),
-        NodeDepth::Bad => NodeDepth::Bad,
-    }
+    Ok(depth(parents, codes, width, basis, limit - 1, parent)? + 1)
 }
 
 // The list of a node, read along its parents, oldest gate first. The gates fill the first places of `out`; later
@@ -162,20 +147,16 @@ pub fn circuit(
     limit: usize,
     node: usize,
     out: &mut [u32],
-) -> NodeCircuit
+) -> Result<usize, BadChain>
     requires there { (node < length parents.now) × (node < length codes.now) × (limit ≤ length out.old) }
     ensures written { outcome (told_circuit result) out.new
         ≡ written out.old (chain_of width basis.0 parents.now codes.now limit node) }
 {
-    let NodeDepth::At(size) = depth(parents, codes, width, basis, limit, node) else {
-        return NodeCircuit::Bad;
-    };
+    let size = depth(parents, codes, width, basis, limit, node)?;
     let mut at = node;
-    let mut i = 0;
-    while i < size {
-        out[size - 1 - i] = codes[at];
+    for i in (0..size).rev() {
+        out[i] = codes[at];
         at = parents[at] as usize;
-        i += 1;
     }
-    NodeCircuit::Length(size)
+    Ok(size)
 }

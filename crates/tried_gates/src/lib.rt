@@ -52,21 +52,17 @@ pub fn try_gates(
         fingerprints.new parents.new codes.new index.new result }
     ensures long { (length left.new ≡ places) × (length right.new ≡ places) }
 {
-    let how = mode;
-    let lookup = by;
-    let l = limits;
     let mut n = count;
-    let mut j = 0;
-    while j < gates.len() {
+    for (j, &gate) in gates.iter().enumerate() {
         let candidate = Candidate {
-            gate: gates[j],
+            gate,
             print: prints[j],
             ahead: nodes[j],
         };
         let t = next_node::append(
-            how,
-            lookup,
-            l,
+            mode,
+            by,
+            limits,
             n,
             node,
             candidate,
@@ -83,7 +79,6 @@ pub fn try_gates(
         if t.saturated {
             return t;
         }
-        j += 1;
     }
     Tried {
         count: n,

@@ -32,15 +32,10 @@ pub fn equivalent_up_to_global_phase(
     let q = phases::least_power(phases::pivot(right, n));
     let turns = (p + 7 * q) % 8;
     let size = places::area(n);
-    let mut e = 0;
-    while e < size {
-        if !places::get(left, e)
-            .times_omega(turns)
-            .equals(places::get(right, e))
-        {
+    for e in 0..size {
+        if places::get(left, e).times_omega(turns) != places::get(right, e) {
             return false;
         }
-        e += 1;
     }
     true
 }

@@ -7,19 +7,17 @@
 ghost use Rattle.std.specs.Prelude.{◌≡◌, ◌≤◌, length};
 ghost use Rattle.exact.specs.Matrix.{identity};
 ghost use Rattle.exact.specs.Places.{held};
-ghost use Rattle.places.specs.Places.{places};
 ghost use Rattle.places.specs.Held.{Holds};
 ghost use Rattle.walk.specs.Lookup.{found};
-ghost use Rattle.walk.specs.Finds.{part_with, looked_in};
-ghost use Rattle.index.specs.Told.{told_by};
+ghost use Rattle.walk.specs.Finds.{looked_in};
+ghost use Rattle.index.specs.Told.{told_part};
 ghost use Rattle.synthesis_arena.specs.Limits.{told_limits};
 ghost use Rattle.node_answer.specs.Answers.{AskedPlaces, told_find};
 ghost use Rattle.width_answer.specs.Answers.{PrintFound, ListFound};
 
 use cyclotomic::Coefficient;
-use index::LookupBy;
-use node_answer::Find;
-use synthesis_arena::{Found, WidthLimits};
+use index::Part;
+use synthesis_arena::{BadChain, WidthLimits};
 
 // The node of a width's part with a fingerprint whose list passes the recheck against a matrix: by the scan the lowest
 // (SPECIFICATION 7.4, 7.15). The caller has looked the first node up, and has put the identity into `scratch`. Nodes
@@ -27,92 +25,74 @@ use synthesis_arena::{Found, WidthLimits};
 // search. Each lies past the one before, so no more are looked at than there are. The list of the node found is left in
 // the first places of `list`; what `list` holds where none is found, and what `scratch` holds afterwards, is not told.
 pub fn find_at(
-    by: LookupBy,
     limits: WidthLimits,
-    count: usize,
+    part: Part<'_>,
     node: usize,
     print: u64,
     exponent: u16,
-    fingerprints: &[u64],
-    parents: &[u32],
-    codes: &[u32],
-    index: &[u32],
     query: &[Coefficient],
     list: &mut [u32],
     scratch: &mut [Coefficient; 4096],
-) -> Find
+) -> Result<Option<(usize, usize)>, BadChain>
     requires width_bound { (limits.width ≤ 5) × (limits.gates ≤ length list.old) }
-    requires count_in_bounds { (count ≤ length fingerprints.now) × (count ≤ length parents.now) × (count ≤ length codes.now) }
+    requires count_in_bounds { (part.count ≤ length part.fingerprints.now) × (part.count ≤ length part.parents.now)
+        × (part.count ≤ length part.codes.now) }
     requires asked_places { AskedPlaces limits.width query.now }
-    requires print_value { looked_in (part_with (told_by by) fingerprints.now parents.now codes.now count index.now) 0 print ≡ found node }
+    requires print_value { looked_in (told_part part) 0 print ≡ found node }
     requires holds { Holds limits.width 0 scratch.old identity }
-    ensures found { PrintFound (told_limits limits)
-        (part_with (told_by by) fingerprints.now parents.now codes.now count index.now) print
+    ensures found { PrintFound (told_limits limits) (told_part part.entry) print
         (held limits.width exponent query.now) (told_find result) list.new }
-    ensures long { length scratch.new ≡ places }
 {
-    let lookup = by;
-    let lim = limits;
     let mut at = node;
-    let mut left = count;
-    while left > 0 {
-        match node_answer::find_node(lim, at, exponent, parents, codes, query, list, scratch) {
-            Find::Node(k, m) => {
-                return Find::Node(k, m);
-            }
-            Find::Nothing => {}
-            Find::BadChain => {
-                return Find::BadChain; // nothing past it is looked at
-            }
+    for _turn in 0..part.count {
+        if let Some(found) = node_answer::find_node(
+            limits,
+            at,
+            exponent,
+            part.parents,
+            part.codes,
+            query,
+            list,
+            scratch,
+        )? {
+            return Ok(Some(found)); // nothing past it is looked at, nor past a bad chain
         }
-        let Found::At(next) = index::look_up(lookup, index, fingerprints, count, at + 1, print)
-        else {
-            return Find::Nothing; // none is left
+        let Some(next) = part.look_up(at + 1, print) else {
+            return Ok(None); // none is left
         };
-        identity::set_identity(scratch, lim.width as usize);
+        identity::set_identity(scratch, limits.width as usize);
         at = next;
-        left -= 1;
     }
-    Find::Nothing
+    Ok(None)
 }
 
 // The node that answers a matrix in a width's part of a table, by the matrix's own fingerprint.
 pub fn find_width(
-    by: LookupBy,
     limits: WidthLimits,
-    count: usize,
+    part: Part<'_>,
     exponent: u16,
-    fingerprints: &[u64],
-    parents: &[u32],
-    codes: &[u32],
-    index: &[u32],
     query: &[Coefficient],
     list: &mut [u32],
-) -> Find
+) -> Result<Option<(usize, usize)>, BadChain>
     requires width_bound { (limits.width ≤ 5) × (limits.gates ≤ length list.old) }
-    requires count_in_bounds { (count ≤ length fingerprints.now) × (count ≤ length parents.now) × (count ≤ length codes.now) }
+    requires count_in_bounds { (part.count ≤ length part.fingerprints.now) × (part.count ≤ length part.parents.now)
+        × (part.count ≤ length part.codes.now) }
     requires asked_places { AskedPlaces limits.width query.now }
-    ensures { ListFound (told_limits limits)
-        (part_with (told_by by) fingerprints.now parents.now codes.now count index.now)
+    ensures { ListFound (told_limits limits) (told_part part.entry)
         (held limits.width exponent query.now) (told_find result) list.new }
 {
     let print = prints::unitary_fingerprint(query, limits.width as usize, exponent);
-    let Found::At(node) = index::look_up(by, index, fingerprints, count, 0, print) else {
-        return Find::Nothing;
+    let Some(node) = part.look_up(0, print) else {
+        return Ok(None);
     };
     let mut scratch: [Coefficient; 4096] = [0; 4096]; // only here: a miss does without it
     identity::put_identity(&mut scratch, limits.width as usize);
     find_at(
-        by,
         limits,
-        count,
+        part,
         node,
         print,
         exponent,
-        fingerprints,
-        parents,
-        codes,
-        index,
         query,
         list,
         &mut scratch,

@@ -32,19 +32,13 @@ pub fn deepen_all(
         fingerprints.old parents.old codes.old index.old
         fingerprints.new parents.new codes.new index.new result }
 {
-    let how = mode;
-    let lookup = by;
-    let l = limits;
-    let limit = limits.gates;
     let mut n = 1;
     let mut first = 0;
-    let mut d = 0;
-    while d < limit {
-        let next = d + 1;
+    for d in 0..limits.gates {
         let t = width_layer::deepen(
-            how,
-            lookup,
-            l,
+            mode,
+            by,
+            limits,
             first,
             n,
             gates,
@@ -63,17 +57,16 @@ pub fn deepen_all(
         if t.count == n {
             return WidthTable {
                 count: n,
-                depth: next,
+                depth: d + 1,
                 saturated: false,
             };
         }
         first = n;
         n = t.count;
-        d = next;
     }
     WidthTable {
         count: n,
-        depth: d,
+        depth: limits.gates,
         saturated: false,
     }
 }

@@ -59,20 +59,16 @@ pub fn deepen(
         fingerprints.old parents.old codes.old index.old
         fingerprints.new parents.new codes.new index.new result }
 {
-    let how = mode;
-    let lookup = by;
-    let l = limits;
-    let one = identity::identity_data(l.width as usize);
+    let one = identity::identity_data(limits.width as usize);
     let mut m = one;
     let mut left = one;
     let mut right = one;
     let mut n = count;
-    let mut node = first;
-    while node < count {
+    for node in first..count {
         let t = candidates::try_node(
-            how,
-            lookup,
-            l,
+            mode,
+            by,
+            limits,
             n,
             node,
             gates,
@@ -92,7 +88,6 @@ pub fn deepen(
                 saturated: true,
             };
         }
-        node += 1;
     }
     Tried {
         count: n,

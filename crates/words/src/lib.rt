@@ -1,6 +1,5 @@
-// Words of 64 bits: products and rotations as the fingerprint's streams use them, and a coefficient as a word. The
-// language has no product that wraps and no rotation, so both are made of halves and shifts here, once; sums that wrap
-// are std's.
+// Words of 64 bits: products and rotations as the fingerprint's streams use them, and a coefficient as a word. std has
+// no product that wraps, so it is made of halves here, once; sums that wrap and rotations are std's.
 #![tactic(auto)]
 
 ghost use Rattle.std.specs.Prelude.{◌≡◌};
@@ -24,22 +23,12 @@ pub fn wrapping_mul(a: u64, b: u64) -> u64
 pub fn rotate_left(a: u64, places: u32) -> u64
     ensures { result ≡ rotated places a }
 {
-    let up = places % 64;
-    if up == 0 {
-        return a;
-    }
-    let down = 64 - up;
-    (a << up) | (a >> down)
+    a.rotate_left(places)
 }
 
-// A coefficient's 64 bits, its sign extended. It is widened first: then both arms are the widened number, and the
-// compiler sees it.
+// A coefficient's 64 bits, its sign extended.
 pub fn sign_extended(x: Coefficient) -> u64
     ensures { result ≡ word x }
 {
-    let wide = x as i64;
-    if wide < 0 {
-        return u64::MAX - ((-1 - wide) as u64);
-    }
-    wide as u64
+    (x as i64).cast_unsigned()
 }

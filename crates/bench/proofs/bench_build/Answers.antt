@@ -1,4 +1,5 @@
 -- `bench_build` meets its contract. Assumes nothing.
+use mathlib.Core.Logic.{inl, inr}
 use native.Mathlib.Omega.{arith}
 use Rattle.tables.specs.Checks.{arrays_by}
 use Rattle.murm_build.specs.Entries.{told_building}
@@ -10,14 +11,10 @@ pub returns-then-limits-lt4 : goal.returns-then-limits-lt4
 returns-then-limits-lt4 c =
     let a = c.args in
     let m = arrays_by (by_number a.by) a.fingerprints.now a.parents.now a.codes.now a.index.now in
-    short_built (mode_number a.mode) a.limits.now m a.numbers.now (few_limits a.limits.now a.numbers.now c.if-limits-lt4.true)
-
-pub returns-then-numbers-lt15 : goal.returns-then-numbers-lt15
-returns-then-numbers-lt15 c =
-    let a = c.args in
-    let m = arrays_by (by_number a.by) a.fingerprints.now a.parents.now a.codes.now a.index.now in
-    short_built (mode_number a.mode) a.limits.now m a.numbers.now
-    (few_numbers a.limits.now a.numbers.now (omega (arith, c.if-limits-lt4.false)) c.if-numbers-lt15.true)
+    elim c.then-limits-lt4.either [
+      | inl h ↦ short_built (mode_number a.mode) a.limits.now m a.numbers.now (few_limits a.limits.now a.numbers.now h)
+      | inr h ↦ short_built (mode_number a.mode) a.limits.now m a.numbers.now (few_numbers a.limits.now a.numbers.now h.0 h.1)
+    ]
 
 pub returns : goal.returns
 returns c =

@@ -1,20 +1,25 @@
--- `t_charge` meets its contract: the sum with a gate's charge, and the charge of what is left after it. Assumes nothing.
+-- `t_charge` meets its contract: the sum of the charges of the gates. Assumes nothing.
+use borrow.Author.Rules.{rules}
 use native.Mathlib.Omega.{arith}
-use native.Mathlib.Numerals.{add-one}
-use mathlib.Core.Path.{◌≡◌, ap}
-use mathlib.Core.List.{[]}
-use lib.ListN.{drop, drop_of_length-le}
-use Rattle.circuit.specs.Charge.{charge}
-use Rattle.circuit.proofs.Charges.{charge_from}
+use mathlib.Core.Path.{◌∙◌}
+use Prim.Native.Nat.{ℕ, ◌^◌}
+use Rattle.std.proofs.lemmas.Iterator.{YieldsList-from_slice, YieldsList-from_map}
+use Rattle.std.proofs.lemmas.Iterator.Consumers.{sum_by_from_yields_List, fits_by_from_yields_list}
+use Rattle.circuit.specs.Codes.{kind_of}
+use Rattle.kinds.specs.Kinds.{kind_charge}
+use Rattle.circuit.proofs.Charges.{charge_sum, charge_most}
 use Rattle.circuit.proofs.t_charge.Goals as goal
 
-pub loop-i-preserved : goal.loop-i-preserved
-loop-i-preserved c =
-    (omega arith, rw add-one (omega (arith, charge_from c.args.codes.now c.loop-i.i (omega arith), c.t_charge-sum.ensures, c.loop-i.invariant.1)))
+pub sum-requires-clause-fits : goal.sum-requires-clause-fits
+sum-requires-clause-fits c =
+    let codes = c.args.codes.now in
+    fits_by_from_yields_list (λ (g : ℕ). kind_charge (kind_of g)) codes _ (2 ^ 64)
+    (YieldsList-from_map _ (λ (g : ℕ). kind_charge (kind_of g)) (YieldsList-from_slice codes cc) c.map.ensures.closure (λ x r q k. search rules))
+    (omega (arith, charge_sum codes, charge_most codes))
 
 pub returns : goal.returns
-unfolding charge
 returns c =
-    let l = c.args.codes.now in
-    let end : drop c.loop-i.i l ≡ [] = drop_of_length-le l {i = c.loop-i.i} (omega arith) in
-    omega (arith, c.loop-i.invariant.1, ap charge end)
+    let codes = c.args.codes.now in
+    sum_by_from_yields_List (λ (g : ℕ). kind_charge (kind_of g)) codes _ _ c.sum.ensures.ran
+    (YieldsList-from_map _ (λ (g : ℕ). kind_charge (kind_of g)) (YieldsList-from_slice codes cc) c.map.ensures.closure (λ x r q k. search rules))
+    ∙ charge_sum codes

@@ -1,13 +1,20 @@
 -- `answer` meets its contract: the lent arrays are zeros. Assumes nothing.
+use mathlib.Core.Path.{◌≡◌, refl}
+use Prim.Native.Nat.{ℕ}
+use Rattle.std.specs.Prelude.{Option, Some, None, IsSome}
 use Rattle.circuits_output.proofs.Whole.{zeros_are, some_text, text_put}
 use Rattle.circuits.proofs.answer.Goals as goal
 
-pub returns-in-Text : goal.returns-in-Text
-returns-in-Text c =
-    let z = zeros_are c.fingerprint_space-fingerprints.ensures c.node_space-parents.ensures c.node_space-codes.ensures in
-    text_put c.args.input.now c.args.out.now _ c.circuits.result z c.requires c.circuits.ensures _ c.circuits.auto.out c.in-Text.is
+some_of : (o : Option ℕ) → (o ≡ None → ⊥) → IsSome o
+some_of (Some n) h = refl
+some_of None h = absurd (h refl)
 
-pub returns-in-NoRoom : goal.returns-in-NoRoom
-returns-in-NoRoom c =
+pub unwrap-requires : goal.unwrap-requires
+unwrap-requires c =
     let z = zeros_are c.fingerprint_space-fingerprints.ensures c.node_space-parents.ensures c.node_space-codes.ensures in
-    absurd (some_text c.args.input.now c.args.out.now _ c.circuits.result z c.requires c.circuits.ensures c.in-NoRoom.is)
+    some_of c.circuits-made.result (some_text c.args.input.now c.args.out.now _ c.circuits-made.result z c.requires c.circuits-made.ensures)
+
+pub returns : goal.returns
+returns c =
+    let z = zeros_are c.fingerprint_space-fingerprints.ensures c.node_space-parents.ensures c.node_space-codes.ensures in
+    text_put c.args.input.now c.args.out.now _ c.circuits-made.result z c.requires c.circuits-made.ensures _ c.circuits-made.auto.out c.unwrap.ensures

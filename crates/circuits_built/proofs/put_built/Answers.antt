@@ -10,16 +10,16 @@ use Rattle.circuits_built.proofs.put_built.Goals as goal
 pub put_widths-next-requires-clause-max_entries_per_qubit_in_bounds :
     goal.put_widths-next-requires-clause-max_entries_per_qubit_in_bounds
 put_widths-next-requires-clause-max_entries_per_qubit_in_bounds c =
-    let r = ready_as c.in-Table.is _ _ c.requires.printable in
-    omega (arith, table_room (told_murm c.in-Table.table) _ r.0 r.1, c.requires.later_len_bound.1)
+    let r = ready_as c.in-Ok.is _ _ c.requires.printable in
+    omega (arith, table_room (told_murm c.in-Ok.table) _ r.0 r.1, c.requires.later_len_bound.1)
 
 pub put_queries-requires : goal.put_queries-requires
 put_queries-requires c =
-    let r = ready_as c.in-Table.is _ _ c.requires.printable in
+    let r = ready_as c.in-Ok.is _ _ c.requires.printable in
     let d = c.put_widths-next in
     omega (
       arith,
-      table_room (told_murm c.in-Table.table) _ r.0 r.1,
+      table_room (told_murm c.in-Ok.table) _ r.0 r.1,
       c.requires.later_len_bound.0,
       c.requires.later_len_bound.1,
       d.ensures.most,
@@ -29,7 +29,7 @@ put_queries-requires c =
 pub put_refused-requires : goal.put_refused-requires
 put_refused-requires c = omega (arith, some_room _ _ c.requires.later_len_bound.1)
 
-pub returns-in-Table : goal.returns-in-Table
-returns-in-Table c =
+pub returns-in-Ok : goal.returns-in-Ok
+returns-in-Ok c =
     let a = c.args in
-    building_as c.in-Table.is (arrays a.fingerprints.now a.parents.now a.codes.now) _ (then_put c.put_widths-next.ensures.text c.put_queries.ensures)
+    building_as c.in-Ok.is (arrays a.fingerprints.now a.parents.now a.codes.now) _ (then_put c.put_widths-next.ensures.text c.put_queries.ensures)

@@ -19,7 +19,7 @@ returns-then-out-room c =
 pub put_built-requires-clause-printable : goal.put_built-requires-clause-printable
 put_built-requires-clause-printable c =
     let a = c.args in
-    ready (told_config c.in-Table.config) (arrays a.fingerprints.now a.parents.now a.codes.now) _ c.build-built.ensures
+    ready (told_config c.in-Ok.config) (arrays a.fingerprints.now a.parents.now a.codes.now) _ c.build-built.ensures
 
 pub put_refused-requires : goal.put_refused-requires
 put_refused-requires c =
@@ -27,19 +27,19 @@ put_refused-requires c =
     let enough : room_for (length a.parents.now) ≤ length a.out.now = omega (arith, c.if-out-room.false, c.room.ensures) in
     omega (arith, some_room _ _ enough)
 
-pub returns-in-Table : goal.returns-in-Table
-returns-in-Table c =
+pub returns-in-Ok : goal.returns-in-Ok
+returns-in-Ok c =
     let a = c.args in
     let lent = arrays a.fingerprints.now a.parents.now a.codes.now in
     let enough : room_for (length a.parents.now) ≤ length a.out.now = omega (arith, c.if-out-room.false, c.room.ensures) in
-    program_came a.input.now lent a.out.now enough c.in-Table.is c.read_input.ensures.is (
-      built_put (told_config c.in-Table.config) lent a.input.now c.in-Table.from c.build-built.ensures c.put_built.ensures,
-      arrays_are (told_config c.in-Table.config) lent c.build-built.ensures,
+    program_came a.input.now lent a.out.now enough c.in-Ok.is c.read_input.ensures.is (
+      built_put (told_config c.in-Ok.config) lent a.input.now c.in-Ok.from c.build-built.ensures c.put_built.ensures,
+      arrays_are (told_config c.in-Ok.config) lent c.build-built.ensures,
     )
 
-pub returns-in-Refused : goal.returns-in-Refused
-returns-in-Refused c =
+pub returns-in-Err : goal.returns-in-Err
+returns-in-Err c =
     let a = c.args in
     let enough : room_for (length a.parents.now) ≤ length a.out.now = omega (arith, c.if-out-room.false, c.room.ensures) in
-    program_came a.input.now (arrays a.fingerprints.now a.parents.now a.codes.now) a.out.now enough c.in-Refused.is c.read_input.ensures.is
+    program_came a.input.now (arrays a.fingerprints.now a.parents.now a.codes.now) a.out.now enough c.in-Err.is c.read_input.ensures.is
     (c.put_refused.ensures.text, refl)

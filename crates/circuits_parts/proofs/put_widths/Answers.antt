@@ -9,7 +9,7 @@ use Rattle.circuits_parts.proofs.put_widths.Goals as goal
 pub loop-w-init : goal.loop-w-init
 loop-w-init c =
     let a = c.args in
-    (omega arith, omega arith, laid_none (widths_none (told_murm a.table) a.parents.now a.codes.now) (omega arith))
+    (omega arith, laid_none (widths_none (told_murm a.table) a.parents.now a.codes.now) (omega arith))
 
 pub loop-w-preserved : goal.loop-w-preserved
 loop-w-preserved c =
@@ -19,7 +19,6 @@ loop-w-preserved c =
     let d = c.put_width-p in
     let x = 33 * a.table.config.max_entries_per_qubit + 90 in
     let room = more_room l.w a.table.config.max_qubits x c.loop-w-test.true in (
-      omega (arith, c.loop-w-test.true),
-      omega (arith, l.invariant.1, d.ensures.most, room.0),
-      laid_on (widths_more (told_murm a.table) a.parents.now a.codes.now l.w) l.invariant.2 d.ensures.text d.auto.out,
+      omega (arith, l.invariant.0, d.ensures.most, room.0),
+      laid_on (widths_more (told_murm a.table) a.parents.now a.codes.now l.w) l.invariant.1 d.ensures.text d.auto.out,
     )

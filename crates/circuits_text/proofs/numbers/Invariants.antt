@@ -1,11 +1,6 @@
 -- `numbers` meets its contract: the words passed are numbers and stand in the list. Assumes nothing.
-use Prim.Native.Nat.{◌-◌}
-use lib.ListN.{length}
 use Rattle.circuits_text.proofs.Split.{Reading}
 use Rattle.circuits_text.proofs.numbers.Given as goal
 
 abbrev pub invariant-loop-k : goal.invariant-loop-k
 invariant-loop-k l = Reading l.line l.initial.list l.list l.p l.k
-
-abbrev pub decreases-loop-k : goal.decreases-loop-k
-decreases-loop-k l = length l.initial.list - l.k

@@ -1,5 +1,4 @@
 -- `roots_fit` meets its contract: where every entry passed fits, so do they all, and one that does not is among them.
-use native.Mathlib.Omega.{arith}
 use mathlib.Core.Path.{refl, sym, ap, ◌∙◌}
 use Rattle.ints.proofs.Bools.{clash}
 use Rattle.cyclotomic.specs.Zomega.{Zω, fits, sqrt2}
@@ -24,7 +23,5 @@ returns-then-not-sqrt_2_fits-2 c =
 pub loop-i-preserved : goal.loop-i-preserved
 loop-i-preserved c =
     let first = c.sqrt_2_fits.ensures ∙ ap (λ (z : Zω). fits (sqrt2 z)) c.get-x.ensures in
-    let second = c.sqrt_2_fits-in-loop-i.ensures ∙ ap (λ (z : Zω). fits (sqrt2 z)) c.get-y.ensures in (
-      omega arith,
-      sums_more _ _ _ _ _ c.loop-i.invariant.1 (fits_small _ (sym first ∙ c.if-not-sqrt_2_fits.false)) (fits_small _ (sym second ∙ c.if-not-sqrt_2_fits-2.false)),
-    )
+    let second = c.sqrt_2_fits-in-loop-i.ensures ∙ ap (λ (z : Zω). fits (sqrt2 z)) c.get-y.ensures in
+    sums_more _ _ _ _ _ c.loop-i.invariant (fits_small _ (sym first ∙ c.if-not-sqrt_2_fits.false)) (fits_small _ (sym second ∙ c.if-not-sqrt_2_fits-2.false))

@@ -1,11 +1,7 @@
 -- `roots_fit` meets its contract: where every entry passed fits, so do they all, and one that does not is among them.
-use Prim.Native.Nat.{◌-◌, ◌≤◌}
 use mathlib.Core.Bool.{false}
 use Rattle.h_entries.specs.Sums.{SumsFit}
 use Rattle.h_entries.proofs.roots_fit.Given as goal
 
 abbrev pub invariant-loop-i : goal.invariant-loop-i
-invariant-loop-i l = (l.i ≤ l.c) × SumsFit false l.m l.e l.f l.i
-
-abbrev pub decreases-loop-i : goal.decreases-loop-i
-decreases-loop-i l = l.c - l.i
+invariant-loop-i l = SumsFit false l.m l.e l.f l.i

@@ -1,12 +1,8 @@
 -- `sizes_fit` meets its contract: `over` is false exactly while every pair of places passed has sizes whose sum is
 -- within the limit.
-use Prim.Native.Nat.{◌-◌, ◌≤◌}
 use mathlib.Core.Bool.{not}
 use Rattle.h_entries.specs.Sums.{SizesFit, Tells}
 use Rattle.h_entries.proofs.sizes_fit.Given as goal
 
 abbrev pub invariant-loop-i : goal.invariant-loop-i
-invariant-loop-i l = (l.i ≤ l.len) × Tells (SizesFit l.m l.p l.q l.i) (not l.over)
-
-abbrev pub decreases-loop-i : goal.decreases-loop-i
-decreases-loop-i l = l.len - l.i
+invariant-loop-i l = Tells (SizesFit l.m l.p l.q l.i) (not l.over)

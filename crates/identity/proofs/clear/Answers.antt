@@ -1,8 +1,22 @@
--- `clear` meets its contract: the places so far are 0, the later ones as they were. Assumes nothing.
+-- `clear` meets its contract: the matrix's places are filled with 0, and the later ones stay. Assumes nothing.
+use mathlib.Core.Path.{ap}
+use Prim.Native.Nat.{ℕ, ◌*◌, ◌≤◌}
 use native.Mathlib.Omega.{arith}
+use Rattle.places.specs.Places.{places}
 use Rattle.places.proofs.Placed.{area_le}
+use Rattle.identity.proofs.Filling.{cleared_zero, cleared_kept}
 use Rattle.identity.proofs.clear.Goals as goal
 
--- a place of the matrix is there
-pub bounds-m-i : goal.bounds-m-i
-bounds-m-i c = omega (arith, c.loop-i-test.true, c.area-size.ensures, area_le _ c.requires.n_bound)
+-- the matrix's places are there
+pub slice_bounds-fill-end : goal.slice_bounds-fill-end
+slice_bounds-fill-end c = omega (arith, c.area-size.ensures, area_le _ c.requires.n_bound)
+
+pub returns-clause-zero : goal.returns-clause-zero
+returns-clause-zero c =
+    let b : 4 * c.area-size.result ≤ places = omega (arith, c.area-size.ensures, area_le _ c.requires.n_bound) in
+    cleared_zero _ _ _ c.told-m b (ap (λ (a : ℕ). 4 * a) c.area-size.ensures) (c.fill.ensures.after (λ y e. e))
+
+pub returns-clause-kept : goal.returns-clause-kept
+returns-clause-kept c =
+    let b : 4 * c.area-size.result ≤ places = omega (arith, c.area-size.ensures, area_le _ c.requires.n_bound) in
+    cleared_kept _ _ _ c.told-m b (ap (λ (a : ℕ). 4 * a) c.area-size.ensures) (c.fill.ensures.after (λ y e. e))

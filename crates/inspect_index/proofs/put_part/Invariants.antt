@@ -1,9 +1,6 @@
 -- `put_part` begins each place's line with room left. Assumes nothing.
-use Rattle.std.proofs.Common.{◌≡◌, ◌≤◌, ◌-◌, length}
+use Rattle.std.proofs.Common.{◌≡◌, ◌≤◌, length}
 use Rattle.inspect_index.proofs.put_part.Given as goal
 
 abbrev pub invariant-loop-i : goal.invariant-loop-i
-invariant-loop-i g l = (l.p ≤ 65536) × (l.start ≤ l.i) × (length l.out ≡ length l.initial.out)
-
-abbrev pub decreases-loop-i : goal.decreases-loop-i
-decreases-loop-i g l = l.end - l.i
+invariant-loop-i g l = (l.p ≤ 65536) × (length l.out ≡ length l.initial.out)

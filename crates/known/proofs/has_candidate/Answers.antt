@@ -9,10 +9,10 @@ use Rattle.known.proofs.has_candidate.Goals as goal
 
 pub has_equal-requires-clause-asked : goal.has_equal-requires-clause-asked
 has_equal-requires-clause-asked c =
-    let w = copy_done _ _ _ _ c.in-Done.is c.apply_to_copy.ensures.applied in
+    let w = copy_done _ _ _ _ c.in-Some.is c.apply_to_copy.ensures.applied in
     (omega (arith, area_le _ c.requires.bounds.0, c.apply_to_copy.ensures.long), w.1.small)
 
-pub returns-clause-found : goal.returns-clause-found
-returns-clause-found c =
-    let w = copy_done _ _ _ _ c.in-Done.is c.apply_to_copy.ensures.applied in
-    c.has_equal.ensures.found ∙ known_alike _ _ _ w.1.equal keeping
+pub returns : goal.returns
+returns c =
+    let w = copy_done _ _ _ _ c.in-Some.is c.apply_to_copy.ensures.applied in
+    record { found = c.has_equal.ensures.found ∙ known_alike _ _ _ w.1.equal keeping }

@@ -8,6 +8,6 @@ use Rattle.looked_ahead.proofs.node_ahead.Goals as goal
 -- a node that is found lies below the count, so its number has 32 bits
 pub overflow_cast-result : goal.overflow_cast-result
 overflow_cast-result c =
-    let a = c.args in
-    let w = looked_node indexed a.index.now a.fingerprints.now a.count 0 a.print _ (sym c.in-At.ensures.probed) in
+    let p = c.args.part in
+    let w = looked_node indexed p.index.now p.fingerprints.now p.count 0 c.args.print _ (sym c.in-Some.ensures.probed) in
     omega (arith, w.below, c.requires.within.1)

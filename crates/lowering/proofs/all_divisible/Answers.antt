@@ -12,4 +12,4 @@ returns-then-not-divisible_by_sqrt_2 c =
     (ap divisible (sym c.get.ensures) ∙ sym c.divisible_by_sqrt_2.ensures ∙ c.if-not-divisible_by_sqrt_2.true))
 
 pub returns : goal.returns
-returns c = sym (divisible_yes _ _ (λ j h. c.loop-e.invariant.1 j (omega (arith, c.area-size.ensures))))
+returns c = sym (divisible_yes _ _ (λ j h. c.loop-e.invariant j (omega (arith, c.area-size.ensures))))

@@ -10,13 +10,13 @@ use Rattle.lowering.proofs.divide_all.Goals as goal
 
 pub get-z-requires : goal.get-z-requires
 get-z-requires c =
-    omega (arith, c.loop-e.invariant.1.long, c.requires.m_len, area_le _ c.requires.n_bound, c.area-size.ensures)
+    omega (arith, c.loop-e.invariant.long, c.told-m, area_le _ c.requires.n_bound, c.area-size.ensures)
 
 -- the entry that was read is the first array's
 pub divide_by_sqrt_2-requires : goal.divide_by_sqrt_2-requires
 divide_by_sqrt_2-requires c =
     let is : c.get-z.result ≡ entry c.args.m.now c.loop-e.e =
-    c.get-z.ensures ∙ c.loop-e.invariant.1.other _ (omega arith) in
+    c.get-z.ensures ∙ c.loop-e.invariant.other _ (omega arith) in
     rw is
     (small_at _ _ _ c.requires.all_small (omega (arith, c.area-size.ensures)))
 
@@ -27,15 +27,9 @@ pub loop-e-preserved : goal.loop-e-preserved
 loop-e-preserved c =
     let inside : c.loop-e.e < 1024 = omega (arith, area_le _ c.requires.n_bound, c.area-size.ensures) in
     let is : c.get-z.result ≡ entry c.args.m.now c.loop-e.e =
-    c.get-z.ensures ∙ c.loop-e.invariant.1.other _ (omega arith) in (
-      omega arith,
-      divided_more _ _ c.loop-e.invariant.1
-          c.requires.m_len
-          inside
-          (c.divide_by_sqrt_2.ensures ∙ ap over_sqrt2 is)
-          c.put_at.ensures,
-    )
+    c.get-z.ensures ∙ c.loop-e.invariant.other _ (omega arith) in
+    divided_more _ _ c.loop-e.invariant c.told-m inside (c.divide_by_sqrt_2.ensures ∙ ap over_sqrt2 is) c.put_at.ensures
 
 pub returns-clause-kept : goal.returns-clause-kept
 returns-clause-kept c =
-    kept_entries _ (λ k h. c.loop-e.invariant.1.other k (omega (arith, c.loop-e.invariant.0, c.area-size.ensures)))
+    kept_entries _ (λ k h. c.loop-e.invariant.other k (omega (arith, c.loop-e.auto.e-end, c.area-size.ensures)))

@@ -10,15 +10,15 @@ pub all_divisible-requires-clause-n_in_bounds : goal.all_divisible-requires-clau
 all_divisible-requires-clause-n_in_bounds c =
     omega (arith, c.loop-j.invariant.long, area_le c.args.n c.requires.n_bound)
 
-pub returns-then-not-all_divisible-clause-lowered : goal.returns-then-not-all_divisible-clause-lowered
-returns-then-not-all_divisible-clause-lowered c =
-    (lowering_end _ _ _ c.loop-j.invariant (λ h. sym c.all_divisible.ensures ∙ c.if-not-all_divisible.true)).0
+pub returns-else-all_divisible-clause-lowered : goal.returns-else-all_divisible-clause-lowered
+returns-else-all_divisible-clause-lowered c =
+    (lowering_end _ _ _ c.loop-j.invariant (λ h. sym c.all_divisible.ensures ∙ c.if-all_divisible.false)).0
 
 pub loop-j-preserved : goal.loop-j-preserved
 loop-j-preserved c =
     lowering_more _ _ _ _ c.loop-j.invariant (omega arith)
-    (sym c.all_divisible.ensures ∙ c.if-not-all_divisible.false)
-    c.divide_all.ensures.sized c.divide_all.ensures.divided c.divide_all.ensures.kept
+    (sym c.all_divisible.ensures ∙ c.if-all_divisible.true)
+    c.divide_all.array_long c.divide_all.ensures.divided c.divide_all.ensures.kept
 
-pub returns-clause-lowered : goal.returns-clause-lowered
-returns-clause-lowered c = (lowering_end _ _ _ c.loop-j.invariant (λ h. absurd (omega arith))).0
+pub returns-after-loop-j-clause-lowered : goal.returns-after-loop-j-clause-lowered
+returns-after-loop-j-clause-lowered c = (lowering_end _ _ _ c.loop-j.invariant (λ h. absurd (omega arith))).0

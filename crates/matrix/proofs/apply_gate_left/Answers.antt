@@ -1,31 +1,21 @@
 -- `apply_gate_left` meets its contract: the gate of a valid code is that of its kind on its operands. Assumes nothing.
-use mathlib.Core.Path.{sym}
+use mathlib.Core.Path.{◌≡◌, sym, ap, ◌∙◌}
 use Rattle.exact.proofs.Coded.{valid_kind_lem}
-use Rattle.matrix.proofs.ByKind.{coded, coded_proper}
-use Rattle.steps.proofs.Steps.{at_answer}
+use Rattle.kinds.specs.Kinds.{is_kind}
+use Rattle.kinds.specs.Told.{told_kind, told_found}
+use Rattle.circuit.specs.Codes.{kind_of}
+use Rattle.matrix.proofs.ByKind.{is_found, coded, coded_proper}
 use Rattle.matrix.proofs.apply_gate_left.Goals as goal
 
-pub kind_step-requires-clause-kind_value : goal.kind_step-requires-clause-kind_value
-kind_step-requires-clause-kind_value c =
-    rw c.kind-kind.ensures (valid_kind_lem _ _ c.requires.gate_value, rw c.kind-kind.ensures at c.if-kind-lt12.true)
+pub unwrap-kind-requires : goal.unwrap-kind-requires
+unwrap-kind-requires c = is_found c.kind.result (ap is_kind c.kind.ensures ∙ valid_kind_lem _ _ c.requires.gate_value)
 
 pub kind_step-requires-clause-proper : goal.kind_step-requires-clause-proper
 kind_step-requires-clause-proper c =
-    rw (c.kind-kind.ensures, c.first-a.ensures, c.second-b.ensures, c.third-c.ensures) (coded_proper _ _ c.requires.gate_value)
-
-pub returns-then-kind-lt12 : goal.returns-then-kind-lt12
-returns-then-kind-lt12 c =
-    rw (coded _ _ c.requires.gate_value) (rw (c.kind-kind.ensures, c.first-a.ensures, c.second-b.ensures, c.third-c.ensures) at c.kind_step.ensures)
-
-pub more_kind_step-requires-clause-kind_value : goal.more_kind_step-requires-clause-kind_value
-more_kind_step-requires-clause-kind_value c =
-    rw c.kind-kind.ensures (valid_kind_lem _ _ c.requires.gate_value, rw c.kind-kind.ensures at c.if-kind-lt12.false)
-
-pub more_kind_step-requires-clause-proper : goal.more_kind_step-requires-clause-proper
-more_kind_step-requires-clause-proper c =
-    rw (c.kind-kind.ensures, c.first-a.ensures, c.second-b.ensures, c.third-c.ensures) (coded_proper _ _ c.requires.gate_value)
+    let e : told_kind c.unwrap-kind.result ≡ kind_of c.args.gate.0 = ap told_found (sym c.unwrap-kind.ensures) ∙ c.kind.ensures in
+    rw (e, c.first.ensures, c.second.ensures, c.third.ensures) (coded_proper _ _ c.requires.gate_value)
 
 pub returns : goal.returns
 returns c =
-    at_answer (sym c.made_anew.ensures)
-    (rw (coded _ _ c.requires.gate_value) (rw (c.kind-kind.ensures, c.first-a.ensures, c.second-b.ensures, c.third-c.ensures) at c.more_kind_step.ensures))
+    let e : told_kind c.unwrap-kind.result ≡ kind_of c.args.gate.0 = ap told_found (sym c.unwrap-kind.ensures) ∙ c.kind.ensures in
+    rw (coded _ _ c.requires.gate_value) (rw (e, c.first.ensures, c.second.ensures, c.third.ensures) at c.kind_step.ensures)

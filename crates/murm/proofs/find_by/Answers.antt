@@ -1,5 +1,6 @@
 -- `find_by` meets its contract: each test that was passed decides its row. Assumes nothing.
 use mathlib.Core.Path.{sym, ◌∙◌}
+use Rattle.std.proofs.lemmas.Result.{err_from_is_err_and}
 use Rattle.refusal.proofs.Numbers.{passed, refused}
 use Rattle.tables.specs.Checks.{arrays_by}
 use Rattle.tables.specs.Tables.{query}
@@ -16,7 +17,7 @@ find_passed-requires-clause-table_value c =
     let t = told_murm s.table in
     let m = arrays_by (told_by s.by) s.fingerprints.now s.parents.now s.codes.now s.index.now in
     let q = query s.width s.exponent s.matrix.now in
-    (may_search t m q c.check_find.ensures c.in-Passed.is).0
+    (may_search t m q c.in_ok-check_find.ensures).0
 
 pub find_passed-requires-clause-codes_value : goal.find_passed-requires-clause-codes_value
 find_passed-requires-clause-codes_value c =
@@ -24,7 +25,7 @@ find_passed-requires-clause-codes_value c =
     let t = told_murm s.table in
     let m = arrays_by (told_by s.by) s.fingerprints.now s.parents.now s.codes.now s.index.now in
     let q = query s.width s.exponent s.matrix.now in
-    (may_search t m q c.check_find.ensures c.in-Passed.is).1.0
+    (may_search t m q c.in_ok-check_find.ensures).1.0
 
 pub find_passed-requires-clause-matrix_value : goal.find_passed-requires-clause-matrix_value
 find_passed-requires-clause-matrix_value c =
@@ -32,20 +33,17 @@ find_passed-requires-clause-matrix_value c =
     let t = told_murm s.table in
     let m = arrays_by (told_by s.by) s.fingerprints.now s.parents.now s.codes.now s.index.now in
     let q = query s.width s.exponent s.matrix.now in
-    (may_search t m q c.check_find.ensures c.in-Passed.is).1.1
+    (may_search t m q c.in_ok-check_find.ensures).1.1
 
-pub returns-in-Passed : goal.returns-in-Passed
-returns-in-Passed c =
+pub returns-in_err-check_find : goal.returns-in_err-check_find
+returns-in_err-check_find c =
     let s = c.args in
-    let t = told_murm s.table in
     let m = arrays_by (told_by s.by) s.fingerprints.now s.parents.now s.codes.now s.index.now in
-    let q = query s.width s.exponent s.matrix.now in
-    c.find_passed.ensures ∙ sym (find_passed t m q (passed c.check_find.ensures.told c.in-Passed.is))
+    let p = err_from_is_err_and c.from_residual.result c.from_residual.ensures.1 in
+    rw (p.1, p.2) (refused_find (told_murm s.table) m (query s.width s.exponent s.matrix.now) (refused c.in_err-check_find.ensures.told))
 
-pub returns-in-Refused : goal.returns-in-Refused
-returns-in-Refused c =
+pub returns : goal.returns
+returns c =
     let s = c.args in
-    let t = told_murm s.table in
     let m = arrays_by (told_by s.by) s.fingerprints.now s.parents.now s.codes.now s.index.now in
-    let q = query s.width s.exponent s.matrix.now in
-    refused_find t m q (refused c.check_find.ensures.told c.in-Refused.is)
+    c.find_passed.ensures ∙ sym (find_passed (told_murm s.table) m (query s.width s.exponent s.matrix.now) (passed c.in_ok-check_find.ensures.told))

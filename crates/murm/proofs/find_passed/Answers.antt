@@ -4,4 +4,4 @@ use Rattle.murm_part.proofs.Parts.{record_counted}
 use Rattle.murm.proofs.find_passed.Goals as goal
 
 pub find_any-requires-clause-counted : goal.find_any-requires-clause-counted
-find_any-requires-clause-counted c = record_counted (told_murm c.args.table) c.args.width c.requires.table_value c.count_at-count.ensures
+find_any-requires-clause-counted c = record_counted (told_murm c.args.table) c.args.query.width c.requires.table_value c.count_at-count.ensures

@@ -1,5 +1,6 @@
 -- `synthesize_by` meets its contract: each test that was passed decides its row. Assumes nothing.
 use mathlib.Core.Path.{◌∙◌}
+use Rattle.std.proofs.lemmas.Result.{err_from_is_err_and}
 use Rattle.refusal.proofs.Numbers.{passed, refused}
 use Rattle.tables.specs.Checks.{arrays_by}
 use Rattle.tables.specs.Tables.{query}
@@ -16,7 +17,7 @@ ask-requires-clause-table_value c =
     let t = told_murm s.table in
     let m = arrays_by (told_by s.by) s.fingerprints.now s.parents.now s.codes.now s.index.now in
     let q = query s.width s.exponent s.matrix.now in
-    (may_search t m q c.check_find.ensures c.in-Passed.is).0
+    (may_search t m q c.in_ok-check_find.ensures).0
 
 pub ask-requires-clause-codes_value : goal.ask-requires-clause-codes_value
 ask-requires-clause-codes_value c =
@@ -24,7 +25,7 @@ ask-requires-clause-codes_value c =
     let t = told_murm s.table in
     let m = arrays_by (told_by s.by) s.fingerprints.now s.parents.now s.codes.now s.index.now in
     let q = query s.width s.exponent s.matrix.now in
-    (may_search t m q c.check_find.ensures c.in-Passed.is).1.0
+    (may_search t m q c.in_ok-check_find.ensures).1.0
 
 pub ask-requires-clause-matrix_value : goal.ask-requires-clause-matrix_value
 ask-requires-clause-matrix_value c =
@@ -32,20 +33,17 @@ ask-requires-clause-matrix_value c =
     let t = told_murm s.table in
     let m = arrays_by (told_by s.by) s.fingerprints.now s.parents.now s.codes.now s.index.now in
     let q = query s.width s.exponent s.matrix.now in
-    (may_search t m q c.check_find.ensures c.in-Passed.is).1.1
+    (may_search t m q c.in_ok-check_find.ensures).1.1
 
-pub returns-in-Passed : goal.returns-in-Passed
-returns-in-Passed c =
+pub returns-in_err-check_find : goal.returns-in_err-check_find
+returns-in_err-check_find c =
     let s = c.args in
-    let t = told_murm s.table in
     let m = arrays_by (told_by s.by) s.fingerprints.now s.parents.now s.codes.now s.index.now in
-    let q = query s.width s.exponent s.matrix.now in
-    c.ask.ensures ∙ asked_is t m q s.out.now (passed c.check_find.ensures.told c.in-Passed.is)
+    let p = err_from_is_err_and c.from_residual.result c.from_residual.ensures.1 in
+    rw (p.1, p.2) (refused_answer (told_murm s.table) m (query s.width s.exponent s.matrix.now) s.out.now (refused c.in_err-check_find.ensures.told))
 
-pub returns-in-Refused : goal.returns-in-Refused
-returns-in-Refused c =
+pub returns : goal.returns
+returns c =
     let s = c.args in
-    let t = told_murm s.table in
     let m = arrays_by (told_by s.by) s.fingerprints.now s.parents.now s.codes.now s.index.now in
-    let q = query s.width s.exponent s.matrix.now in
-    refused_answer t m q s.out.now (refused c.check_find.ensures.told c.in-Refused.is)
+    c.ask.ensures ∙ asked_is (told_murm s.table) m (query s.width s.exponent s.matrix.now) s.out.now (passed c.in_ok-check_find.ensures.told)

@@ -1,5 +1,6 @@
 -- `write` meets its contract: each test that was passed decides its row. Assumes nothing.
 use mathlib.Core.Path.{◌∙◌}
+use Rattle.std.proofs.lemmas.Result.{err_from_is_err_and}
 use Rattle.refusal.proofs.Numbers.{passed, refused}
 use Rattle.tables.specs.Checks.{arrays}
 use Rattle.murm_config.specs.Told.{told_murm}
@@ -9,15 +10,16 @@ use Rattle.murm.proofs.write.Goals as goal
 pub write_part-requires : goal.write_part-requires
 write_part-requires c =
     let s = c.args in
-    writable (told_murm s.table) (arrays s.fingerprints.now s.parents.now s.codes.now) s.width s.node s.out.now (passed c.check_write.ensures c.in-Passed.is)
+    writable (told_murm s.table) (arrays s.fingerprints.now s.parents.now s.codes.now) s.width s.node s.out.now (passed c.in_ok-check_write.ensures)
 
-pub returns-in-Passed : goal.returns-in-Passed
-returns-in-Passed c =
+pub returns : goal.returns
+returns c =
     let s = c.args in
     c.write_part.ensures
-    ∙ node_written_lem (told_murm s.table) (arrays s.fingerprints.now s.parents.now s.codes.now) s.width s.node s.out.now (passed c.check_write.ensures c.in-Passed.is)
+    ∙ node_written_lem (told_murm s.table) (arrays s.fingerprints.now s.parents.now s.codes.now) s.width s.node s.out.now (passed c.in_ok-check_write.ensures)
 
-pub returns-in-Refused : goal.returns-in-Refused
-returns-in-Refused c =
+pub returns-in_err-check_write : goal.returns-in_err-check_write
+returns-in_err-check_write c =
     let s = c.args in
-    refused_write (told_murm s.table) (arrays s.fingerprints.now s.parents.now s.codes.now) s.width s.node s.out.now (refused c.check_write.ensures c.in-Refused.is)
+    let p = err_from_is_err_and c.from_residual.result c.from_residual.ensures.1 in
+    rw (p.1, p.2) (refused_write (told_murm s.table) (arrays s.fingerprints.now s.parents.now s.codes.now) s.width s.node s.out.now (refused c.in_err-check_write.ensures))

@@ -5,12 +5,14 @@ use Rattle.murm_config.proofs.Asking.{numbered_table}
 use Rattle.murm_limits.proofs.Asking.{later_rows, first_refuses}
 use Rattle.murm_config.proofs.check_write.Goals as goal
 
-pub returns-in-Passed : goal.returns-in-Passed
-returns-in-Passed c =
+pub returns-in_err-check_table : goal.returns-in_err-check_table
+returns-in_err-check_table c =
     let a = c.args in
-    later_rows (table_rows (told_murm a.table) a.prints a.parents a.codes) _ (numbered_table (told_murm a.table) a.prints a.parents a.codes) c.check_table.ensures c.in-Passed.is c.check_node.ensures
+    let t = told_murm a.table in
+    first_refuses (table_rows t a.prints a.parents a.codes) _ (numbered_table t a.prints a.parents a.codes) _ _ c.from_residual.ensures.1 c.in_err-check_table.ensures
 
-pub returns-in-Refused : goal.returns-in-Refused
-returns-in-Refused c =
+pub returns : goal.returns
+returns c =
     let a = c.args in
-    first_refuses (table_rows (told_murm a.table) a.prints a.parents a.codes) _ (numbered_table (told_murm a.table) a.prints a.parents a.codes) c.check_table.ensures c.in-Refused.is
+    let t = told_murm a.table in
+    later_rows (table_rows t a.prints a.parents a.codes) _ (numbered_table t a.prints a.parents a.codes) c.in_ok-check_table.ensures c.check_node.ensures

@@ -4,7 +4,7 @@ use Prim.Native.Nat.{◌+◌, ◌-◌}
 use native.Mathlib.Omega.{arith}
 use mathlib.Core.Path.{◌≡◌}
 use Rattle.synthesis_arena.specs.Limits.{told_limits}
-use Rattle.index.specs.Told.{told_by}
+use Rattle.murm_part.specs.Told.{told_lent}
 use Rattle.murm_part.proofs.Parts.{same_slices}
 use Rattle.murm_part.proofs.find_from.Goals as goal
 
@@ -13,5 +13,5 @@ returns c =
     let a = c.args in
     let e : a.start + a.limits.entries - a.start ≡ a.limits.entries = omega arith in
     let h : a.place + a.size - a.place ≡ a.size = omega arith in
-    same_slices (told_limits a.limits) a.limits.width a.exponent a.matrix.now (told_by a.by) a.start a.limits.entries
-    a.place a.size a.fingerprints.now a.parents.now a.codes.now a.index.now e h c.find_width.ensures
+    same_slices (told_limits a.limits) a.query.width a.query.exponent a.query.matrix.now (told_lent a.lent) a.start a.limits.entries
+    a.place a.size c.requires.width_bound.0 e h c.find_width.ensures

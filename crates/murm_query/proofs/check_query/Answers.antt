@@ -25,18 +25,18 @@ ranged {l} w e = subst (λ (b : Bool). InRange l b) e w
 none_below : {l : List ℤ} {r : Bool} → InRange l r → r ≡ true → any_below l ≡ false
 none_below w e = not-true _ (sym (ranged w e).told)
 
-pub returns-then-width-gt5 : goal.returns-then-width-gt5
-returns-then-width-gt5 c = record { told = ap by_row (query_6 c.args.width c.args.exponent c.args.entries.now c.if-width-gt5.true); small = λ e. absurd (omega (arith, e)) }
+pub returns-then-query-gt5 : goal.returns-then-query-gt5
+returns-then-query-gt5 c = record { told = ap by_row (query_6 c.args.query.width c.args.query.exponent c.args.query.matrix.now c.if-query-gt5.true); small = λ e. absurd (omega (arith, e)) }
 
 pub returns-then-entries-count : goal.returns-then-entries-count
 returns-then-entries-count c = record {
-  told = ap by_row (query_9 c.args.width c.args.exponent c.args.entries.now (omega (arith, c.if-width-gt5.false)) (λ q. c.if-entries-count.true (q ∙ sym (sized _ c.area-count.ensures))));
+  told = ap by_row (query_9 c.args.query.width c.args.query.exponent c.args.query.matrix.now (omega (arith, c.if-query-gt5.false)) (λ q. c.if-entries-count.true (q ∙ sym (sized _ c.area-count.ensures))));
   small = λ e. absurd (omega (arith, e));
 }
 
 pub returns-then-not-in_range : goal.returns-then-not-in_range
 returns-then-not-in_range c = record {
-  told = ap by_row (query_10 c.args.width c.args.exponent c.args.entries.now (omega (arith, c.if-width-gt5.false)) (c.if-entries-count.false ∙ sized _ c.area-count.ensures)
+  told = ap by_row (query_10 c.args.query.width c.args.query.exponent c.args.query.matrix.now (omega (arith, c.if-query-gt5.false)) (c.if-entries-count.false ∙ sized _ c.area-count.ensures)
       (not-false _ (sym c.in_range.ensures.told ∙ c.if-not-in_range.true)));
   small = λ e. absurd (omega (arith, e));
 }
@@ -44,13 +44,13 @@ returns-then-not-in_range c = record {
 pub returns-then-is_divisible : goal.returns-then-is_divisible
 returns-then-is_divisible c =
     record {
-      told = ap by_row (query_11 c.args.width c.args.exponent c.args.entries.now (omega (arith, c.if-width-gt5.false)) (c.if-entries-count.false ∙ sized _ c.area-count.ensures) (none_below c.in_range.ensures c.if-not-in_range.false) (sym c.is_divisible.ensures ∙ c.if-is_divisible.true));
+      told = ap by_row (query_11 c.args.query.width c.args.query.exponent c.args.query.matrix.now (omega (arith, c.if-query-gt5.false)) (c.if-entries-count.false ∙ sized _ c.area-count.ensures) (none_below c.in_range.ensures c.if-not-in_range.false) (sym c.is_divisible.ensures ∙ c.if-is_divisible.true));
       small = λ z. absurd (omega (arith, z));
     }
 
 pub returns : goal.returns
 returns c =
     record {
-      told = ap by_row (query_allowed c.args.width c.args.exponent c.args.entries.now (omega (arith, c.if-width-gt5.false)) (c.if-entries-count.false ∙ sized _ c.area-count.ensures) (none_below c.in_range.ensures c.if-not-in_range.false) (sym c.is_divisible.ensures ∙ c.if-is_divisible.false));
-      small = λ z. coefficients_small _ _ (c.if-entries-count.false ∙ sized _ c.area-count.ensures) ((ranged c.in_range.ensures c.if-not-in_range.false).small refl);
+      told = ap by_row (query_allowed c.args.query.width c.args.query.exponent c.args.query.matrix.now (omega (arith, c.if-query-gt5.false)) (c.if-entries-count.false ∙ sized _ c.area-count.ensures) (none_below c.in_range.ensures c.if-not-in_range.false) (sym c.is_divisible.ensures ∙ c.if-is_divisible.false));
+      small = λ z. coefficients_small c.args.query.width c.args.query.matrix.now (c.if-entries-count.false ∙ sized _ c.area-count.ensures) ((ranged c.in_range.ensures c.if-not-in_range.false).small refl);
     }

@@ -8,16 +8,16 @@ use Rattle.murm_query.proofs.Least.{least_none, least_taken, least_kept}
 use Rattle.murm_query.proofs.in_range.Goals as goal
 use Rattle.murm_query.proofs.in_range.Goals.{then-x-least, else-x-least}
 
-pub loop-i-init : goal.loop-i-init
-loop-i-init c = least_none _
+pub loop-x-init : goal.loop-x-init
+loop-x-init c = least_none _
 
-pub loop-i-preserved : goal.loop-i-preserved
-loop-i-preserved c =
-    let l = c.loop-i in
-    let x = get_or c.args.entries.now l.i (pos 0) in
+pub loop-x-preserved : goal.loop-x-preserved
+loop-x-preserved c =
+    let l = c.loop-x in
+    let x = get_or c.args.entries.now l.x-index (pos 0) in
     let f : SFits near x = search rules in
     let same : to_z near (of_z near x) ≡ x = to_z-of_z f in
     elim c.if-x-least.branch [
-      | then-x-least w ↦ rw (w.least-is, same) (least_taken l.invariant c.loop-i-test.true f (rw same at w.if-x-least.true))
-      | else-x-least w ↦ rw w.least-is (least_kept l.invariant c.loop-i-test.true f (rw same at w.if-x-least.false))
+      | then-x-least w ↦ rw (w.least-is, same) (least_taken l.invariant c.loop-x-test.true f (rw same at w.if-x-least.true))
+      | else-x-least w ↦ rw w.least-is (least_kept l.invariant c.loop-x-test.true f (rw same at w.if-x-least.false))
     ]

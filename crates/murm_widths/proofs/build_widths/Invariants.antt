@@ -1,5 +1,5 @@
 -- `build_widths` meets its contract: widths 1 to v are built, for v from 0 to Q. Assumes nothing.
-use Prim.Native.Nat.{ℕ, ◌≤◌, ◌-◌}
+use Prim.Native.Nat.{ℕ}
 use mathlib.Core.Path.{◌≡◌}
 use mathlib.Core.List.{List}
 use lib.ListN.{length}
@@ -30,9 +30,6 @@ module _ (mode : Mode) (l : Limits) where
 
 abbrev pub invariant-loop-v : goal.invariant-loop-v
 invariant-loop-v l =
-    (l.v ≤ l.q) × (told_murm l.table ≡ record_to (told_mode l.how) (told_config l.limits) l.v) × Done (prints (told_mode l.how) (told_config l.limits)) l.limits.max_entries_per_qubit l.v l.initial.fingerprints l.fingerprints
-    × Done (parents (told_mode l.how) (told_config l.limits)) l.limits.max_entries_per_qubit l.v l.initial.parents l.parents × Done (codes (told_mode l.how) (told_config l.limits)) l.limits.max_entries_per_qubit l.v l.initial.codes l.codes
-    × Done (places (told_mode l.how) (told_config l.limits) (told_by l.lookup)) l.size l.v l.initial.index l.index
-
-abbrev pub decreases-loop-v : goal.decreases-loop-v
-decreases-loop-v l = l.q - l.v
+    (told_murm l.table ≡ record_to (told_mode l.mode) (told_config l.config) l.v) × Done (prints (told_mode l.mode) (told_config l.config)) l.config.max_entries_per_qubit l.v l.initial.fingerprints l.fingerprints
+    × Done (parents (told_mode l.mode) (told_config l.config)) l.config.max_entries_per_qubit l.v l.initial.parents l.parents × Done (codes (told_mode l.mode) (told_config l.config)) l.config.max_entries_per_qubit l.v l.initial.codes l.codes
+    × Done (places (told_mode l.mode) (told_config l.config) (told_by l.by)) l.size l.v l.initial.index l.index

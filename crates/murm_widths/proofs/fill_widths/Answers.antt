@@ -16,7 +16,7 @@ pub nonzero_div-size : goal.nonzero_div-size
 nonzero_div-size c = (record_limits (told_murm c.args.table) c.requires.record).some_width
 
 pub loop-v-init : goal.loop-v-init
-loop-v-init c = (omega arith, done_none _ _ _)
+loop-v-init c = done_none _ _ _
 
 pub fill_part-requires-clause-bounds : goal.fill_part-requires-clause-bounds
 fill_part-requires-clause-bounds c =
@@ -29,17 +29,15 @@ loop-v-preserved c =
     let t = told_murm s.args.table in
     let u = c.loop-v in
     let p = c.fill_part in
-    let before : u.v + 1 - 1 ≡ u.v = omega arith in (
-      omega (arith, c.loop-v-test.true),
-      done_more (places t s.args.fingerprints.now) _ u.v _ _ _
-          (ap (λ (k : ℕ). kept indexed (take t.limits.entries (drop (k * t.limits.entries) s.args.fingerprints.now)) c.count_at-count.result) (sym before)
-          ∙ ap (λ (k : ℕ). kept indexed (part_of (u.v + 1) t.limits.entries s.args.fingerprints.now) k) c.count_at-count.ensures)
-          p.auto.index p.ensures.filled u.invariant.1,
-    )
+    let before : u.v + 1 - 1 ≡ u.v = omega arith in
+    done_more (places t s.args.fingerprints.now) _ u.v _ _ _
+    (ap (λ (k : ℕ). kept indexed (take t.limits.entries (drop (k * t.limits.entries) s.args.fingerprints.now)) c.count_at-count.result) (sym before)
+    ∙ ap (λ (k : ℕ). kept indexed (part_of (u.v + 1) t.limits.entries s.args.fingerprints.now) k) c.count_at-count.ensures)
+    p.auto.index p.ensures.filled u.invariant
 
 pub returns : goal.returns
 unfolding filled_index
 returns c =
     let u = c.loop-v in
     let f : u.v ≡ (told_murm c.args.table).limits.qubits = omega arith in
-    record { index = done_all _ _ _ _ _ _ f u.invariant.1 }
+    record { index = done_all _ _ _ _ _ _ f u.invariant }

@@ -10,12 +10,12 @@ whole : (n size : ℕ) → n ≤ 5 → size ≡ places → 4 * (2 ^ n * 2 ^ n) �
 whole n size h e = omega (arith, area_le n h)
 
 pub equivalent_up_to_global_phase-requires-clause-n_in_bounds : goal.equivalent_up_to_global_phase-requires-clause-n_in_bounds
-equivalent_up_to_global_phase-requires-clause-n_in_bounds c = (whole _ _ c.requires.n_bound c.in-Fits.ensures.ended.end.long, c.requires.asked_places.0)
+equivalent_up_to_global_phase-requires-clause-n_in_bounds c = (whole _ _ c.requires.n_bound c.in-Ok.ensures.ended.end.long, c.requires.asked_places.0)
 
-pub returns-in-Fits-clause-passes : goal.returns-in-Fits-clause-passes
-returns-in-Fits-clause-passes c =
-    let w = c.in-Fits.ensures.ended in
+pub returns-in-Ok : goal.returns-in-Ok
+returns-in-Ok c =
+    let w = c.in-Ok.ensures.ended in
     recheck_test _ _ _ _ w.answer w.end c.equivalent_up_to_global_phase.ensures
 
-pub returns-in-UnfitAt-clause-passes : goal.returns-in-UnfitAt-clause-passes
-returns-in-UnfitAt-clause-passes c = recheck_unfit _ _ _ c.in-UnfitAt.ensures.ended.answer
+pub returns-in-Err : goal.returns-in-Err
+returns-in-Err c = recheck_unfit _ _ _ c.in-Err.ensures.ended.answer

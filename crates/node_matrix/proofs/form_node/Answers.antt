@@ -14,22 +14,22 @@ copy_matrix-requires-clause-room c =
 
 pub apply_gates-requires-clause-codes_value : goal.apply_gates-requires-clause-codes_value
 apply_gates-requires-clause-codes_value c =
-    read_valid c.requires.readable (circuit_read _ _ _ _ _ _ _ _ c.circuit.ensures.written c.in-Length.is)
+    read_valid c.requires.readable (circuit_read _ _ _ _ _ _ _ _ c.circuit.ensures.written c.in-Ok.is)
 
 pub apply_gates-requires-clause-holds : goal.apply_gates-requires-clause-holds
 apply_gates-requires-clause-holds c =
     copied_holds _ c.copy_matrix.ensures.copied _ c.requires.long c.requires.identity
 
-pub returns-in-Fits : goal.returns-in-Fits
-returns-in-Fits c = record {
+pub returns-in-Ok-apply_gates : goal.returns-in-Ok-apply_gates
+returns-in-Ok-apply_gates c = record {
   formed = λ h.
-      let r = circuit_read _ _ _ _ _ _ _ _ c.circuit.ensures.written c.in-Length.is in
-      read_fits h r (ended_at c.in-Fits.is c.apply_gates.ensures.ended);
+      let r = circuit_read _ _ _ _ _ _ _ _ c.circuit.ensures.written c.in-Ok.is in
+      read_fits h r (ended_at c.in-Ok-apply_gates.is c.apply_gates.ensures.ended);
 }
 
-pub returns-in-UnfitAt : goal.returns-in-UnfitAt
-returns-in-UnfitAt c = record {
+pub returns-in-Err : goal.returns-in-Err
+returns-in-Err c = record {
   formed = λ h.
-      let r = circuit_read _ _ _ _ _ _ _ _ c.circuit.ensures.written c.in-Length.is in
-      absurd (read_not_unfit h r (ended_at c.in-UnfitAt.is c.apply_gates.ensures.ended));
+      let r = circuit_read _ _ _ _ _ _ _ _ c.circuit.ensures.written c.in-Ok.is in
+      absurd (read_not_unfit h r (ended_at c.in-Err.is c.apply_gates.ensures.ended));
 }

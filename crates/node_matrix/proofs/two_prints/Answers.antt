@@ -13,7 +13,7 @@ unitary_fingerprint-requires-clause-n_in_bounds c = omega (arith, area_le _ c.re
 
 pub returns-in_default-apply_to_copy-clause-first : goal.returns-in_default-apply_to_copy-clause-first
 returns-in_default-apply_to_copy-clause-first c =
-    formed_print _ _ _ _ (copy_done _ _ _ _ c.in-Done.is c.apply_to_copy.ensures.applied) c.unitary_fingerprint.ensures
+    formed_print _ _ _ _ (copy_done _ _ _ _ c.in-Some.is c.apply_to_copy.ensures.applied) c.unitary_fingerprint.ensures
 
 pub returns-in_default-apply_to_copy-clause-second : goal.returns-in_default-apply_to_copy-clause-second
 returns-in_default-apply_to_copy-clause-second c =
@@ -27,8 +27,8 @@ pair_fingerprints-both-requires-clause-n_in_bounds c = (
 
 pub returns-clause-first : goal.returns-clause-first
 returns-clause-first c =
-    formed_print _ _ _ _ (copy_done _ _ _ _ c.in-Done.is c.apply_to_copy.ensures.applied) c.pair_fingerprints-both.ensures.left
+    formed_print _ _ _ _ (copy_done _ _ _ _ c.in-Some.is c.apply_to_copy.ensures.applied) c.pair_fingerprints-both.ensures.left
 
 pub returns-clause-second : goal.returns-clause-second
 returns-clause-second c =
-    formed_print _ _ _ _ (copy_done _ _ _ _ c.in-Done-apply_to_copy.is c.apply_to_copy-2.ensures.applied) c.pair_fingerprints-both.ensures.right
+    formed_print _ _ _ _ (copy_done _ _ _ _ c.in-Some-apply_to_copy.is c.apply_to_copy-2.ensures.applied) c.pair_fingerprints-both.ensures.right

@@ -1,5 +1,5 @@
 -- `pair_fingerprints` meets its contract: before each round the words of the entries passed are mixed into each
--- matrix's own streams. The measure is how many entries are left. Assumes nothing.
+-- matrix's own streams. Assumes nothing.
 use mathlib.Core.Path.{◌≡◌, ap, ◌∙◌}
 use Prim.Native.Nat.{◌*◌, ◌^◌, ◌<◌}
 use native.Mathlib.Nat.{lt_of_le_of_lt}
@@ -30,9 +30,8 @@ pub loop-e-preserved : goal.loop-e-preserved
 loop-e-preserved c =
     let l = c.loop-e in
     let m = c.mix_eights-both.ensures in (
-      omega (arith, c.loop-e-test.true),
-      eight_last _ _ l.e c.turn_places-u.ensures (c.eight-x.ensures ∙ ap eight_of c.get.ensures) l.invariant.1 m.left,
-      eight_last _ _ l.e c.turn_places-v.ensures (c.eight-y.ensures ∙ ap eight_of c.get-in-loop-e.ensures) l.invariant.2 m.right,
+      eight_last _ _ l.e c.turn_places-u.ensures (c.eight-x.ensures ∙ ap eight_of c.get.ensures) l.invariant.0 m.left,
+      eight_last _ _ l.e c.turn_places-v.ensures (c.eight-y.ensures ∙ ap eight_of c.get-in-loop-e.ensures) l.invariant.1 m.right,
     )
 
 -- once the loop has ended, all entries of each matrix are in its streams, turned by its own phase
@@ -42,7 +41,7 @@ returns-clause-left c =
     let ended : c.loop-e.e ≡ 2 ^ s.n * 2 ^ s.n = omega (arith, c.loop-e-test.false, c.area-size.ensures) in
     let own = phase_of_lem _ _ _ _ c.least_power-p.ensures c.pivot.ensures.entry in
     let all : fold (streams c.loop-e.s) ≡ fingerprint s.n (held s.n s.j s.left.now) =
-    rw (c.loop-e.invariant.1, c.head-s.ensures, ended) (print_is s.n s.j _ _ (lt_of_le_of_lt c.requires.n_bound (lit< tt)) (omega arith) own) in
+    rw (c.loop-e.invariant.0, c.head-s.ensures, ended) (print_is s.n s.j _ _ (lt_of_le_of_lt c.requires.n_bound (lit< tt)) (omega arith) own) in
     c.fold.ensures ∙ all
 
 pub returns-clause-right : goal.returns-clause-right
@@ -51,5 +50,5 @@ returns-clause-right c =
     let ended : c.loop-e.e ≡ 2 ^ s.n * 2 ^ s.n = omega (arith, c.loop-e-test.false, c.area-size.ensures) in
     let own = phase_of_lem _ _ _ _ c.least_power-q.ensures c.pivot-2.ensures.entry in
     let all : fold (streams c.loop-e.t) ≡ fingerprint s.n (held s.n s.k s.right.now) =
-    rw (c.loop-e.invariant.2, c.head-t.ensures, ended) (print_is s.n s.k _ _ (lt_of_le_of_lt c.requires.n_bound (lit< tt)) (omega arith) own) in
+    rw (c.loop-e.invariant.1, c.head-t.ensures, ended) (print_is s.n s.k _ _ (lt_of_le_of_lt c.requires.n_bound (lit< tt)) (omega arith) own) in
     c.fold-2.ensures ∙ all

@@ -1,7 +1,6 @@
 -- `pair_fingerprints` meets its contract: before each round the words of the entries passed are mixed into each
--- matrix's own streams. The measure is how many entries are left. Assumes nothing.
+-- matrix's own streams. Assumes nothing.
 use mathlib.Core.Path.{◌≡◌}
-use Prim.Native.Nat.{◌≤◌, ◌-◌}
 use Rattle.cyclotomic.specs.Zomega.{turn}
 use Rattle.exact.specs.Fingerprint.{mix_all, words_of}
 use Rattle.exact.specs.Places.{entry}
@@ -10,8 +9,5 @@ use Rattle.pair_prints.proofs.pair_fingerprints.Given as goal
 
 abbrev pub invariant-loop-e : goal.invariant-loop-e
 invariant-loop-e l =
-    (l.e ≤ l.size) × (streams l.s ≡ mix_all (streams l.initial.s) (words_of l.e (λ i. turn l.p (entry l.left i))))
+    (streams l.s ≡ mix_all (streams l.initial.s) (words_of l.e (λ i. turn l.p (entry l.left i))))
     × (streams l.t ≡ mix_all (streams l.initial.t) (words_of l.e (λ i. turn l.q (entry l.right i))))
-
-abbrev pub decreases-loop-e : goal.decreases-loop-e
-decreases-loop-e l = l.size - l.e

@@ -1,10 +1,10 @@
--- `turn_places` meets its contract: after i single turns the places are those of the turn by i. Assumes nothing.
-use native.Mathlib.Omega.{arith}
+-- `turn_places` meets its contract: after as many single turns as are counted the places are those of the turn by that
+-- count. Assumes nothing.
 use Rattle.place_turns.proofs.Eights.{places_none, places_more}
 use Rattle.place_turns.proofs.turn_places.Goals as goal
 
-pub loop-made-init : goal.loop-made-init
-loop-made-init c = (omega arith, places_none)
+pub loop-init : goal.loop-init
+loop-init c = places_none
 
-pub loop-made-preserved : goal.loop-made-preserved
-loop-made-preserved c = (omega (arith, c.loop-made-test.true), places_more c.loop-made.invariant.1 c.turned-t.ensures)
+pub loop-preserved : goal.loop-preserved
+loop-preserved c = places_more c.loop.invariant c.turned-t.ensures

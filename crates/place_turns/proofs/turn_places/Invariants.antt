@@ -1,10 +1,7 @@
--- `turn_places` meets its contract: after i single turns the places are those of the turn by i. Assumes nothing.
-use Prim.Native.Nat.{◌-◌, ◌≤◌}
+-- `turn_places` meets its contract: after as many single turns as are counted the places are those of the turn by that
+-- count. Assumes nothing.
 use Rattle.place_turns.specs.Eights.{PlacesOf}
 use Rattle.place_turns.proofs.turn_places.Given as goal
 
-abbrev pub invariant-loop-made : goal.invariant-loop-made
-invariant-loop-made l = (l.made ≤ l.power) × PlacesOf l.made l.t
-
-abbrev pub decreases-loop-made : goal.decreases-loop-made
-decreases-loop-made l = l.power - l.made
+abbrev pub invariant-loop : goal.invariant-loop
+invariant-loop l = PlacesOf l.counter l.t

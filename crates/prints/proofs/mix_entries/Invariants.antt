@@ -1,6 +1,5 @@
--- `mix_entries` meets its contract: before each turn the words of the entries passed are mixed in. The measure is how
--- many entries are left.
-use Rattle.std.proofs.Common.{◌≡◌, ◌-◌, ◌≤◌}
+-- `mix_entries` meets its contract: before each turn the words of the entries passed are mixed in.
+use Rattle.std.proofs.Common.{◌≡◌}
 use Rattle.cyclotomic.specs.Zomega.{turn}
 use Rattle.exact.specs.Fingerprint.{mix_all, words_of}
 use Rattle.exact.specs.Places.{entry}
@@ -8,7 +7,4 @@ use Rattle.prints.specs.Prints.{streams}
 use Rattle.prints.proofs.mix_entries.Given as goal
 
 abbrev pub invariant-loop-e : goal.invariant-loop-e
-invariant-loop-e l = (l.e ≤ l.size) × (streams l.t ≡ mix_all (streams l.initial.t) (words_of l.e (λ i. turn l.power (entry l.m i))))
-
-abbrev pub decreases-loop-e : goal.decreases-loop-e
-decreases-loop-e l = l.size - l.e
+invariant-loop-e l = streams l.t ≡ mix_all (streams l.initial.t) (words_of l.e (λ i. turn l.power (entry l.m i)))

@@ -14,12 +14,10 @@ pub loop-i-preserved : goal.loop-i-preserved
 loop-i-preserved c =
     let m = c.loop-i.m in
     let i = c.loop-i.i in
-    let w = c.loop-i.invariant.1 in
+    let w = c.loop-i.invariant in
     let b = c.requires.len_bound in
     let x : to_z near (of_z near (at m (c.args.p + i))) ≡ at m (c.args.p + i) = search rules in
-    let y : to_z near (of_z near (at m (c.args.q + i))) ≡ at m (c.args.q + i) = search rules in (
-      omega arith,
-      exchanged_more _ _ _ i c.args.len w b.0 (omega (arith, c.requires.m_len)) c.loop-i-test.true
-          (y ∙ still_high _ _ _ i c.args.len w b.0 c.loop-i-test.true)
-          (x ∙ still_low _ _ _ i c.args.len w b.0 c.loop-i-test.true) refl,
-    )
+    let y : to_z near (of_z near (at m (c.args.q + i))) ≡ at m (c.args.q + i) = search rules in
+    exchanged_more _ _ _ i c.args.len w b.0 (omega (arith, c.told-m)) c.loop-i-test.true
+    (y ∙ still_high _ _ _ i c.args.len w b.0 c.loop-i-test.true)
+    (x ∙ still_low _ _ _ i c.args.len w b.0 c.loop-i-test.true) refl

@@ -24,11 +24,11 @@ overflow_mul-r-4 c =
     let w = pair_fits _ _ _ _ _ b.0 b.1 c.requires.r_bound c.dim-d.ensures c.mask-bit.ensures c.if-r-bit.false in
     omega (arith, w)
 
-pub exchange_places-requires-clause-len_bound : goal.exchange_places-requires-clause-len_bound
-exchange_places-requires-clause-len_bound c =
+pub exchange_places-requires : goal.exchange_places-requires
+exchange_places-requires c =
     let b = c.requires.n_bound in
     let w = pair_fits _ _ _ _ _ b.0 b.1 c.requires.r_bound c.dim-d.ensures c.mask-bit.ensures c.if-r-bit.false in
-    (omega (arith, w), omega (arith, w))
+    record { len_bound = (omega (arith, w), omega (arith, w)) }
 
 pub returns : goal.returns
 returns c =

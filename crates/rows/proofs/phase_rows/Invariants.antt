@@ -1,11 +1,7 @@
 -- `phase_rows` meets its contract: rows passed are turned where they have the bits, and all other rows are as they
 -- were. Assumes nothing.
-use Prim.Native.Nat.{◌-◌}
 use Rattle.rows.proofs.PhaseSweeps.{Phased}
 use Rattle.rows.proofs.phase_rows.Given as goal
 
 abbrev pub invariant-loop-r : goal.invariant-loop-r
 invariant-loop-r l = Phased l.n l.mask l.power l.initial.m l.m l.r
-
-abbrev pub decreases-loop-r : goal.decreases-loop-r
-decreases-loop-r l = l.d - l.r

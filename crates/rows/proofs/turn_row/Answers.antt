@@ -8,9 +8,7 @@ use Rattle.rows.proofs.turn_row.Goals as goal
 pub loop-i-preserved : goal.loop-i-preserved
 loop-i-preserved c =
     let i = c.loop-i in
-    let r = c.get-z.ensures ∙ turned_next _ _ _ _ i.invariant.1 in (
-      omega arith,
-      turned_more _ _ _ i.i i.invariant.1 c.requires.m_len (omega (arith, c.requires.c_bound))
-          (c.times_omega.ensures ∙ ap (turn c.args.power) r)
-          c.put_at.ensures,
-    )
+    let r = c.get-z.ensures ∙ turned_next _ _ _ _ i.invariant in
+    turned_more _ _ _ i.i i.invariant c.told-m (omega (arith, c.requires.c_bound))
+    (c.times_omega.ensures ∙ ap (turn c.args.power) r)
+    c.put_at.ensures

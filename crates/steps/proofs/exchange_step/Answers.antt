@@ -6,4 +6,4 @@ use Rattle.steps.proofs.exchange_step.Goals as goal
 pub returns : goal.returns
 returns c =
     let w = c.apply_controlled_x_left.ensures in
-    record { by = exchange_stepped _ _ _ _ c.requires.ready _ _ (omega arith) w.sized w.exchanged w.kept }
+    record { by = exchange_stepped _ _ _ _ c.requires.ready _ _ (omega arith) c.apply_controlled_x_left.array_long w.exchanged w.kept }

@@ -6,4 +6,4 @@ use Rattle.steps.proofs.phase_step.Goals as goal
 pub returns : goal.returns
 returns c =
     let w = c.apply_phase_left.ensures in
-    record { by = phase_stepped _ _ _ _ c.requires.ready _ _ (omega arith) w.sized w.turned w.kept }
+    record { by = phase_stepped _ _ _ _ c.requires.ready _ _ (omega arith) c.apply_phase_left.array_long w.turned w.kept }

@@ -9,4 +9,4 @@ returns c =
     let g = c.apply_controlled_x_left-2.ensures in
     let h = c.apply_controlled_x_left-3.ensures in
     swap_stepped (omega arith) c.requires.ready _ _ _ c.mask-bit_s.ensures c.mask-bit_t.ensures
-    (f.sized, (f.exchanged, f.kept)) (g.sized, (g.exchanged, g.kept)) (h.sized, (h.exchanged, h.kept))
+    (c.apply_controlled_x_left.array_long, (f.exchanged, f.kept)) (c.apply_controlled_x_left-2.array_long, (g.exchanged, g.kept)) (c.apply_controlled_x_left-3.array_long, (h.exchanged, h.kept))

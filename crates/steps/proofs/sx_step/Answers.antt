@@ -19,24 +19,24 @@ rest h = ((h, tt), (h, tt, tt))
 pub apply_phase_left-requires-clause-all_small : goal.apply_phase_left-requires-clause-all_small
 apply_phase_left-requires-clause-all_small c =
     let p = last c.requires.n_bound.1 in
-    (ready_next (c.in-Done.ensures.by [] mask_none p)).small
+    (ready_next (c.in_ok-j.ensures.by [] mask_none p)).small
 
-pub ch_step-requires-in-Done-clause-ready : goal.ch_step-requires-in-Done-clause-ready
-ch_step-requires-in-Done-clause-ready c =
+pub ch_step-requires-2-clause-ready : goal.ch_step-requires-2-clause-ready
+ch_step-requires-2-clause-ready c =
     let p = last c.requires.n_bound.1 in
     let f = c.apply_phase_left.ensures in
-    ready_next (turned_one (omega arith) (ready_next (c.in-Done.ensures.by [] mask_none p)) _ _ c.mask-target.ensures (f.sized, (f.turned, f.kept)))
+    ready_next (turned_one (omega arith) (ready_next (c.in_ok-j.ensures.by [] mask_none p)) _ _ c.mask-target.ensures (c.apply_phase_left.array_long, (f.turned, f.kept)))
 
-pub returns-in-DoesNotFit : goal.returns-in-DoesNotFit
-returns-in-DoesNotFit c =
+pub returns-in_err-j : goal.returns-in_err-j
+returns-in_err-j c =
     let b = c.requires.n_bound.1 in
-    stepped_unfit _ _ _ _ _ (rest b) (c.in-DoesNotFit.ensures.by [] mask_none (last b))
+    rw c.from_residual.ensures (stepped_unfit _ _ _ _ _ (rest b) (c.in_err-j.ensures.by [] mask_none (last b)))
 
-pub returns-in-Done : goal.returns-in-Done
-returns-in-Done c =
+pub returns : goal.returns
+returns c =
     let b = c.requires.n_bound.1 in
-    let one = c.in-Done.ensures.by [] mask_none (last b) in
+    let one = c.in_ok-j.ensures.by [] mask_none (last b) in
     let f = c.apply_phase_left.ensures in
     stepped_then _ _ _ _ _ (rest b) _ one
-    (stepped_then _ _ _ _ _ (last b) _ (turned_one (omega arith) (ready_next one) 2 _ c.mask-target.ensures (f.sized, (f.turned, f.kept)))
-    (c.ch_step-in-Done.ensures.by [] mask_none (last b)))
+    (stepped_then _ _ _ _ _ (last b) _ (turned_one (omega arith) (ready_next one) 2 _ c.mask-target.ensures (c.apply_phase_left.array_long, (f.turned, f.kept)))
+    (c.ch_step-2.ensures.by [] mask_none (last b)))

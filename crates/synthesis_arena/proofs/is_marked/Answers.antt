@@ -5,8 +5,8 @@ use Rattle.synthesis_arena.proofs.is_marked.Goals as goal
 
 pub returns-then-parents : goal.returns-then-parents
 unfolding marked
-returns-then-parents c = record { marked = rw (ne_eqb _ _ c.if-parents.true) }
+returns-then-parents c = record { marked = rw (eq-eqb _ _ c.if-parents.true) }
 
-pub returns : goal.returns
+pub returns-else-parents : goal.returns-else-parents
 unfolding marked
-returns c = record { marked = rw (eq-eqb _ _ c.if-parents.false) }
+returns-else-parents c = record { marked = rw (ne_eqb _ _ c.if-parents.false) }

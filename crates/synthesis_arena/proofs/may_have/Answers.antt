@@ -1,5 +1,5 @@
--- `may_have` meets its contract: node by node, whether one that was passed has the fingerprint. The measure is how many
--- nodes are left. Assumes nothing.
+-- `may_have` meets its contract: node by node, whether one that was passed has the fingerprint.
+-- Assumes nothing.
 use Rattle.walk.proofs.Lookups.{passed_more}
 use Rattle.synthesis_arena.proofs.may_have.Goals as goal
 

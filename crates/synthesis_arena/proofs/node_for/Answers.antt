@@ -1,5 +1,5 @@
--- `node_for` meets its contract: the look-up from the node reached is the look-up from the start. The measure is how
--- many nodes are left. Assumes nothing.
+-- `node_for` meets its contract: the look-up from the node reached is the look-up from the start.
+-- Assumes nothing.
 use mathlib.Core.Path.{sym, ◌∙◌}
 use Rattle.std.proofs.Common.{arith}
 use Rattle.walk.proofs.Lookups.{lookup_here, lookup_on, lookup_end}

@@ -1,7 +1,6 @@
 -- `try_gates` meets its contract. The invariant: the arrays hold some nodes, from which the gates that are left give
 -- what all generators give. Assumes nothing.
 use mathlib.Core.Path.{◌≡◌}
-use Prim.Native.Nat.{◌-◌, ◌≤◌}
 use lib.ListN.{length}
 use Rattle.generators.specs.Generators.{generators}
 use Rattle.places.specs.Places.{places}
@@ -15,12 +14,8 @@ use Rattle.tried_gates.proofs.try_gates.Given as goal
 
 abbrev pub invariant-loop-j : goal.invariant-loop-j
 invariant-loop-j l =
-    (l.j ≤ length l.gates)
-    × ((w : NodeFormed (told_mode l.how) (told_by l.lookup) l.l l.count l.node l.exponent l.initial.fingerprints l.initial.parents l.initial.codes l.initial.index l.m)
-    → NodeRun (told_mode l.how) (told_by l.lookup) l.l l.node w.live.d w.live.f0 w.live.u0 w.live.c0 w.live.i0 w.live.ns
-    (try_all (rules (told_mode l.how) l.l) l.l.entries (unsaturated w.live.ns) l.node (generators l.l.width l.l.basis)) l.gates l.j l.fingerprints l.parents l.codes l.index l.n)
+    ((w : NodeFormed (told_mode l.mode) (told_by l.by) l.limits l.count l.node l.exponent l.initial.fingerprints l.initial.parents l.initial.codes l.initial.index l.m)
+    → NodeRun (told_mode l.mode) (told_by l.by) l.limits l.node w.live.d w.live.f0 w.live.u0 w.live.c0 w.live.i0 w.live.ns
+    (try_all (rules (told_mode l.mode) l.limits) l.limits.entries (unsaturated w.live.ns) l.node (generators l.limits.width l.limits.basis)) l.gates l.j l.fingerprints l.parents l.codes l.index l.n)
     × (length l.fingerprints ≡ length l.initial.fingerprints) × (length l.parents ≡ length l.initial.parents) × (length l.codes ≡ length l.initial.codes)
     × (length l.index ≡ length l.initial.index) × (length l.left ≡ places) × (length l.right ≡ places)
-
-abbrev pub decreases-loop-j : goal.decreases-loop-j
-decreases-loop-j l = length l.gates - l.j

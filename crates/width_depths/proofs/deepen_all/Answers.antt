@@ -6,22 +6,22 @@ use Rattle.width_depths.proofs.DepthLoop.{depth_run_start, depth_run_live, depth
 use Rattle.width_depths.proofs.deepen_all.Goals as goal
 
 pub loop-d-init : goal.loop-d-init
-loop-d-init c = (omega arith, λ h. depth_run_start h, refl, refl, refl, refl)
+loop-d-init c = (λ h. depth_run_start h, refl, refl, refl, refl)
 
 pub deepen-t-requires-clause-bounds : goal.deepen-t-requires-clause-bounds
 deepen-t-requires-clause-bounds c =
     let p = c.requires in
-    (p.bounds.0, omega (arith, (c.loop-d.invariant.1 p.start).order), p.bounds.2, p.bounds.1)
+    (p.bounds.0, omega (arith, (c.loop-d.invariant.0 p.start).order), p.bounds.2, p.bounds.1)
 
 pub deepen-t-requires-clause-live : goal.deepen-t-requires-clause-live
 deepen-t-requires-clause-live c =
     let p = c.requires in
-    depth_run_live _ _ _ _ _ _ _ _ (c.loop-d.invariant.1 p.start) (omega (arith, c.loop-d-test.true)) p.start.long
+    depth_run_live _ _ _ _ _ _ _ _ (c.loop-d.invariant.0 p.start) (omega (arith, c.loop-d-test.true)) p.start.long
 
 pub returns-then-t : goal.returns-then-t
 returns-then-t c = record {
   deepened = λ h.
-      let r = c.loop-d.invariant.1 h in
+      let r = c.loop-d.invariant.0 h in
       let t = c.loop-d-test.true in
       depth_run_full _ _ _ _ _ _ _ _ r t (c.deepen-t.ensures.tried (depth_run_live _ _ _ _ _ _ _ _ r (omega (arith, t)) h.long)) c.if-t.true;
 }
@@ -29,7 +29,7 @@ returns-then-t c = record {
 pub returns-then-t-n : goal.returns-then-t-n
 returns-then-t-n c = record {
   deepened = λ h.
-      let r = c.loop-d.invariant.1 h in
+      let r = c.loop-d.invariant.0 h in
       let t = c.loop-d-test.true in
       depth_run_none _ _ _ _ _ _ _ _ r t (c.deepen-t.ensures.tried (depth_run_live _ _ _ _ _ _ _ _ r (omega (arith, t)) h.long)) c.if-t.false c.if-t-n.true;
 }
@@ -39,16 +39,15 @@ loop-d-preserved c =
     let l = c.loop-d in
     let t = c.deepen-t in
     let u = c.loop-d-test.true in (
-      omega (arith, u),
-      λ h. let r = l.invariant.1 h in
+      λ h. let r = l.invariant.0 h in
           depth_run_next _ _ _ _ _ _ _ _ r u (t.ensures.tried (depth_run_live _ _ _ _ _ _ _ _ r (omega (arith, u)) h.long)) c.if-t.false c.if-t-n.false,
-      t.auto.fingerprints ∙ l.invariant.2,
-      t.auto.parents ∙ l.invariant.3,
-      t.auto.codes ∙ l.invariant.4,
-      t.auto.index ∙ l.invariant.5,
+      t.auto.fingerprints ∙ l.invariant.1,
+      t.auto.parents ∙ l.invariant.2,
+      t.auto.codes ∙ l.invariant.3,
+      t.auto.index ∙ l.invariant.4,
     )
 
 pub returns : goal.returns
 returns c = record {
-  deepened = λ h. depth_run_end _ _ _ _ _ _ _ _ (c.loop-d.invariant.1 h) c.loop-d-test.false;
+  deepened = λ h. depth_run_end _ _ _ _ _ _ _ _ (c.loop-d.invariant.0 h) (omega arith);
 }

@@ -1,7 +1,6 @@
 -- `deepen_all` meets its contract. The invariant: the arrays hold some nodes, from which the depths that are left give
 -- what all give. Assumes nothing.
 use mathlib.Core.Path.{◌≡◌}
-use Prim.Native.Nat.{◌-◌, ◌≤◌}
 use lib.ListN.{length}
 use Rattle.walk.specs.Walk.{begin, depths}
 use Rattle.index.specs.Told.{told_by}
@@ -13,10 +12,6 @@ use Rattle.width_depths.proofs.deepen_all.Given as goal
 
 abbrev pub invariant-loop-d : goal.invariant-loop-d
 invariant-loop-d l =
-    (l.d ≤ l.limit)
-    × ((h : Start (told_by l.lookup) l.l l.initial.fingerprints l.initial.parents l.initial.codes l.initial.index)
-    → DepthRun (told_mode l.how) (told_by l.lookup) l.l h.f0 h.u0 h.c0 h.i0 (depths (rules (told_mode l.how) l.l) l.l.entries begin l.l.gates) l.first l.d l.fingerprints l.parents l.codes l.index l.n)
+    ((h : Start (told_by l.by) l.limits l.initial.fingerprints l.initial.parents l.initial.codes l.initial.index)
+    → DepthRun (told_mode l.mode) (told_by l.by) l.limits h.f0 h.u0 h.c0 h.i0 (depths (rules (told_mode l.mode) l.limits) l.limits.entries begin l.limits.gates) l.first l.d l.fingerprints l.parents l.codes l.index l.n)
     × (length l.fingerprints ≡ length l.initial.fingerprints) × (length l.parents ≡ length l.initial.parents) × (length l.codes ≡ length l.initial.codes) × (length l.index ≡ length l.initial.index)
-
-abbrev pub decreases-loop-d : goal.decreases-loop-d
-decreases-loop-d l = l.limit - l.d

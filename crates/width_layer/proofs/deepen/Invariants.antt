@@ -1,7 +1,7 @@
 -- `deepen` meets its contract. The invariant: the arrays hold some nodes, from which the nodes that are left to be
 -- tried give what all give. Assumes nothing.
 use mathlib.Core.Path.{◌≡◌}
-use Prim.Native.Nat.{◌-◌, ◌≤◌}
+use Prim.Native.Nat.{◌-◌}
 use lib.ListN.{length}
 use Rattle.walk.specs.Walk.{layer}
 use Rattle.index.specs.Told.{told_by}
@@ -13,12 +13,8 @@ use Rattle.width_layer.proofs.deepen.Given as goal
 
 abbrev pub invariant-loop-node : goal.invariant-loop-node
 invariant-loop-node l =
-    (l.node ≤ l.count)
-    × ((h : Live (told_mode l.how) (told_by l.lookup) l.l l.initial.fingerprints l.initial.parents l.initial.codes l.initial.index l.count l.first l.count)
-    → LayerRun (told_mode l.how) (told_by l.lookup) l.l l.count h.d h.f0 h.u0 h.c0 h.i0 (layer (rules (told_mode l.how) l.l) l.l.entries (unsaturated h.ns) l.first (l.count - l.first))
+    ((h : Live (told_mode l.mode) (told_by l.by) l.limits l.initial.fingerprints l.initial.parents l.initial.codes l.initial.index l.count l.first l.count)
+    → LayerRun (told_mode l.mode) (told_by l.by) l.limits l.count h.d h.f0 h.u0 h.c0 h.i0 (layer (rules (told_mode l.mode) l.limits) l.limits.entries (unsaturated h.ns) l.first (l.count - l.first))
     l.node l.fingerprints l.parents l.codes l.index l.n)
     × (length l.fingerprints ≡ length l.initial.fingerprints) × (length l.parents ≡ length l.initial.parents) × (length l.codes ≡ length l.initial.codes) × (length l.index ≡ length l.initial.index)
     × Lent l.m l.left l.right
-
-abbrev pub decreases-loop-node : goal.decreases-loop-node
-decreases-loop-node l = l.count - l.node

@@ -1,29 +1,35 @@
 -- `is_valid` meets its contract: the three tests are the definition's three parts, on the parts of the code. Assumes
 -- nothing.
-use mathlib.Core.Path.{◌≡◌, sym}
+use native.Mathlib.Omega.{arith}
+use mathlib.Core.Path.{◌≡◌, refl, sym, ap, ◌∙◌}
 use mathlib.Core.Bool.{true}
-use borrow.Author.Tests.{ne_eqb}
-use Rattle.kinds.specs.Kinds.{arity}
+use Rattle.kinds.specs.Kinds.{arity, is_kind}
+use Rattle.kinds.specs.Told.{told_kind}
 use Rattle.circuit.specs.Codes.{kind_of, first, second, third, valid}
-use Rattle.operands.specs.Operands.{placed, rises}
-use Rattle.kinds.proofs.ByNumber.{kind_placed, one_sorted}
+use Rattle.operands.specs.Operands.{placed}
+use Rattle.kinds.proofs.ByNumber.{kind_used, arity_most}
+use Rattle.kinds.proofs.Told.{told_is}
 use Rattle.circuit.proofs.LibraryGate.is_valid.Goals as goal
 
-pub returns-then-count-eq1 : goal.returns-then-count-eq1
-unfolding valid rises
-returns-then-count-eq1 c =
-    let g = c.args.self.0 in
-    let n : arity (kind_of g) ≡ 1 = cc in
-    let s = one_sorted (kind_of g) n in
-    let p = kind_placed (kind_of g) in
-    let q : placed c.args.width 1 (first g) (second g) (third g) ≡ true = cc in
-    rw (sym p, n, s, q)
+pub returns-in_default : goal.returns-in_default
+unfolding valid is_kind
+returns-in_default c = rw (sym c.in_default.ensures) refl
 
-pub returns : goal.returns
+pub operands_placed-requires : goal.operands_placed-requires
+operands_placed-requires c =
+    let k = told_kind c.in-Some.kind in
+    let e = c.operands.ensures in
+    (omega (arith, e, kind_used k (told_is c.in-Some.kind)), omega (arith, e, (arity_most k).0))
+
+pub in_order-requires : goal.in_order-requires
+in_order-requires c = omega (arith, c.sorted.ensures, (arity_most (told_kind c.in-Some.kind)).1)
+
+pub returns-then-operands_placed : goal.returns-then-operands_placed
 unfolding valid
-returns c =
+returns-then-operands_placed c =
     let g = c.args.self.0 in
-    let p = kind_placed (kind_of g) in
-    let e = ne_eqb (arity (kind_of g)) 0 (λ e. c.if-count-eq0.false (cc)) in
+    let k = c.in-Some.ensures in
+    let s : is_kind (kind_of g) ≡ true = sym (ap is_kind k) ∙ told_is c.in-Some.kind in
+    let e = c.operands.ensures ∙ ap arity k in
     let q : placed c.args.width (arity (kind_of g)) (first g) (second g) (third g) ≡ true = cc in
-    rw (sym p, e, q) (cc)
+    rw (s, q) (cc)

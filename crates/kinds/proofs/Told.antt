@@ -1,0 +1,48 @@
+-- The code's kinds are the seventeen. Assumes nothing.
+use mathlib.Core.Path.{◌≡◌, refl, ap}
+use mathlib.Core.Bool.{true}
+use Prim.Native.Nat.{ℕ}
+use Rattle.std.specs.Prelude.{Option, Some, None, MatchOption}
+use Rattle.ints.specs.Lists.{all, range}
+use Rattle.kinds.specs.declared.GateKind.{GateKind}
+use Rattle.kinds.specs.declared.GateKind.TheVariants as code
+use Rattle.kinds.specs.Kinds.{Kind, kind_at, is_kind, of_tables, dual, kind_charge}
+use Rattle.kinds.specs.Told.{told_kind, told_found}
+use Rattle.kinds.proofs.ByNumber.{every_kind_lem, told_alike, alike}
+
+-- each is a kind
+pub told_is : (k : GateKind) → is_kind (told_kind k) ≡ true
+unfolding is_kind
+told_is code.H = refl
+told_is code.X = refl
+told_is code.Z = refl
+told_is code.S = refl
+told_is code.Sdg = refl
+told_is code.T = refl
+told_is code.Tdg = refl
+told_is code.Cx = refl
+told_is code.Cz = refl
+told_is code.Ccx = refl
+told_is code.Ccz = refl
+told_is code.Y = refl
+told_is code.Sx = refl
+told_is code.Swap = refl
+told_is code.Cy = refl
+told_is code.Ch = refl
+told_is code.Cswap = refl
+
+-- the kinds of tables are those that a kind undoes
+pub undone : (k : Kind) → of_tables k ≡ is_kind (dual k)
+unfolding all range kind_at is_kind of_tables dual
+undone k = alike _ _ (every_kind_lem (λ k. told_alike (of_tables k) (is_kind (dual k))) refl k)
+
+-- what is answered of the kind that was found, or of none: the charge, the kind that undoes it
+pub charge_found : (o : Option GateKind) (n : ℕ) → MatchOption o (n ≡ 0) (λ k. n ≡ kind_charge (told_kind k)) → n ≡ kind_charge (told_found o)
+unfolding kind_charge
+charge_found (Some k) n h = h
+charge_found None n h = h
+
+pub dual_found : (o r : Option GateKind) → MatchOption o (r ≡ None) (λ k. told_found r ≡ dual (told_kind k)) → told_found r ≡ dual (told_found o)
+unfolding dual
+dual_found (Some k) r h = h
+dual_found None r h = ap told_found h

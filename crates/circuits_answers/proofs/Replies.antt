@@ -19,11 +19,10 @@ use Rattle.refusal.specs.declared.Refusal.{Refusal}
 use Rattle.std.specs.Prelude.{Option, Some, None, Result, Ok, Err}
 use Rattle.murm_lists.specs.Entries.{told_listed}
 use Rattle.murm.specs.Entries.{told_found_node, told_written}
-use Rattle.murm_find.specs.Entries.{told_synthesized}
 use Rattle.tables.specs.Lists.{ListOutcome, outcome, listed}
 use Rattle.circuits_input.specs.Input.{InputLine, question_of}
 use Rattle.circuits_input.specs.Told.{told_question}
-use Rattle.circuits_answers.specs.Replies.{told, lent_count, lent_coefficients, lent_most, formed_reply, list_reply, asked_reply, line_reply}
+use Rattle.circuits_answers.specs.Replies.{lent_count, lent_coefficients, lent_most, formed_reply, list_reply, asked_reply, line_reply}
 
 -- ---- the coefficients lent
 

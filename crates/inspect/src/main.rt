@@ -38,7 +38,7 @@ ghost use Rattle.std.specs.Prelude.{◌≤◌, IfOk, length};
 
 use circuits_text::NEWLINE;
 use index::LookupBy;
-use inspect_room::Lookup;
+use inspect_room::{Arrays, Lookup};
 use inspect_words::First;
 use murm_config::Murm;
 use refusal::Refusal;
@@ -93,15 +93,13 @@ fn index_after(
     word: First,
     lookup: Lookup,
     table: Result<Murm, Refusal>,
-    fingerprints: &[u64],
-    parents: &[u32],
-    codes: &[u32],
+    arrays: Arrays<'_>,
     index: &mut [u32],
 ) -> Result<(), Refusal> {
     let First::Index(w) = word else {
         return Ok(());
     };
-    inspect_index::index_after(w, lookup, table, fingerprints, parents, codes, index)
+    inspect_index::index_after(w, lookup, table, arrays, index)
 }
 
 // The state after a line.
@@ -127,7 +125,12 @@ fn after(
         index,
         rest,
     );
-    let filling = index_after(word, lookup, table, fingerprints, parents, codes, index);
+    let arrays = Arrays {
+        fingerprints,
+        parents,
+        codes,
+    };
+    let filling = index_after(word, lookup, table, arrays, index);
     State {
         lookup,
         table,
@@ -140,9 +143,7 @@ fn put_line(
     rt: &impl Print,
     word: First,
     state: State,
-    fingerprints: &[u64],
-    parents: &[u32],
-    codes: &[u32],
+    arrays: Arrays<'_>,
     index: &[u32],
     rest: &[u8],
     out: &mut [u8],
@@ -156,20 +157,9 @@ fn put_line(
     let filling = state.filling;
     match word {
         First::List => Ok(inspect_lists::put_list_line(rest, out, at)),
-        First::Table(_) => {
-            inspect_tables::put_table(rt, table, fingerprints, parents, codes, out, at)
-        }
+        First::Table(_) => inspect_tables::put_table(rt, table, arrays, out, at),
         First::Asks(what) => Ok(inspect_asks::put_asked(
-            what,
-            lookup,
-            table,
-            fingerprints,
-            parents,
-            codes,
-            index,
-            rest,
-            out,
-            at,
+            what, lookup, table, arrays, index, rest, out, at,
         )),
         First::Index(w) => {
             inspect_index::put_index_word(rt, w, lookup, table, filling, index, out, at)
@@ -193,6 +183,7 @@ fn lines(
     let mut filled = 0;
     let mut state = first_state();
     let mut at = 0;
+    // A `while`, as each step goes to the byte after the newline that was found.
     while at < input.len() {
         let next = inspect_room::make_room(rt, out, filled)?;
         let e = circuits_text::find(input, at, NEWLINE);
@@ -208,18 +199,12 @@ fn lines(
             index,
             &input[rest..e],
         );
-        filled = put_line(
-            rt,
-            word,
-            state,
+        let arrays = Arrays {
             fingerprints,
             parents,
             codes,
-            index,
-            &input[rest..e],
-            out,
-            next,
-        )?;
+        };
+        filled = put_line(rt, word, state, arrays, index, &input[rest..e], out, next)?;
         at = e + 1;
     }
     rt.write_all(&out[..filled])

@@ -7,7 +7,7 @@ ghost use Rattle.std.specs.Prelude.{◌+◌, ◌≤◌, length};
 
 use circuits_text::{NEWLINE, SPACE};
 use index::LookupBy;
-use inspect_room::Lookup;
+use inspect_room::{Arrays, Lookup};
 use murm_config::Murm;
 use refusal::Refusal;
 
@@ -32,9 +32,7 @@ enum Told {
 fn ask_matrix(
     by: LookupBy,
     table: Murm,
-    fingerprints: &[u64],
-    parents: &[u32],
-    codes: &[u32],
+    arrays: Arrays<'_>,
     index: &[u32],
     rest: &[u8],
     list: &mut [u32],
@@ -46,9 +44,9 @@ fn ask_matrix(
     let answer = murm::synthesize_by(
         by,
         table,
-        fingerprints,
-        parents,
-        codes,
+        arrays.fingerprints,
+        arrays.parents,
+        arrays.codes,
         index,
         width,
         k,
@@ -62,9 +60,7 @@ fn ask_matrix(
 fn ask_find(
     by: LookupBy,
     table: Murm,
-    fingerprints: &[u64],
-    parents: &[u32],
-    codes: &[u32],
+    arrays: Arrays<'_>,
     index: &[u32],
     rest: &[u8],
 ) -> Result<Told, Refusal> {
@@ -74,9 +70,9 @@ fn ask_find(
     let found = murm::find_by(
         by,
         table,
-        fingerprints,
-        parents,
-        codes,
+        arrays.fingerprints,
+        arrays.parents,
+        arrays.codes,
         index,
         width,
         k,
@@ -88,9 +84,7 @@ fn ask_find(
 // The list of the node of a line is written (SPECIFICATION 7.11), into as many of the lent places as the line says.
 fn ask_write(
     table: Murm,
-    fingerprints: &[u64],
-    parents: &[u32],
-    codes: &[u32],
+    arrays: Arrays<'_>,
     rest: &[u8],
     list: &mut [u32],
 ) -> Result<Told, Refusal>
@@ -100,9 +94,9 @@ fn ask_write(
     let (width, node, places) = wanted.ok_or(Refusal::BrokenLine)?;
     let size = murm::write(
         table,
-        fingerprints,
-        parents,
-        codes,
+        arrays.fingerprints,
+        arrays.parents,
+        arrays.codes,
         width,
         node as usize,
         &mut list[..places],
@@ -115,9 +109,7 @@ fn ask(
     what: Asks,
     by: LookupBy,
     table: Murm,
-    fingerprints: &[u64],
-    parents: &[u32],
-    codes: &[u32],
+    arrays: Arrays<'_>,
     index: &[u32],
     rest: &[u8],
     list: &mut [u32],
@@ -125,9 +117,9 @@ fn ask(
     requires { 64 ≤ length list.old }
 {
     match what {
-        Asks::Matrix => ask_matrix(by, table, fingerprints, parents, codes, index, rest, list),
-        Asks::Find => ask_find(by, table, fingerprints, parents, codes, index, rest),
-        Asks::Write => ask_write(table, fingerprints, parents, codes, rest, list),
+        Asks::Matrix => ask_matrix(by, table, arrays, index, rest, list),
+        Asks::Find => ask_find(by, table, arrays, index, rest),
+        Asks::Write => ask_write(table, arrays, rest, list),
     }
 }
 
@@ -218,9 +210,7 @@ pub fn put_asked(
     what: Asks,
     lookup: Lookup,
     built: Result<Murm, Refusal>,
-    fingerprints: &[u64],
-    parents: &[u32],
-    codes: &[u32],
+    arrays: Arrays<'_>,
     index: &[u32],
     rest: &[u8],
     out: &mut [u8],
@@ -238,16 +228,6 @@ pub fn put_asked(
     let by = lookup.by;
     let end = inspect_room::index_end(table.config.max_qubits, lookup.size, index.len());
     let mut list = [0u32; 64];
-    let told = ask(
-        what,
-        by,
-        table,
-        fingerprints,
-        parents,
-        codes,
-        &index[..end],
-        rest,
-        &mut list,
-    );
+    let told = ask(what, by, table, arrays, &index[..end], rest, &mut list);
     put_told(told, &list, out, at)
 }

@@ -7,7 +7,7 @@ ghost use Rattle.std.specs.Prelude.{◌+◌, ◌≤◌, IfOk, length, OnErr, ◌
 
 use circuits_text::{NEWLINE, SPACE};
 use index::LookupBy;
-use inspect_room::Lookup;
+use inspect_room::{Arrays, Lookup};
 use murm_config::Murm;
 use refusal::Refusal;
 use std::io;
@@ -20,14 +20,13 @@ pub enum IndexWord {
     Scan,
     Places,
     Fill,
-    Broken,
 }
 
 // What follows the word `index` and its space: M.
-pub fn index_word(rest: &[u8]) -> IndexWord {
+pub fn index_word(rest: &[u8]) -> Option<IndexWord> {
     match circuits_text::number(rest) {
-        Some(m) if m <= 18 => IndexWord::Index(m, 1 << m),
-        _ => IndexWord::Broken,
+        Some(m) if m <= 18 => Some(IndexWord::Index(m, 1 << m)),
+        _ => None,
     }
 }
 
@@ -47,25 +46,22 @@ pub fn lookup_after(word: IndexWord, last: Lookup) -> Lookup {
 }
 
 // The index is filled from a table.
-fn fill_from(
-    table: Murm,
-    size: u32,
-    fingerprints: &[u64],
-    parents: &[u32],
-    codes: &[u32],
-    index: &mut [u32],
-) -> Result<(), Refusal> {
+fn fill_from(table: Murm, size: u32, arrays: Arrays<'_>, index: &mut [u32]) -> Result<(), Refusal> {
     let end = inspect_room::index_end(table.config.max_qubits, size, index.len());
-    murm::fill_index(table, fingerprints, parents, codes, &mut index[..end])
+    murm::fill_index(
+        table,
+        arrays.fingerprints,
+        arrays.parents,
+        arrays.codes,
+        &mut index[..end],
+    )
 }
 
 // The same of the last table, where an index is used.
 fn fill(
     lookup: Lookup,
     built: Result<Murm, Refusal>,
-    fingerprints: &[u64],
-    parents: &[u32],
-    codes: &[u32],
+    arrays: Arrays<'_>,
     index: &mut [u32],
 ) -> Result<(), Refusal> {
     let by = lookup.by;
@@ -78,7 +74,7 @@ fn fill(
     if inspect_room::too_large(lookup, table.config.max_qubits, index.len()) {
         return Err(Refusal::BrokenLine);
     }
-    fill_from(table, lookup.size, fingerprints, parents, codes, index)
+    fill_from(table, lookup.size, arrays, index)
 }
 
 // What a line does to the index besides a build: `index` empties it, and `fill` fills it, or says why not.
@@ -86,9 +82,7 @@ pub fn index_after(
     word: IndexWord,
     lookup: Lookup,
     table: Result<Murm, Refusal>,
-    fingerprints: &[u64],
-    parents: &[u32],
-    codes: &[u32],
+    arrays: Arrays<'_>,
     index: &mut [u32],
 ) -> Result<(), Refusal> {
     match word {
@@ -96,7 +90,7 @@ pub fn index_after(
             index::clear(index);
             Ok(())
         }
-        IndexWord::Fill => fill(lookup, table, fingerprints, parents, codes, index),
+        IndexWord::Fill => fill(lookup, table, arrays, index),
         _ => Ok(()),
     }
 }
@@ -243,6 +237,5 @@ pub fn put_index_word(
         IndexWord::Scan => Ok(circuits_text::put_bytes(out, at, b"scan\n")),
         IndexWord::Places => put_places(rt, lookup, table, index, out, at),
         IndexWord::Fill => Ok(put_filling(filling, out, at)),
-        IndexWord::Broken => Ok(circuits_lines::put_refused(out, at, Refusal::BrokenLine)),
     }
 }

@@ -49,6 +49,14 @@ pub fn product(a: u32, b: u32) -> usize {
     a as usize * b as usize
 }
 
+// The arrays of a table, lent to be read.
+#[derive(Clone, Copy)]
+pub struct Arrays<'a> {
+    pub fingerprints: &'a [u64],
+    pub parents: &'a [u32],
+    pub codes: &'a [u32],
+}
+
 // How nodes are looked up, and how many places each part of the index has.
 #[derive(Clone, Copy)]
 pub struct Lookup {

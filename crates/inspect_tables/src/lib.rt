@@ -6,7 +6,7 @@
 ghost use Rattle.std.specs.Prelude.{◌+◌, ◌≤◌, IfOk, length, OnErr, ◌≡◌};
 
 use circuits_text::{NEWLINE, SPACE};
-use inspect_room::Lookup;
+use inspect_room::{Arrays, Lookup};
 use known::BuildMode;
 use murm_config::{Murm, MurmConfig};
 use refusal::Refusal;
@@ -28,20 +28,24 @@ fn put_nodes(
     rt: &impl Print,
     start: usize,
     end: usize,
-    fingerprints: &[u64],
-    parents: &[u32],
-    codes: &[u32],
+    arrays: Arrays<'_>,
     out: &mut [u8],
     filled: usize,
 ) -> io::Result<usize>
     requires filled_bound { (filled ≤ 65536) × (65536 ≤ length out.old) }
-    requires end_in_bounds { (end ≤ length fingerprints.now) × (end ≤ length parents.now) × (end ≤ length codes.now) }
+    requires end_in_bounds { (end ≤ length arrays.fingerprints.now) × (end ≤ length arrays.parents.now) × (end ≤ length arrays.codes.now) }
     ensures { IfOk result (λ n. n ≤ 65536) }
 {
     let mut p = filled;
     for i in start..end {
         let next = inspect_room::make_room(rt, out, p)?;
-        p = put_node(out, next, fingerprints[i], parents[i], codes[i]);
+        p = put_node(
+            out,
+            next,
+            arrays.fingerprints[i],
+            arrays.parents[i],
+            arrays.codes[i],
+        );
     }
     Ok(p)
 }
@@ -51,9 +55,7 @@ fn put_width(
     rt: &impl Print,
     table: Murm,
     width: u32,
-    fingerprints: &[u64],
-    parents: &[u32],
-    codes: &[u32],
+    arrays: Arrays<'_>,
     out: &mut [u8],
     filled: usize,
 ) -> io::Result<usize>
@@ -62,31 +64,32 @@ fn put_width(
 {
     let row = murm_config::width_table(table, width);
     let start = inspect_room::product(width - 1, table.config.max_entries_per_qubit);
-    let places = fingerprints.len().min(parents.len()).min(codes.len());
+    let places = arrays
+        .fingerprints
+        .len()
+        .min(arrays.parents.len())
+        .min(arrays.codes.len());
     let end = inspect_room::part_end(start, row.count, places);
     let at = inspect_room::make_room(rt, out, filled)?;
     let next = circuits_lines::put_table_line(out, at, width, row);
-    put_nodes(rt, start, end, fingerprints, parents, codes, out, next)
+    put_nodes(rt, start, end, arrays, out, next)
 }
 
 // Each width of a table.
 fn put_widths(
     rt: &impl Print,
     table: Murm,
-    fingerprints: &[u64],
-    parents: &[u32],
-    codes: &[u32],
+    arrays: Arrays<'_>,
     out: &mut [u8],
     filled: usize,
 ) -> io::Result<usize>
     requires { (filled ≤ 65536) × (65536 ≤ length out.old) }
     ensures { IfOk result (λ n. n ≤ 65536) }
 {
-    let t = table;
-    let q = t.config.max_qubits;
+    let q = table.config.max_qubits;
     let mut p = filled;
     for w in 0..q {
-        p = put_width(rt, t, w + 1, fingerprints, parents, codes, out, p)?;
+        p = put_width(rt, table, w + 1, arrays, out, p)?;
     }
     Ok(p)
 }
@@ -96,9 +99,7 @@ fn put_widths(
 pub fn put_table(
     rt: &impl Print,
     built: Result<Murm, Refusal>,
-    fingerprints: &[u64],
-    parents: &[u32],
-    codes: &[u32],
+    arrays: Arrays<'_>,
     out: &mut [u8],
     at: usize,
 ) -> io::Result<usize>
@@ -107,7 +108,7 @@ pub fn put_table(
     ensures failed { OnErr result (length out.new ≡ length out.old) }
 {
     match built {
-        Ok(table) => put_widths(rt, table, fingerprints, parents, codes, out, at),
+        Ok(table) => put_widths(rt, table, arrays, out, at),
         Err(r) => Ok(circuits_lines::put_refused(out, at, r)),
     }
 }

@@ -38,7 +38,10 @@ fn first_word(word: &[u8], rest: &[u8]) -> First {
         b"matrix" => First::Asks(Asks::Matrix),
         b"find" => First::Asks(Asks::Find),
         b"write" => First::Asks(Asks::Write),
-        b"index" => First::Index(inspect_index::index_word(rest)),
+        b"index" => match inspect_index::index_word(rest) {
+            Some(word) => First::Index(word),
+            None => First::Other,
+        },
         _ => First::Other,
     }
 }

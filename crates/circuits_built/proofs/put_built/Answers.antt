@@ -11,7 +11,7 @@ pub put_widths-next-requires-clause-max_entries_per_qubit_in_bounds :
     goal.put_widths-next-requires-clause-max_entries_per_qubit_in_bounds
 put_widths-next-requires-clause-max_entries_per_qubit_in_bounds c =
     let r = ready_as c.in-Ok.is _ _ c.requires.printable in
-    omega (arith, table_room (told_murm c.in-Ok.table) _ r.0 r.1, c.requires.later_len_bound.1)
+    omega (arith, table_room (told_murm c.in-Ok.record) _ r.0 r.1, c.requires.later_len_bound.1)
 
 pub put_queries-requires : goal.put_queries-requires
 put_queries-requires c =
@@ -19,7 +19,7 @@ put_queries-requires c =
     let d = c.put_widths-next in
     omega (
       arith,
-      table_room (told_murm c.in-Ok.table) _ r.0 r.1,
+      table_room (told_murm c.in-Ok.record) _ r.0 r.1,
       c.requires.later_len_bound.0,
       c.requires.later_len_bound.1,
       d.ensures.most,

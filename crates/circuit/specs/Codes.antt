@@ -23,6 +23,10 @@ second g = g / 16 % 16
 abbrev pub third : ℕ → ℕ
 third g = g % 16
 
+-- the operands of g are as kind k asks at width n
+unfoldable pub operands_fit : ℕ → Kind → ℕ → Bool
+operands_fit n k g = placed n (arity k) (first g) (second g) (third g) && ordered (sorted k) (first g) (second g) (third g)
+
 -- valid at width n, as lists ask: the kind is one of the seventeen, its operands are below n, pairwise different and in
 -- the order that it wants, and those that it does not have are 0 (SPECIFICATION 2.4)
 unfoldable pub valid : ℕ → ℕ → Bool

@@ -5,9 +5,9 @@
 
 ghost use Rattle.std.specs.Prelude.{◌≡◌, ◌^◌, ◌<◌, eqb};
 ghost use Rattle.kinds.specs.Kinds.{kind_charge};
-ghost use Rattle.kinds.specs.Told.{told_found};
+ghost use Rattle.kinds.specs.Told.{told_kind, told_found};
 ghost use Rattle.circuit.specs.Sets.{supported, base, member, subset};
-ghost use Rattle.circuit.specs.Codes.{kind_number, kind_of, first, second, third, valid, valid_for};
+ghost use Rattle.circuit.specs.Codes.{kind_number, kind_of, first, second, third, operands_fit, valid, valid_for};
 ghost use Rattle.circuit.specs.Pairs.{inverse, qubits, disjoint, mask_of};
 ghost use Rattle.circuit.specs.Charge.{charge};
 
@@ -83,17 +83,17 @@ pub struct LibraryGate(pub u32);
 
 impl LibraryGate {
     // The number that the code has for its kind, whether or not it is that of a kind.
-    pub fn kind_number(self) -> u32
+    pub fn kind(self) -> u32
         ensures { result ≡ kind_number self.0 }
     {
         self.0 / 4096
     }
 
     // The kind, where the code has one of the seventeen.
-    pub fn kind(self) -> Option<GateKind>
+    pub fn gate_kind(self) -> Option<GateKind>
         ensures { told_found result ≡ kind_of self.0 }
     {
-        GateKind::try_from(self.kind_number()).ok()
+        GateKind::try_from(self.kind()).ok()
     }
 
     // The operands, in the order of the original's constructor.
@@ -120,14 +120,31 @@ impl LibraryGate {
     pub fn is_valid(self, width: u32) -> bool
         ensures { result ≡ valid width self.0 }
     {
-        let Some(kind) = self.kind() else {
+        let Some(kind) = self.gate_kind() else {
             return false;
         };
+        self.is_placed(kind, width)
+    }
+
+    // Whether the operands are as the kind asks at a width. Each count of operands has an arm, compiled for this count
+    // alone, and one operand stands in no order: each gate of a chain is asked.
+    fn is_placed(self, kind: GateKind, width: u32) -> bool
+        ensures { result ≡ operands_fit width (told_kind kind) self.0 }
+    {
         let a = self.first();
         let b = self.second();
         let c = self.third();
-        operands::operands_placed(width, kind.operands(), a, b, c)
-            && operands::in_order(kind.sorted(), a, b, c)
+        match kind.operands() {
+            1 => operands::operands_placed(width, 1, a, b, c),
+            2 => {
+                operands::operands_placed(width, 2, a, b, c)
+                    && operands::in_order(kind.sorted(), a, b, c)
+            }
+            _ => {
+                operands::operands_placed(width, 3, a, b, c)
+                    && operands::in_order(kind.sorted(), a, b, c)
+            }
+        }
     }
 
     // Whether the code is valid at a width, of a kind of tables, and this kind is in the basis.
@@ -135,10 +152,13 @@ impl LibraryGate {
     pub fn is_valid_for(self, width: u32, basis: GateSet) -> bool
         ensures { result ≡ valid_for width basis.0 self.0 }
     {
-        let Some(kind) = self.kind() else {
+        let Some(kind) = self.gate_kind() else {
             return false;
         };
-        basis.contains(self.kind_number()) && kind.is_of_tables() && self.is_valid(width)
+        if !basis.contains(self.kind()) {
+            return false;
+        }
+        kind.is_of_tables() && self.is_placed(kind, width)
     }
 
     // Whether this gate undoes the other, one of a kind of tables.
@@ -146,17 +166,17 @@ impl LibraryGate {
     pub fn is_inverse_of(self, other: LibraryGate) -> bool
         ensures { result ≡ inverse self.0 other.0 }
     {
-        let Some(dual) = other.kind().and_then(GateKind::dual) else {
+        let Some(dual) = other.gate_kind().and_then(GateKind::dual) else {
             return false;
         };
-        self.kind_number() == dual.number() && self.0 % 4096 == other.0 % 4096
+        self.kind() == dual.number() && self.0 % 4096 == other.0 % 4096
     }
 
     // The qubits as one set of bits: bit q is qubit q.
     pub fn qubit_mask(self) -> u32
         ensures { result ≡ mask_of (qubits self.0) }
     {
-        let Some(kind) = self.kind() else {
+        let Some(kind) = self.gate_kind() else {
             return 0;
         };
         let a = singleton(self.first());
@@ -179,7 +199,7 @@ impl LibraryGate {
     pub fn t_charge(self) -> usize
         ensures { result ≡ kind_charge (kind_of self.0) }
     {
-        self.kind().map_or(0, GateKind::charge)
+        self.gate_kind().map_or(0, GateKind::charge)
     }
 }
 

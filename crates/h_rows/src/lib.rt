@@ -1,7 +1,7 @@
-// H and Ch in place, `apply_h_left` and `apply_controlled_h_left` in matrix.rs of the original. H is the case with no
-// control. Which of the two a function works is its parameter CONTROLLED, a constant: compiled for H it has no test of
-// the control, which took H more time (docs/SPEED.md). A first pass only tests whether every result fits, so that a
-// refusal leaves the places as they were.
+// H and Ch in place, `apply_h_left` and `apply_controlled_h_left` in matrix.rs of the original, both by `h_left`. H is
+// the case with no control. Which of the two a function works is its parameter CONTROLLED, a constant: compiled for H
+// it has no test of the control, which took H more time (docs/SPEED.md). A first pass only tests whether every result
+// fits, so that a refusal leaves the places as they were.
 #![tactic(auto)]
 
 ghost use Rattle.std.specs.Prelude.{◌≡◌, false, ◌^◌, ◌<◌, ◌≤◌};
@@ -104,7 +104,7 @@ fn h_rows<const CONTROLLED: bool>(m: &mut [Coefficient; 4096], n: usize, control
 
 // H on bit t where all bits of control are 1, sqrt(2) times the other rows (SPECIFICATION 3.2), the exponent left to
 // the caller: Ch, or H itself, with no control. A refusal leaves the places as they were.
-pub fn apply_h_left<const CONTROLLED: bool>(
+pub fn h_left<const CONTROLLED: bool>(
     m: &mut [Coefficient; 4096],
     n: usize,
     control: usize,
@@ -120,4 +120,26 @@ pub fn apply_h_left<const CONTROLLED: bool>(
     }
     h_rows::<CONTROLLED>(m, n, control, t);
     true
+}
+
+// H alone, on bit t: its caller gives no control and owes nothing of one.
+pub fn apply_h_left(m: &mut [Coefficient; 4096], n: usize, t: usize) -> bool
+    requires n_bound { (n ≤ 5) × (t < n) }
+    ensures { HDone n (h_rows 0 (2 ^ t) (read n m.old)) m.old m.new result }
+{
+    h_left::<false>(m, n, 0, t)
+}
+
+// Ch alone: its caller owes nothing of CONTROLLED.
+pub fn apply_controlled_h_left(
+    m: &mut [Coefficient; 4096],
+    n: usize,
+    control: usize,
+    t: usize,
+) -> bool
+    requires n_bound { (n ≤ 5) × (t < n) }
+    requires t_value { bit_and control (2 ^ t) ≡ 0 }
+    ensures { HDone n (h_rows control (2 ^ t) (read n m.old)) m.old m.new result }
+{
+    h_left::<true>(m, n, control, t)
 }

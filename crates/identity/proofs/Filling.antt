@@ -7,7 +7,8 @@ use borrow.Author.Count.{below_more}
 use borrow.Author.Tests.{eqb-true, eqb-false}
 use lib.Dec.{eqb}
 use lib.IntN.{ℤ, pos}
-use lib.ListN.{length, get_or, replicate, take, drop, length-append, get_or-append}
+use lib.ListN.{length, get_or, set, replicate, take, drop, length-set, length-append, get_or-append}
+use lib.Seq.{get_or-set_same, get_or-set_other}
 use Rattle.std.proofs.lemmas.List.{length-replicate, length-take-le, length-drop, get_or-append_right, get_or-drop}
 use Rattle.cyclotomic.specs.Zomega.{Zω, Small, zeroω, oneω}
 use Rattle.cyclotomic.proofs.Squares.{small_zero, small_one}
@@ -22,24 +23,49 @@ use Rattle.places.specs.Held.{Holds, AllZero}
 
 -- ---- 0 at a matrix's places
 
+-- the first i places are 0, the later ones as they were
+pub record Clearing (l l' : List ℤ) (i : ℕ) : Type 0 where
+  pub long : length l' ≡ places
+  pub done : (j : ℕ) → j < i → get_or l' j (pos 0) ≡ pos 0
+  pub ahead : (j : ℕ) → i ≤ j → get_or l' j (pos 0) ≡ get_or l j (pos 0)
+
+module _ {l : List ℤ} where
+  pub clearing_none : length l ≡ places → Clearing l l 0
+  clearing_none e = record { long = e; done = λ j h. absurd (omega arith); ahead = λ j h. refl }
+
+  pub clearing_more : {l' : List ℤ} (i : ℕ) → Clearing l l' i → i < places → Clearing l (set l' i (pos 0)) (i + 1)
+  clearing_more {l'} i w h = record {
+    long = length-set l' i (pos 0) ∙ w.long;
+    done = below_more (λ j. get_or (set l' i (pos 0)) j (pos 0) ≡ pos 0) i
+        (λ j g. get_or-set_other l' i j (pos 0) (pos 0) (λ e. omega arith) ∙ w.done j g) (get_or-set_same l' i (pos 0) (pos 0) (omega (arith, w.long)));
+    ahead = λ j g. get_or-set_other l' i j (pos 0) (pos 0) (λ e. omega arith) ∙ w.ahead j (omega arith);
+  }
+
+  pub cleared_zero : (n : ℕ) {l' : List ℤ} (i : ℕ) → Clearing l l' i → 4 * (2 ^ n * 2 ^ n) ≤ i → AllZero n l'
+  cleared_zero n i w h = record { long = w.long; zero = λ j g. w.done j (omega arith) }
+
+  pub cleared_kept : (n : ℕ) {l' : List ℤ} (i : ℕ) → Clearing l l' i → i ≤ 4 * (2 ^ n * 2 ^ n) → Kept n l l'
+  cleared_kept n i w h = record { past = λ j g. w.ahead j (omega arith) }
+
 -- what is 0 everywhere, read anywhere
 none_at : (m j : ℕ) → get_or (replicate m (pos 0)) j (pos 0) ≡ pos 0
 none_at zero j = refl
 none_at (suc m) zero = refl
 none_at (suc m) (suc j) = none_at m j
 
+-- the same where the first k places are set at once, as `fill` does
 module _ (n : ℕ) (l : List ℤ) {z : List ℤ} (k : ℕ) (e : length l ≡ places) (s : k ≤ places) (q : k ≡ 4 * (2 ^ n * 2 ^ n)) (w : z ≡ replicate (length (take k l)) (pos 0)) where
   zeros_long : length z ≡ k
   zeros_long = ap length w ∙ length-replicate (length (take k l)) (pos 0) ∙ length-take-le k l (omega arith)
 
-  pub cleared_zero : AllZero n (z ++ drop k l)
-  cleared_zero = record {
+  pub filled_zero : AllZero n (z ++ drop k l)
+  filled_zero = record {
     long = length-append z (drop k l) ∙ omega (arith, zeros_long, length-drop k l);
     zero = λ j h. get_or-append z (drop k l) (pos 0) j (omega (arith, zeros_long)) ∙ rw w (none_at (length (take k l)) j);
   }
 
-  pub cleared_kept : Kept n l (z ++ drop k l)
-  cleared_kept = record {
+  pub filled_kept : Kept n l (z ++ drop k l)
+  filled_kept = record {
     past = λ j h. let i : k + (j - k) ≡ j = omega arith in get_or-append_right z (drop k l) k j (pos 0) zeros_long (omega arith) ∙ get_or-drop k l (j - k) (pos 0) ∙ ap (λ (x : ℕ). get_or l x (pos 0)) i;
   }
 

@@ -134,7 +134,7 @@ table_kind k = by (dec_lt k 27)
     by (yes l) = alike _ _ (all_range (λ k. told_alike (of_tables (kind_at k)) (ltb k 12 && is_kind (kind_at k))) 27 0 computed k (omega arith) (omega arith))
     by (no l) = rw (kind_past k (omega arith), le-ltb k 12 (omega arith))
 
--- a constant of the code that has f of each kind below 12, at one of them
+-- a list that has f of each kind below 12, at one of them
 pub in_table : (f : Kind → ℕ) (k : ℕ) → k < 12 → get_or (map f (take 12 kinds)) k 0 ≡ f (kind_at k)
 unfolding kind_at
 in_table f k h = from kinds 12 k h (lit≤ tt)
@@ -152,6 +152,10 @@ from_twelve f d h o k p = by (dec_lt k 27)
     by : Dec (k < 27) → f (kind_at k) ≡ d
     by (yes q) = eqb-true (f (kind_at k)) d (all_range (λ k. eqb (f (kind_at k)) d) 15 12 h k p (omega arith))
     by (no q) = ap f (kind_past k (omega arith)) ∙ o
+
+-- at the arm of kind k
+pub arm : {kind : ℕ} (k : ℕ) → kind ≡ k → arity (kind_at k) ≡ arity (kind_at kind)
+arm k e = sym (ap (λ (k : ℕ). arity (kind_at k)) e)
 
 -- a kind from 12 on that is none of the six has no operand
 abbrev operandless : ℕ → Bool

@@ -2,11 +2,12 @@
 use mathlib.Core.Path.{◌≡◌, refl, ap}
 use mathlib.Core.Bool.{true}
 use Prim.Native.Nat.{ℕ}
+use lib.Dec.{ltb}
 use Rattle.std.specs.Prelude.{Option, Some, None, MatchOption}
 use Rattle.ints.specs.Lists.{all, range}
 use Rattle.kinds.specs.declared.GateKind.{GateKind}
 use Rattle.kinds.specs.declared.GateKind.TheVariants as code
-use Rattle.kinds.specs.Kinds.{Kind, kind_at, is_kind, of_tables, dual, kind_charge}
+use Rattle.kinds.specs.Kinds.{Kind, kind_at, number, is_kind, of_tables, dual, kind_charge}
 use Rattle.kinds.specs.Told.{told_kind, told_found}
 use Rattle.kinds.proofs.ByNumber.{every_kind_lem, told_alike, alike}
 
@@ -31,7 +32,28 @@ told_is code.Cy = refl
 told_is code.Ch = refl
 told_is code.Cswap = refl
 
--- the kinds of tables are those that a kind undoes
+-- the kinds of tables are those with a number below 12
+pub tables_below : (k : GateKind) → of_tables (told_kind k) ≡ ltb (number (told_kind k)) 12
+unfolding of_tables number
+tables_below code.H = refl
+tables_below code.X = refl
+tables_below code.Z = refl
+tables_below code.S = refl
+tables_below code.Sdg = refl
+tables_below code.T = refl
+tables_below code.Tdg = refl
+tables_below code.Cx = refl
+tables_below code.Cz = refl
+tables_below code.Ccx = refl
+tables_below code.Ccz = refl
+tables_below code.Y = refl
+tables_below code.Sx = refl
+tables_below code.Swap = refl
+tables_below code.Cy = refl
+tables_below code.Ch = refl
+tables_below code.Cswap = refl
+
+-- and those that a kind undoes
 pub undone : (k : Kind) → of_tables k ≡ is_kind (dual k)
 unfolding all range kind_at is_kind of_tables dual
 undone k = alike _ _ (every_kind_lem (λ k. told_alike (of_tables k) (is_kind (dual k))) refl k)

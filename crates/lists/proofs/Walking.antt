@@ -50,6 +50,7 @@ module _ (n : ℕ) where
 
 -- the first i gates of a list were applied, and the places hold their product over √2 to the k
 pub record Walking (n : ℕ) (codes : List ℕ) (i k : ℕ) (l : List ℤ) : Type 0 where
+  pub within : i ≤ length codes
   pub ready : Ready n k l
   pub ahead : steps n codes ≡ later i (steps_from n (held n k l) (drop i codes))
   pub so_far : Equal n (held n k l) (product n (take i codes))
@@ -61,6 +62,7 @@ module _ (n : ℕ) (codes : List ℕ) where
   pub walking_first : (l : List ℤ) → Holds n 0 l identity → Walking n codes 0 0 l
   unfolding steps product
   walking_first l w = record {
+    within = omega arith;
     ready = record { long = w.long; small = w.small; lowest = record { lowest = λ h. absurd (omega arith) } };
     ahead = steps_equal n codes (equal_sym n w.equal);
     so_far = w.equal;
@@ -80,6 +82,7 @@ module _ (n : ℕ) (codes : List ℕ) where
         let one : suc i ≡ i + 1 = omega arith in
         subst (λ (z : ℕ). Walking n codes z j l') one
         (record {
+          within = h;
           ready = ready_next s;
           ahead = ahead_here ∙ ap (λ b. later i (pick b (next (steps_from n (act n (gate_of n code) (held n k l)) (drop (suc i) codes))) (unfit_at 0))) fit
               ∙ ap (λ (z : Steps). later i (next z)) (steps_equal n (drop (suc i) codes) (equal_sym n held'.equal));

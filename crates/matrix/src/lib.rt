@@ -110,6 +110,6 @@ pub fn apply_gate_left(
     requires ready { Ready n k m.old }
     ensures { Stepped n k (gate_of n gate.0) m.old m.new result }
 {
-    let kind = gate.kind().unwrap();
+    let kind = gate.gate_kind().unwrap();
     kind_step(m, n, kind, gate.first(), gate.second(), gate.third(), k)
 }

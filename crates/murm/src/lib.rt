@@ -101,7 +101,7 @@ pub fn find_by(
         exponent,
         matrix,
     };
-    murm_find::check_find(table, lent, query)?;
+    murm_find::check_lent(table, lent, query)?;
     find_passed(table, lent, query)
 }
 
@@ -216,7 +216,7 @@ pub fn synthesize_by(
         exponent,
         matrix,
     };
-    murm_find::check_find(table, lent, query)?;
+    murm_find::check_lent(table, lent, query)?;
     murm_find::ask(table, lent, query, out)
 }
 

@@ -14,10 +14,10 @@ use Rattle.tables.specs.Tables.{Table, Query, record_row}
 use Rattle.tables.proofs.Asked.{part_asked, good_look}
 use Rattle.murm_query.specs.Work.{Askable}
 use Rattle.murm_find.specs.Entries.{asked_of}
-use Rattle.murm_find.specs.Work.{FindChecked}
+use Rattle.murm_find.specs.Work.{LentChecked}
 
--- what `find_any` and `ask` require, of a find that `check_find` has passed
-pub may_search : (t : Table) (a : Arrays) (q : Query) → FindChecked t a q (by_row 0)
+-- what `find_any` and `ask` require, of a find that `check_lent` has passed
+pub may_search : (t : Table) (a : Arrays) (q : Query) → LentChecked t a q (by_row 0)
     → ((record_row t).holds ≡ false) × (((room_row t.limits a).holds ≡ false) × Askable q)
 may_search t a q f = let (r, m, p, e) = good_look t a.by a _ (passed f.told) in (r, (m, (e, f.small refl)))
 

@@ -1,7 +1,8 @@
 // The find: its rows, the search (SPECIFICATION 7.10), and the answer, which is the search with row 12 and a copy of
-// the list found. Whatever looks a matrix up in a table uses `check_find`, then `find_any`, which takes the limits and
-// the width's count, not the record. These stand below the entries, so that the entries of later requests have them,
-// and above the search of a width's part, so that an edit of one is proved without the other.
+// the list found. Whatever looks a matrix up in a table uses `check_lent`, then `find_any`, which takes the limits and
+// the width's count, not the record; `check_find` is for a caller that has only the lengths of the arrays. These stand
+// below the entries, so that the entries of later requests have them, and above the search of a width's part, so that
+// an edit of one is proved without the other.
 #![tactic(auto)]
 
 ghost use Rattle.std.specs.Prelude.{◌≡◌, false, ◌≤◌, ◌<◌, length};
@@ -9,6 +10,7 @@ ghost use Rattle.walk.specs.Answers.{outcome as replied};
 ghost use Rattle.node_answer.specs.Answers.{told_find};
 ghost use Rattle.tables.specs.Checks.{room_row};
 ghost use Rattle.tables.specs.Tables.{record_row};
+ghost use Rattle.index.specs.Told.{told_by};
 ghost use Rattle.refusal.specs.Told.{told_check};
 ghost use Rattle.murm_config.specs.Told.{told_config, told_murm};
 ghost use Rattle.murm_query.specs.Entries.{told_query};
@@ -16,8 +18,10 @@ ghost use Rattle.murm_query.specs.Work.{Askable};
 ghost use Rattle.murm_part.specs.Told.{told_lent};
 ghost use Rattle.murm_part.specs.Work.{Counted, FoundFor};
 ghost use Rattle.murm_find.specs.Entries.{asked_of, told_synthesized};
-ghost use Rattle.murm_find.specs.Work.{FindChecked};
+ghost use Rattle.murm_find.specs.Work.{FindChecked, LentChecked};
 
+use cyclotomic::Coefficient;
+use index::LookupBy;
 use murm_config::{Murm, MurmConfig};
 use murm_part::Lent;
 use murm_query::Query;
@@ -32,20 +36,45 @@ fn places_in(index: &[u32]) -> usize
     index.len()
 }
 
-// Whether a table with these arrays and this index may be asked for a matrix; else which row of a find is the first to
-// refuse (SPECIFICATION 9.2).
-pub fn check_find(table: Murm, lent: Lent<'_>, query: Query<'_>) -> Result<(), Refusal>
-    ensures { FindChecked (told_murm table) (told_lent lent.entry) (told_query query.entry) (told_check result) }
+// Whether a table with arrays and an index of these lengths may be asked for a matrix; else which row of a find is the
+// first to refuse (SPECIFICATION 9.2).
+pub fn check_find(
+    by: LookupBy,
+    table: Murm,
+    prints: usize,
+    parents: usize,
+    codes: usize,
+    places: usize,
+    width: u32,
+    exponent: u16,
+    matrix: &[Coefficient],
+) -> Result<(), Refusal>
+    requires { places < 2305843009213693952 }
+    ensures { FindChecked (told_murm table) (told_by by) prints parents codes places width exponent matrix.now (told_check result) }
 {
-    murm_config::check_look(
+    murm_config::check_look(by, table, prints, parents, codes, places)?;
+    murm_query::check_query(Query {
+        width,
+        exponent,
+        matrix,
+    })
+}
+
+// The same of arrays and an index that are lent, by their lengths.
+pub fn check_lent(table: Murm, lent: Lent<'_>, query: Query<'_>) -> Result<(), Refusal>
+    ensures { LentChecked (told_murm table) (told_lent lent.entry) (told_query query.entry) (told_check result) }
+{
+    check_find(
         lent.by,
         table,
         lent.fingerprints.len(),
         lent.parents.len(),
         lent.codes.len(),
         places_in(lent.index),
-    )?;
-    murm_query::check_query(query)
+        query.width,
+        query.exponent,
+        query.matrix,
+    )
 }
 
 // The node that answers a matrix that no row up to 11 refuses, with its list in the first places of `list`. A width

@@ -1,11 +1,13 @@
 -- A matrix copied to another array's places: it is the same matrix, and ready for a gate. Assumes nothing.
 use mathlib.Core.Path.{◌≡◌, refl, sym, ◌∙◌, subst}
+use mathlib.Core.Logic.{⊎_elim}
 use mathlib.Core.List.{List}
 use Rattle.std.specs.Prelude.{Option, Some, None}
 use Prim.Native.Nat.{ℕ, ◌+◌, ◌*◌, ◌^◌, ◌≤◌, ◌<◌}
 use native.Mathlib.Omega.{arith}
-use lib.IntN.{ℤ}
-use lib.ListN.{length}
+use lib.IntN.{ℤ, pos}
+use lib.ListN.{length, get_or, set, length-set}
+use lib.Seq.{get_or-set_same, get_or-set_other}
 use Rattle.cyclotomic.specs.Zomega.{Small}
 use Rattle.cyclotomic.proofs.Each.{each}
 use Rattle.exact.proofs.Words.{Equal, AllSmall}
@@ -20,7 +22,8 @@ use Rattle.exact.specs.Places.{entry, read, held}
 use Rattle.places.specs.Places.{places}
 use Rattle.places.specs.Held.{Holds, Ready}
 use Rattle.steps.specs.Step.{Stepped}
-use Rattle.node_matrix.specs.Matrices.{Copied, OnCopy}
+use Rattle.walk.proofs.Sequences.{lt_or}
+use Rattle.node_matrix.specs.Matrices.{Copied, CopiedOn, OnCopy}
 use Rattle.node_matrix.proofs.Prints.{fits_alike}
 
 -- ---- place by place
@@ -28,8 +31,30 @@ use Rattle.node_matrix.proofs.Prints.{fits_alike}
 pub copied_none : (from old : List ℤ) → Copied from old old 0
 copied_none from old = record { long = refl; first = λ j h. absurd (omega arith) }
 
-pub copied_to : {from old new : List ℤ} {i : ℕ} → Copied from old new i → (m : ℕ) → m ≤ i → Copied from old new m
-copied_to w m h = record { long = w.long; first = λ j l. w.first j (omega arith) }
+module _ {from old new : List ℤ} {i : ℕ} (w : Copied from old new i) where
+  -- x: the other list's place i, as the code reads it
+  pub copied_more : {x : ℤ} → i < length old → x ≡ get_or from i (pos 0) → Copied from old (set new i x) (i + 1)
+  copied_more {x} h e = record {
+    long = length-set new i x ∙ w.long;
+    first = λ j l.
+        ⊎_elim (λ (a : j < i). get_or-set_other new i j x (pos 0) (λ q. omega arith) ∙ w.first j a)
+        (λ (a : i ≤ j). let q : j ≡ i = omega arith in rw q (get_or-set_same new i x (pos 0) (omega (arith, w.long)) ∙ e))
+        (lt_or j i);
+  }
+
+  pub copied_to : (m : ℕ) → m ≤ i → Copied from old new m
+  copied_to m h = record { long = w.long; first = λ j l. w.first j (omega arith) }
+
+-- and from a start on
+pub on_none : (from old : List ℤ) (start : ℕ) → CopiedOn from old old start start
+on_none from old start = record { by = λ l w. w }
+
+pub on_more : {from old new : List ℤ} {start i : ℕ} → CopiedOn from old new start i → {x : ℤ} → i < length old → x ≡ get_or from i (pos 0)
+    → CopiedOn from old (set new i x) start (i + 1)
+on_more u h e = record { by = λ l w. copied_more (u.by l w) (omega (arith, w.long)) e }
+
+pub on_to : {from old new : List ℤ} {start i : ℕ} → CopiedOn from old new start i → (m : ℕ) → m ≤ i → CopiedOn from old new start m
+on_to u m h = record { by = λ l w. copied_to (u.by l w) m h }
 
 -- ---- the matrix
 

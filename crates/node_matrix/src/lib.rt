@@ -64,7 +64,10 @@ fn copy_block(from: &[Coefficient], to: &mut [Coefficient], start: usize, end: u
     requires room { (end ≤ length from.now) × (end ≤ length to.old) }
     ensures copied { CopiedOn from.now to.old to.new start end }
 {
-    to[start..end].copy_from_slice(&from[start..end]);
+    // A loop, and not `copy_from_slice`: compiled, that calls memmove, and archives for C need memcpy and memset alone.
+    for i in start..end {
+        to[i] = from[i];
+    }
 }
 
 // Where the block from a place on ends. A block has at most 1,024 places: longer copies take many times as long where

@@ -66,7 +66,7 @@ fn had_step<const CONTROLLED: bool>(
     if k == MOST_K {
         return None;
     }
-    if !h_rows::apply_h_left::<CONTROLLED>(m, n, control, t) {
+    if !h_rows::h_left::<CONTROLLED>(m, n, control, t) {
         return None;
     }
     Some(lowering::normalize_denominator(m, n, k + 1))

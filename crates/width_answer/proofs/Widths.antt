@@ -49,15 +49,27 @@ goes_on n x k rest (good l) h = by (rechecked n l x) h
     by false h = refl
 
 module _ (limits : WidthLimits) (part : Part) (y : ℕ) (x : Exact) where
-  -- what is left of the search after some turns, from some place on that leads to node k, finds what the whole finds
-  pub record Searching (k turns : ℕ) : Type 0 where
+  -- what is left of the search, from some place on that leads to node k, finds what the whole finds
+  pub record Searching (k left : ℕ) : Type 0 where
     pub from : ℕ
     pub looked : looked_in part from y ≡ found k
-    pub rest : find_from limits part y x (part.count - turns) from ≡ find_by limits part y x
+    pub rest : find_from limits part y x left from ≡ find_by limits part y x
 
-  pub search_start : {k : ℕ} → looked_in part 0 y ≡ found k → Searching k 0
+  pub search_start : {k : ℕ} → looked_in part 0 y ≡ found k → Searching k part.count
   unfolding find_by
-  search_start e = record { from = 0; looked = e; rest = ap (λ (m : ℕ). find_from limits part y x m 0) (sub-zero part.count) }
+  search_start e = record { from = 0; looked = e; rest = refl }
+
+  -- as many turns are left as there are nodes, less those that were made
+  abbrev pub SearchingAfter : (k turns : ℕ) → Type 0
+  SearchingAfter k turns = Searching k (part.count - turns)
+
+  pub search_begins : {k : ℕ} → Searching k part.count → SearchingAfter k 0
+  search_begins {k} s = subst (λ (m : ℕ). Searching k m) (sym (sub-zero part.count)) s
+
+  pub search_goes_on : {k : ℕ} (turns : ℕ) → Searching k (part.count - turns - 1) → SearchingAfter k (turns + 1)
+  search_goes_on {k} turns s =
+      let z : part.count - turns - 1 ≡ part.count - (turns + 1) = omega arith in
+      subst (λ (m : ℕ). Searching k m) z s
 
   -- where the look-up leads to no node, nothing more is found
   no_more : (m from : ℕ) → looked_in part from y ≡ lookup.none → none ≡ find_from limits part y x m from
@@ -71,26 +83,21 @@ module _ (limits : WidthLimits) (part : Part) (y : ℕ) (x : Exact) where
   search_miss told e list = record { is = no_more part.count 0 (sym told ∙ ap told_found e); copies = λ out. refl }
 
   -- one turn, at the node that was looked up
-  module _ {k turns : ℕ} (s : Searching k turns) where
+  module _ {k left : ℕ} (s : Searching k left) where
     pub search_below : k < part.count
     search_below = (looked_node part.by part.index part.fingerprints part.count s.from y k s.looked).below
 
     -- no turn is left
-    pub search_done : part.count ≤ turns → (list : List ℕ) → PrintFound limits part y x none list
+    pub search_done : left ≡ 0 → (list : List ℕ) → PrintFound limits part y x none list
     unfolding find_from
-    search_done e list =
-        let z : 0 ≡ part.count - turns = omega arith in
-        record { is = ap (λ (m : ℕ). find_from limits part y x m s.from) z ∙ s.rest; copies = λ out. refl }
+    search_done e list = record { is = ap (λ (m : ℕ). find_from limits part y x m s.from) (sym e) ∙ s.rest; copies = λ out. refl }
 
-    module _ (some : turns < part.count) {g : Finding} {list : List ℕ} (w : NodeFound limits.width x (chain_at limits part) k g list) where
-      abbrev left : ℕ
-      left = part.count - (turns + 1)
-
-      turned : by_lookup limits part x (λ next. find_from limits part y x left next) (found k) ≡ find_by limits part y x
+    module _ (some : 0 < left) {g : Finding} {list : List ℕ} (w : NodeFound limits.width x (chain_at limits part) k g list) where
+      turned : by_lookup limits part x (λ next. find_from limits part y x (left - 1) next) (found k) ≡ find_by limits part y x
       unfolding find_from
       turned =
-          let z : suc left ≡ part.count - turns = omega (arith, some) in
-          ap (by_lookup limits part x (λ next. find_from limits part y x left next)) (sym s.looked)
+          let z : suc (left - 1) ≡ left = omega (arith, some) in
+          ap (by_lookup limits part x (λ next. find_from limits part y x (left - 1) next)) (sym s.looked)
           ∙ ap (λ (m : ℕ). find_from limits part y x m s.from) z ∙ s.rest
 
       -- the node ends the search
@@ -109,24 +116,24 @@ module _ (limits : WidthLimits) (part : Part) (y : ℕ) (x : Exact) where
           record { is = sym e ∙ p.is; copies = λ out. refl }
 
       -- or is passed
-      passed : g ≡ none → find_from limits part y x left (k + 1) ≡ find_by limits part y x
+      passed : g ≡ none → find_from limits part y x (left - 1) (k + 1) ≡ find_by limits part y x
       passed n =
           let z : k + 1 ≡ suc k = omega arith in
-          ap (find_from limits part y x left) z
-          ∙ sym (goes_on limits.width x k (find_from limits part y x left (suc k)) (chain_at limits part k) (sym w.is ∙ n)) ∙ turned
+          ap (find_from limits part y x (left - 1)) z
+          ∙ sym (goes_on limits.width x k (find_from limits part y x (left - 1) (suc k)) (chain_at limits part k) (sym w.is ∙ n)) ∙ turned
 
       -- and the look-up past it tells the next node, or that there is none
       module _ (n : g ≡ none) {r : Option ℕ} (told : told_found r ≡ looked_in part (k + 1) y) where
         pub search_none : r ≡ None → (after : List ℕ) → PrintFound limits part y x none after
-        search_none e after = record { is = no_more left (k + 1) (sym told ∙ ap told_found e) ∙ passed n; copies = λ out. refl }
+        search_none e after = record { is = no_more (left - 1) (k + 1) (sym told ∙ ap told_found e) ∙ passed n; copies = λ out. refl }
 
-        pub search_on : {j : ℕ} → r ≡ Some j → Searching j (turns + 1)
+        pub search_on : {j : ℕ} → r ≡ Some j → Searching j (left - 1)
         search_on e = record { from = k + 1; looked = sym told ∙ ap told_found e; rest = passed n }
 
 -- by the case that the answer is
-pub as_told : {n : ℕ} {x : Exact} {chain : ℕ → Chain} {k : ℕ} {list : List ℕ} {o p : Option (ℕ × ℕ)} → o ≡ p → NodeFound n x chain k (told_find (Ok o)) list
-    → NodeFound n x chain k (told_find (Ok p)) list
-as_told {n} {x} {chain} {k} {list} e w = subst (λ (f : Option (ℕ × ℕ)). NodeFound n x chain k (told_find (Ok f)) list) e w
+pub as_told : {n : ℕ} {x : Exact} {chain : ℕ → Chain} {k : ℕ} {list : List ℕ} {r s : Result (Option (ℕ × ℕ)) BadChain} → r ≡ s → NodeFound n x chain k (told_find r) list
+    → NodeFound n x chain k (told_find s) list
+as_told {n} {x} {chain} {k} {list} e w = subst (λ (f : Result (Option (ℕ × ℕ)) BadChain). NodeFound n x chain k (told_find f) list) e w
 
 -- by the matrix's own fingerprint
 pub own_print : (limits : WidthLimits) (part : Part) (x : Exact) {y : ℕ} → y ≡ fingerprint limits.width x → {g : Finding} {list : List ℕ}

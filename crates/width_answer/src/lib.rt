@@ -45,7 +45,7 @@ pub fn find_at(
 {
     let mut at = node;
     for _turn in 0..part.count {
-        if let Some(found) = node_answer::find_node(
+        match node_answer::find_node(
             limits,
             at,
             exponent,
@@ -54,8 +54,10 @@ pub fn find_at(
             query,
             list,
             scratch,
-        )? {
-            return Ok(Some(found)); // nothing past it is looked at, nor past a bad chain
+        ) {
+            Ok(Some(found)) => return Ok(Some(found)),
+            Ok(None) => {}
+            Err(chain) => return Err(chain), // nothing past it is looked at
         }
         let Some(next) = part.look_up(at + 1, print) else {
             return Ok(None); // none is left

@@ -77,12 +77,16 @@ module _ (mode : Mode) (by : By) (lim : WidthLimits) (f0 u0 c0 i0 : List ℕ) (g
         → Whole by lim goal f0 u0 c0 i0 f' u' c' i' (row count' d' b)
     whole {t} e {f'} {u'} {c'} {i'} {count'} {d'} {b} w p q = subst (λ (z : Build). Whole by lim z f0 u0 c0 i0 f' u' c' i' (row count' d' b)) e (record { columns = w; depth_is = p; full_is = q })
 
-    pub depth_run_end : d ≡ G → Whole by lim goal f0 u0 c0 i0 f u c i (row count G false)
+    pub depth_run_end : G ≤ d → Whole by lim goal f0 u0 c0 i0 f u c i (row count d false)
     unfolding depths
     depth_run_end l =
         let z : 0 ≡ G - d = omega arith in
         let e : between r.ns lo d ≡ goal = ap (depths R E (between r.ns lo d)) z ∙ r.rest in
-        whole {t = between r.ns lo d} e r.columns (sym l) refl
+        whole {t = between r.ns lo d} e r.columns refl refl
+
+    -- where the loop ends, at the last depth
+    pub depth_run_last : d ≡ G → Whole by lim goal f0 u0 c0 i0 f u c i (row count G false)
+    depth_run_last l = subst (λ (z : ℕ). Whole by lim goal f0 u0 c0 i0 f u c i (row count z false)) l (depth_run_end (omega arith))
 
     module _ (l : d < G) {f' u' c' i' : List ℕ} {count' : ℕ} {b : Bool} (a : After by lim f0 u0 c0 i0 (layer R E (unsaturated r.ns) lo (count - lo)) f' u' c' i' count' b) where
       abbrev next : State

@@ -4,7 +4,7 @@ use Prim.Native.Nat.{ℕ, ◌*◌, ◌≤◌}
 use native.Mathlib.Omega.{arith}
 use Rattle.places.specs.Places.{places}
 use Rattle.places.proofs.Placed.{area_le}
-use Rattle.identity.proofs.Filling.{cleared_zero, cleared_kept}
+use Rattle.identity.proofs.Filling.{filled_zero, filled_kept}
 use Rattle.identity.proofs.clear.Goals as goal
 
 -- the matrix's places are there
@@ -14,9 +14,9 @@ slice_bounds-fill-end c = omega (arith, c.area-size.ensures, area_le _ c.require
 pub returns-clause-zero : goal.returns-clause-zero
 returns-clause-zero c =
     let b : 4 * c.area-size.result ≤ places = omega (arith, c.area-size.ensures, area_le _ c.requires.n_bound) in
-    cleared_zero _ _ _ c.told-m b (ap (λ (a : ℕ). 4 * a) c.area-size.ensures) (c.fill.ensures.after (λ y e. e))
+    filled_zero _ _ _ c.told-m b (ap (λ (a : ℕ). 4 * a) c.area-size.ensures) (c.fill.ensures.after (λ y e. e))
 
 pub returns-clause-kept : goal.returns-clause-kept
 returns-clause-kept c =
     let b : 4 * c.area-size.result ≤ places = omega (arith, c.area-size.ensures, area_le _ c.requires.n_bound) in
-    cleared_kept _ _ _ c.told-m b (ap (λ (a : ℕ). 4 * a) c.area-size.ensures) (c.fill.ensures.after (λ y e. e))
+    filled_kept _ _ _ c.told-m b (ap (λ (a : ℕ). 4 * a) c.area-size.ensures) (c.fill.ensures.after (λ y e. e))

@@ -8,14 +8,14 @@ use Rattle.matrix.proofs.ByKind.{is_found, coded, coded_proper}
 use Rattle.matrix.proofs.apply_gate_left.Goals as goal
 
 pub unwrap-kind-requires : goal.unwrap-kind-requires
-unwrap-kind-requires c = is_found c.kind.result (ap is_kind c.kind.ensures ∙ valid_kind_lem _ _ c.requires.gate_value)
+unwrap-kind-requires c = is_found c.gate_kind.result (ap is_kind c.gate_kind.ensures ∙ valid_kind_lem _ _ c.requires.gate_value)
 
 pub kind_step-requires-clause-proper : goal.kind_step-requires-clause-proper
 kind_step-requires-clause-proper c =
-    let e : told_kind c.unwrap-kind.result ≡ kind_of c.args.gate.0 = ap told_found (sym c.unwrap-kind.ensures) ∙ c.kind.ensures in
+    let e : told_kind c.unwrap-kind.result ≡ kind_of c.args.gate.0 = ap told_found (sym c.unwrap-kind.ensures) ∙ c.gate_kind.ensures in
     rw (e, c.first.ensures, c.second.ensures, c.third.ensures) (coded_proper _ _ c.requires.gate_value)
 
 pub returns : goal.returns
 returns c =
-    let e : told_kind c.unwrap-kind.result ≡ kind_of c.args.gate.0 = ap told_found (sym c.unwrap-kind.ensures) ∙ c.kind.ensures in
+    let e : told_kind c.unwrap-kind.result ≡ kind_of c.args.gate.0 = ap told_found (sym c.unwrap-kind.ensures) ∙ c.gate_kind.ensures in
     rw (coded _ _ c.requires.gate_value) (rw (e, c.first.ensures, c.second.ensures, c.third.ensures) at c.kind_step.ensures)

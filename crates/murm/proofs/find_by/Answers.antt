@@ -17,7 +17,7 @@ find_passed-requires-clause-table_value c =
     let t = told_murm s.table in
     let m = arrays_by (told_by s.by) s.fingerprints.now s.parents.now s.codes.now s.index.now in
     let q = query s.width s.exponent s.matrix.now in
-    (may_search t m q c.in_ok-check_find.ensures).0
+    (may_search t m q c.in_ok-check_lent.ensures).0
 
 pub find_passed-requires-clause-codes_value : goal.find_passed-requires-clause-codes_value
 find_passed-requires-clause-codes_value c =
@@ -25,7 +25,7 @@ find_passed-requires-clause-codes_value c =
     let t = told_murm s.table in
     let m = arrays_by (told_by s.by) s.fingerprints.now s.parents.now s.codes.now s.index.now in
     let q = query s.width s.exponent s.matrix.now in
-    (may_search t m q c.in_ok-check_find.ensures).1.0
+    (may_search t m q c.in_ok-check_lent.ensures).1.0
 
 pub find_passed-requires-clause-matrix_value : goal.find_passed-requires-clause-matrix_value
 find_passed-requires-clause-matrix_value c =
@@ -33,17 +33,17 @@ find_passed-requires-clause-matrix_value c =
     let t = told_murm s.table in
     let m = arrays_by (told_by s.by) s.fingerprints.now s.parents.now s.codes.now s.index.now in
     let q = query s.width s.exponent s.matrix.now in
-    (may_search t m q c.in_ok-check_find.ensures).1.1
+    (may_search t m q c.in_ok-check_lent.ensures).1.1
 
-pub returns-in_err-check_find : goal.returns-in_err-check_find
-returns-in_err-check_find c =
+pub returns-in_err-check_lent : goal.returns-in_err-check_lent
+returns-in_err-check_lent c =
     let s = c.args in
     let m = arrays_by (told_by s.by) s.fingerprints.now s.parents.now s.codes.now s.index.now in
     let p = err_from_is_err_and c.from_residual.result c.from_residual.ensures.1 in
-    rw (p.1, p.2) (refused_find (told_murm s.table) m (query s.width s.exponent s.matrix.now) (refused c.in_err-check_find.ensures.told))
+    rw (p.1, p.2) (refused_find (told_murm s.table) m (query s.width s.exponent s.matrix.now) (refused c.in_err-check_lent.ensures.told))
 
 pub returns : goal.returns
 returns c =
     let s = c.args in
     let m = arrays_by (told_by s.by) s.fingerprints.now s.parents.now s.codes.now s.index.now in
-    c.find_passed.ensures ∙ sym (find_passed (told_murm s.table) m (query s.width s.exponent s.matrix.now) (passed c.in_ok-check_find.ensures.told))
+    c.find_passed.ensures ∙ sym (find_passed (told_murm s.table) m (query s.width s.exponent s.matrix.now) (passed c.in_ok-check_lent.ensures.told))

@@ -6,10 +6,10 @@ use Rattle.exact.specs.Places.{held}
 use Rattle.places.specs.Held.{Holds}
 use Rattle.synthesis_arena.specs.Limits.{told_limits}
 use Rattle.index.specs.Told.{told_part}
-use Rattle.width_answer.proofs.Widths.{Searching}
+use Rattle.width_answer.proofs.Widths.{SearchingAfter}
 use Rattle.width_answer.proofs.find_at.Given as goal
 
 abbrev pub invariant-loop-turn : goal.invariant-loop-turn
 invariant-loop-turn l =
-    Searching (told_limits l.limits) (told_part l.part) l.print (held l.limits.width l.exponent l.query) l.at l._turn × (length l.list ≡ length l.initial.list)
+    SearchingAfter (told_limits l.limits) (told_part l.part) l.print (held l.limits.width l.exponent l.query) l.at l._turn × (length l.list ≡ length l.initial.list)
     × Holds l.limits.width 0 l.scratch identity

@@ -2,7 +2,7 @@
 -- what all give. Assumes nothing.
 use mathlib.Core.Path.{refl, ◌∙◌}
 use native.Mathlib.Omega.{arith}
-use Rattle.width_depths.proofs.DepthLoop.{depth_run_start, depth_run_live, depth_run_next, depth_run_none, depth_run_full, depth_run_end}
+use Rattle.width_depths.proofs.DepthLoop.{depth_run_start, depth_run_live, depth_run_next, depth_run_none, depth_run_full, depth_run_last}
 use Rattle.width_depths.proofs.deepen_all.Goals as goal
 
 pub loop-d-init : goal.loop-d-init
@@ -49,5 +49,5 @@ loop-d-preserved c =
 
 pub returns : goal.returns
 returns c = record {
-  deepened = λ h. depth_run_end _ _ _ _ _ _ _ _ (c.loop-d.invariant.0 h) (omega arith);
+  deepened = λ h. depth_run_last _ _ _ _ _ _ _ _ (c.loop-d.invariant.0 h) (omega arith);
 }

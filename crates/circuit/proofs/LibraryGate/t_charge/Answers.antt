@@ -5,4 +5,4 @@ use Rattle.kinds.proofs.Told.{charge_found}
 use Rattle.circuit.proofs.LibraryGate.t_charge.Goals as goal
 
 pub returns : goal.returns
-returns c = charge_found c.kind.result c.map_or.result c.map_or.ensures ∙ ap kind_charge c.kind.ensures
+returns c = charge_found c.gate_kind.result c.map_or.result c.map_or.ensures ∙ ap kind_charge c.gate_kind.ensures

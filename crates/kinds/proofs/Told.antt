@@ -1,12 +1,14 @@
 -- The code's kinds are the seventeen. Assumes nothing.
-use mathlib.Core.Path.{◌≡◌, refl, ap}
+use mathlib.Core.Path.{◌≡◌, refl, sym, ap}
 use mathlib.Core.Bool.{true}
 use Prim.Native.Nat.{ℕ}
 use lib.Dec.{ltb}
+use lib.ListN.{get_or, get_or-map}
 use Rattle.std.specs.Prelude.{Option, Some, None, MatchOption}
 use Rattle.ints.specs.Lists.{all, range}
 use Rattle.kinds.specs.declared.GateKind.{GateKind}
 use Rattle.kinds.specs.declared.GateKind.TheVariants as code
+use Rattle.kinds.specs.declared.TheConstants.{BY_NUMBER}
 use Rattle.kinds.specs.Kinds.{Kind, kind_at, number, is_kind, of_tables, dual, kind_charge}
 use Rattle.kinds.specs.Told.{told_kind, told_found}
 use Rattle.kinds.proofs.ByNumber.{every_kind_lem, told_alike, alike}
@@ -31,6 +33,11 @@ told_is code.Swap = refl
 told_is code.Cy = refl
 told_is code.Ch = refl
 told_is code.Cswap = refl
+
+-- the code's list of them is the definition's
+pub by_number : (k : ℕ) → told_found (get_or BY_NUMBER k None) ≡ kind_at k
+unfolding kind_at
+by_number k = sym (get_or-map told_found BY_NUMBER k None)
 
 -- the kinds of tables are those with a number below 12
 pub tables_below : (k : GateKind) → of_tables (told_kind k) ≡ ltb (number (told_kind k)) 12

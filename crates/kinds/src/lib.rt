@@ -30,6 +30,38 @@ pub enum GateKind {
     Cswap = 26,
 }
 
+// The kind of each number, none where the number is not taken. A number is looked up here, with no branch, since each
+// gate of a chain is asked.
+static BY_NUMBER: [Option<GateKind>; 27] = [
+    Some(GateKind::H),
+    Some(GateKind::X),
+    Some(GateKind::Z),
+    Some(GateKind::S),
+    Some(GateKind::Sdg),
+    Some(GateKind::T),
+    Some(GateKind::Tdg),
+    None, // 7, Rz
+    Some(GateKind::Cx),
+    Some(GateKind::Cz),
+    Some(GateKind::Ccx),
+    Some(GateKind::Ccz),
+    None,
+    None,
+    None,
+    Some(GateKind::Y),
+    Some(GateKind::Sx),
+    None,
+    None,
+    Some(GateKind::Swap),
+    Some(GateKind::Cy),
+    None,
+    None,
+    None,
+    None,
+    Some(GateKind::Ch),
+    Some(GateKind::Cswap),
+];
+
 // A number that no kind has.
 #[derive(Clone, Copy, PartialEq, Eq)]
 pub struct UnknownKind(pub u32);
@@ -39,27 +71,13 @@ impl TryFrom<u32> for GateKind {
 
     ghost try_from_gives = { Tried };
 
-    #[tactic(auto, unfolding(crate::specs::Kinds::kind_at))]
     fn try_from(number: u32) -> Result<Self, UnknownKind> {
-        match number {
-            0 => Ok(GateKind::H),
-            1 => Ok(GateKind::X),
-            2 => Ok(GateKind::Z),
-            3 => Ok(GateKind::S),
-            4 => Ok(GateKind::Sdg),
-            5 => Ok(GateKind::T),
-            6 => Ok(GateKind::Tdg),
-            8 => Ok(GateKind::Cx),
-            9 => Ok(GateKind::Cz),
-            10 => Ok(GateKind::Ccx),
-            11 => Ok(GateKind::Ccz),
-            15 => Ok(GateKind::Y),
-            16 => Ok(GateKind::Sx),
-            19 => Ok(GateKind::Swap),
-            20 => Ok(GateKind::Cy),
-            25 => Ok(GateKind::Ch),
-            26 => Ok(GateKind::Cswap),
-            _ => Err(UnknownKind(number)),
+        if number as usize >= BY_NUMBER.len() {
+            return Err(UnknownKind(number));
+        }
+        match BY_NUMBER[number as usize] {
+            Some(kind) => Ok(kind),
+            None => Err(UnknownKind(number)),
         }
     }
 }

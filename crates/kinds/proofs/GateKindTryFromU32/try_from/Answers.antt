@@ -1,12 +1,16 @@
--- `try_from` meets its contract: the number that the arms leave is that of no kind. Assumes nothing.
+-- `try_from` meets its contract: the constant has the kind of each number. Assumes nothing.
 use native.Mathlib.Omega.{arith}
-use mathlib.Core.Path.{refl}
-use Rattle.kinds.proofs.ByNumber.{no_kind}
+use mathlib.Core.Path.{refl, sym, ap, ◌∙◌}
+use Rattle.kinds.specs.Told.{told_found}
+use Rattle.kinds.proofs.ByNumber.{kind_past}
+use Rattle.kinds.proofs.Told.{by_number}
 use Rattle.kinds.proofs.GateKindTryFromU32.try_from.Goals as goal
 
-pub returns-in_default : goal.returns-in_default
-returns-in_default c = (
-  refl,
-  no_kind c.args.number
-      (λ e. omega arith) (λ e. omega arith) (λ e. omega arith) (λ e. omega arith) (λ e. omega arith) (λ e. omega arith) (λ e. omega arith) (λ e. omega arith) (λ e. omega arith) (λ e. omega arith) (λ e. omega arith) (λ e. omega arith) (λ e. omega arith) (λ e. omega arith) (λ e. omega arith) (λ e. omega arith) (λ e. omega arith),
-)
+pub returns-then-number-ge27 : goal.returns-then-number-ge27
+returns-then-number-ge27 c = (refl, kind_past c.args.number (omega arith))
+
+pub returns-in-Some : goal.returns-in-Some
+returns-in-Some c = sym (ap told_found c.in-Some.is) ∙ by_number c.args.number
+
+pub returns-in-None : goal.returns-in-None
+returns-in-None c = (refl, sym (by_number c.args.number) ∙ ap told_found c.in-None.is)

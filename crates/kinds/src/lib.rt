@@ -30,8 +30,8 @@ pub enum GateKind {
     Cswap = 26,
 }
 
-// The kind of each number, none where the number is not taken. A number is looked up here, with no branch, since each
-// gate of a chain is asked.
+// The kind of each number, none where the number is not taken. A list and no `match`, which would be compiled as a jump
+// by the number, and each gate of a chain is asked; a static, as a const is copied to the stack at each call.
 static BY_NUMBER: [Option<GateKind>; 27] = [
     Some(GateKind::H),
     Some(GateKind::X),

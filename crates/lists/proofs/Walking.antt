@@ -55,42 +55,46 @@ pub record Walking (n : ℕ) (codes : List ℕ) (i k : ℕ) (l : List ℤ) : Typ
   pub ahead : steps n codes ≡ later i (steps_from n (held n k l) (drop i codes))
   pub so_far : Equal n (held n k l) (product n (take i codes))
 
-module _ (n : ℕ) (codes : List ℕ) where
-  pub walked_holds : {i k : ℕ} {l : List ℤ} → Walking n codes i k l → HoldsProduct n (take i codes) l
-  walked_holds w = record { long = w.ready.long; equal = record { exponent = refl; entries = w.so_far.entries }; small = w.ready.small }
+-- the same without a bound on i
+pub record WalkingAfter (n : ℕ) (codes : List ℕ) (i k : ℕ) (l : List ℤ) : Type 0 where
+  pub ready : Ready n k l
+  pub ahead : steps n codes ≡ later i (steps_from n (held n k l) (drop i codes))
+  pub so_far : Equal n (held n k l) (product n (take i codes))
 
-  pub walking_first : (l : List ℤ) → Holds n 0 l identity → Walking n codes 0 0 l
+module _ (n : ℕ) (codes : List ℕ) where
+  pub after_holds : {i k : ℕ} {l : List ℤ} → WalkingAfter n codes i k l → HoldsProduct n (take i codes) l
+  after_holds w = record { long = w.ready.long; equal = record { exponent = refl; entries = w.so_far.entries }; small = w.ready.small }
+
+  pub after_first : (l : List ℤ) → Holds n 0 l identity → WalkingAfter n codes 0 0 l
   unfolding steps product
-  walking_first l w = record {
-    within = omega arith;
+  after_first l w = record {
     ready = record { long = w.long; small = w.small; lowest = record { lowest = λ h. absurd (omega arith) } };
     ahead = steps_equal n codes (equal_sym n w.equal);
     so_far = w.equal;
   }
 
-  module _ {i k : ℕ} {l : List ℤ} (w : Walking n codes i k l) (h : i < length codes) where
+  module _ {i k : ℕ} {l : List ℤ} (w : WalkingAfter n codes i k l) (h : i < length codes) where
     abbrev code : ℕ
     code = get_or codes i 0
 
     ahead_here : steps n codes ≡ later i (steps_from n (held n k l) (code ∷ drop (suc i) codes))
     ahead_here = w.ahead ∙ ap (λ (z : List ℕ). later i (steps_from n (held n k l) z)) (drop-cons codes i 0 h)
 
-    pub walking_more : {j : ℕ} (l' : List ℤ) → Stepped n k (gate_of n code) l l' (Some j) → Walking n codes (i + 1) j l'
-    walking_more {j} l' s =
+    pub after_more : {j : ℕ} (l' : List ℤ) → Stepped n k (gate_of n code) l l' (Some j) → WalkingAfter n codes (i + 1) j l'
+    after_more {j} l' s =
         let fit = step_given n (gate_of n code) (held n k l) s.answer in
         let held' = s.left in
         let one : suc i ≡ i + 1 = omega arith in
-        subst (λ (z : ℕ). Walking n codes z j l') one
+        subst (λ (z : ℕ). WalkingAfter n codes z j l') one
         (record {
-          within = h;
           ready = ready_next s;
           ahead = ahead_here ∙ ap (λ b. later i (pick b (next (steps_from n (act n (gate_of n code) (held n k l)) (drop (suc i) codes))) (unfit_at 0))) fit
               ∙ ap (λ (z : Steps). later i (next z)) (steps_equal n (drop (suc i) codes) (equal_sym n held'.equal));
           so_far = rw (take-suc codes i 0 h, product_snoc n) (equal_trans n held'.equal (act_equal' n (gate_of n code) w.so_far (proper n code)));
         })
 
-    pub walking_unfit : (l' : List ℤ) → Stepped n k (gate_of n code) l l' None → Ended n codes l' (Err i)
-    walking_unfit l' s = record {
+    pub after_unfit : (l' : List ℤ) → Stepped n k (gate_of n code) l l' None → Ended n codes l' (Err i)
+    after_unfit l' s = record {
       answer =
           refused_list n codes
           (ahead_here
@@ -103,12 +107,35 @@ module _ (n : ℕ) (codes : List ℕ) where
       };
     }
 
-  pub walking_end : {i k : ℕ} {l : List ℤ} → Walking n codes i k l → length codes ≤ i → Ended n codes l (Ok k)
-  walking_end {i} {k} {l} w h =
+  pub after_end : {i k : ℕ} {l : List ℤ} → WalkingAfter n codes i k l → length codes ≤ i → Ended n codes l (Ok k)
+  after_end {i} {k} {l} w h =
       let all = take_all i codes h in
       record {
         answer =
             given_list n codes (w.ahead ∙ ap (λ (z : List ℕ). later i (steps_from n (held n k l) z)) (drop_of_length-le codes {i = i} h) ∙ later_fit i)
             (w.so_far.exponent ∙ ap (λ (z : List ℕ). (product n z).k) all);
-        end = rw all at (walked_holds w);
+        end = rw all at (after_holds w);
       }
+
+  -- with the bound
+  pub walking_after : {i k : ℕ} {l : List ℤ} → Walking n codes i k l → WalkingAfter n codes i k l
+  walking_after w = record { ready = w.ready; ahead = w.ahead; so_far = w.so_far }
+
+  pub walking_within : {i k : ℕ} {l : List ℤ} → WalkingAfter n codes i k l → i ≤ length codes → Walking n codes i k l
+  walking_within w h = record { within = h; ready = w.ready; ahead = w.ahead; so_far = w.so_far }
+
+  pub walked_holds : {i k : ℕ} {l : List ℤ} → Walking n codes i k l → HoldsProduct n (take i codes) l
+  walked_holds w = after_holds (walking_after w)
+
+  pub walking_first : (l : List ℤ) → Holds n 0 l identity → Walking n codes 0 0 l
+  walking_first l w = walking_within (after_first l w) (omega arith)
+
+  module _ {i k : ℕ} {l : List ℤ} (w : Walking n codes i k l) (h : i < length codes) where
+    pub walking_more : {j : ℕ} (l' : List ℤ) → Stepped n k (gate_of n (get_or codes i 0)) l l' (Some j) → Walking n codes (i + 1) j l'
+    walking_more l' s = walking_within (after_more (walking_after w) h l' s) (omega arith)
+
+    pub walking_unfit : (l' : List ℤ) → Stepped n k (gate_of n (get_or codes i 0)) l l' None → Ended n codes l' (Err i)
+    walking_unfit l' s = after_unfit (walking_after w) h l' s
+
+  pub walking_end : {i k : ℕ} {l : List ℤ} → Walking n codes i k l → length codes ≤ i → Ended n codes l (Ok k)
+  walking_end w h = after_end (walking_after w) h

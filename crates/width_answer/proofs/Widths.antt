@@ -66,6 +66,9 @@ module _ (limits : WidthLimits) (part : Part) (y : ℕ) (x : Exact) where
   pub search_begins : {k : ℕ} → Searching k part.count → SearchingAfter k 0
   search_begins {k} s = subst (λ (m : ℕ). Searching k m) (sym (sub-zero part.count)) s
 
+  pub after_start : {k : ℕ} → looked_in part 0 y ≡ found k → SearchingAfter k 0
+  after_start e = search_begins (search_start e)
+
   pub search_goes_on : {k : ℕ} (turns : ℕ) → Searching k (part.count - turns - 1) → SearchingAfter k (turns + 1)
   search_goes_on {k} turns s =
       let z : part.count - turns - 1 ≡ part.count - (turns + 1) = omega arith in
@@ -129,6 +132,25 @@ module _ (limits : WidthLimits) (part : Part) (y : ℕ) (x : Exact) where
 
         pub search_on : {j : ℕ} → r ≡ Some j → Searching j (left - 1)
         search_on e = record { from = k + 1; looked = sym told ∙ ap told_found e; rest = passed n }
+
+  -- the same where turns are counted that were made
+  module _ {k turns : ℕ} (s : SearchingAfter k turns) where
+    pub after_done : part.count ≤ turns → (list : List ℕ) → PrintFound limits part y x none list
+    after_done e list = search_done s (omega arith) list
+
+    module _ (some : turns < part.count) {g : Finding} {list : List ℕ} (w : NodeFound limits.width x (chain_at limits part) k g list) where
+      pub after_ends : is_none g ≡ false → PrintFound limits part y x g list
+      after_ends n = search_ends s (omega arith) w n
+
+      pub after_err : g ≡ refused 13 0 → (r : Result (Option (ℕ × ℕ)) BadChain) → IsErr r → PrintFound limits part y x (told_find r) list
+      after_err e r h = search_err s (omega arith) w e r h
+
+      module _ (n : g ≡ none) {r : Option ℕ} (told : told_found r ≡ looked_in part (k + 1) y) where
+        pub after_none : r ≡ None → (after : List ℕ) → PrintFound limits part y x none after
+        after_none e after = search_none s (omega arith) w n told e after
+
+        pub after_on : {j : ℕ} → r ≡ Some j → SearchingAfter j (turns + 1)
+        after_on e = search_goes_on turns (search_on s (omega arith) w n told e)
 
 -- by the case that the answer is
 pub as_told : {n : ℕ} {x : Exact} {chain : ℕ → Chain} {k : ℕ} {list : List ℕ} {r s : Result (Option (ℕ × ℕ)) BadChain} → r ≡ s → NodeFound n x chain k (told_find r) list

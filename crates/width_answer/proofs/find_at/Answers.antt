@@ -2,11 +2,11 @@
 use mathlib.Core.Path.{refl, ap}
 use Rattle.std.proofs.Common.{arith, rules}
 use Rattle.std.specs.Prelude.{Ok}
-use Rattle.width_answer.proofs.Widths.{as_told, search_start, search_begins, search_done, search_none, search_below, search_ends, search_on, search_goes_on}
+use Rattle.width_answer.proofs.Widths.{as_told, search_below, after_start, after_done, after_none, after_ends, after_on}
 use Rattle.width_answer.proofs.find_at.Goals as goal
 
 pub loop-turn-init : goal.loop-turn-init
-loop-turn-init c = (search_begins _ _ _ _ (search_start _ _ _ _ c.requires.print_value), refl, c.requires.holds)
+loop-turn-init c = (after_start _ _ _ _ c.requires.print_value, refl, c.requires.holds)
 
 pub find_node-requires-clause-node_in_bounds : goal.find_node-requires-clause-node_in_bounds
 find_node-requires-clause-node_in_bounds c =
@@ -20,26 +20,25 @@ overflow_add-at c =
     omega (arith, b, c.requires.count_in_bounds.0, c.ranges.part.0)
 
 pub returns-in-Ok-Some : goal.returns-in-Ok-Some
-returns-in-Ok-Some c = record { found = search_ends _ _ _ _ c.loop-turn.invariant.0 (omega (arith, c.loop-turn-test.true)) (as_told (ap Ok c.in-Ok-Some.field-0-is) c.in-Ok-Some.ensures.is) refl }
+returns-in-Ok-Some c = record { found = after_ends _ _ _ _ c.loop-turn.invariant.0 (omega (arith, c.loop-turn-test.true)) (as_told (ap Ok c.in-Ok-Some.field-0-is) c.in-Ok-Some.ensures.is) refl }
 
 pub returns-in-Err : goal.returns-in-Err
-returns-in-Err c = record { found = search_ends _ _ _ _ c.loop-turn.invariant.0 (omega (arith, c.loop-turn-test.true)) c.in-Err.ensures.is refl }
+returns-in-Err c = record { found = after_ends _ _ _ _ c.loop-turn.invariant.0 (omega (arith, c.loop-turn-test.true)) c.in-Err.ensures.is refl }
 
 pub returns-in_default : goal.returns-in_default
 returns-in_default c =
     record {
-      found = search_none _ _ _ _ c.loop-turn.invariant.0 (omega (arith, c.loop-turn-test.true)) (as_told (ap Ok c.in-Ok-None.field-0-is) c.in-Ok-None.ensures.is) refl c.look_up.ensures.looked_up
+      found = after_none _ _ _ _ c.loop-turn.invariant.0 (omega (arith, c.loop-turn-test.true)) (as_told (ap Ok c.in-Ok-None.field-0-is) c.in-Ok-None.ensures.is) refl c.look_up.ensures.looked_up
           c.in_default.is _;
     }
 
 pub loop-turn-preserved : goal.loop-turn-preserved
 loop-turn-preserved c = (
-  search_goes_on _ _ _ _ _
-      (search_on _ _ _ _ c.loop-turn.invariant.0 (omega (arith, c.loop-turn-test.true)) (as_told (ap Ok c.in-Ok-None.field-0-is) c.in-Ok-None.ensures.is) refl c.look_up.ensures.looked_up
-      c.in-Some.is),
+  after_on _ _ _ _ c.loop-turn.invariant.0 (omega (arith, c.loop-turn-test.true)) (as_told (ap Ok c.in-Ok-None.field-0-is) c.in-Ok-None.ensures.is) refl c.look_up.ensures.looked_up
+      c.in-Some.is,
   search rules,
   c.set_identity.ensures.identity,
 )
 
 pub returns : goal.returns
-returns c = record { found = search_done _ _ _ _ c.loop-turn.invariant.0 (omega (arith, c.loop-turn-test.false)) _ }
+returns c = record { found = after_done _ _ _ _ c.loop-turn.invariant.0 (omega (arith, c.loop-turn-test.false)) _ }
